@@ -46,11 +46,12 @@ class Bytes:
 
 
 def superblock(sector, slot, total):
-    """(generation, first sector, bytes) of the catalogue, or None where the sector is no valid superblock of its slot."""
+    """(generation, first sector, bytes) of the catalogue and the layout, or 0 where the file has another length. None where the sector is
+    no valid superblock of its slot."""
     name, layout, sectors, generation, first, size = struct.unpack_from("<8sIIQII", sector)
     proper = (name == b"SSBCUBE1" and layout in (1, 2) and sectors >= 64 and generation >= 1 and generation % 2 == slot
               and first >= 2 and 12 <= size <= 1 << 27 and first + -(-size // SECTOR) <= sectors and not any(sector[32:]))
-    return (generation, first, size, layout == 1 and sectors == total) if proper else None
+    return (generation, first, size, layout if sectors == total else 0) if proper else None
 
 
 class Device:
@@ -65,9 +66,9 @@ class Device:
         found = [superblock(self.extent(slot, SECTOR), slot, self.sectors) for slot in (0, 1)]
         if found == [None, None]:
             raise BadLayout("no valid superblock")
-        self.generation, self.first, self.size, readable = max(block for block in found if block)
-        if not readable:
-            raise BadLayout("another layout, or a file of another length")
+        self.generation, self.first, self.size, self.layout = max(block for block in found if block)
+        if not self.layout:
+            raise BadLayout("a file of another length")
         self.read_catalogue(Bytes(self.extent(self.first, self.size)))
 
     def extent(self, first, size):
@@ -80,6 +81,8 @@ class Device:
         self.objects = {number: (first, size) for number, first, size in (data.take("IIQ") for _ in range(entries))}
         self.root = Bytes(data.take("%ds" % root)[0])
         data.end()
+        if (5 in self.objects) != (self.layout == 2):
+            raise BadLayout("ship modes are an object of layout 2 alone")
         batches, self.target, self.additions, cuboids = self.root.take("IIII")
         self.totals = self.root.take("6Q")
         self.batch_rows = self.root.take("%dI" % batches)
@@ -91,7 +94,7 @@ class Device:
 
     def map(self):
         """(first sector, sectors, what) of all that is in use, by place."""
-        names = {1: "customers", 2: "suppliers", 3: "parts", 4: "dates"}
+        names = {1: "customers", 2: "suppliers", 3: "parts", 4: "dates", 5: "ship modes"}
         used = [(0, 1, "superblock slot 0"), (1, 1, "superblock slot 1"), (self.first, -(-self.size // SECTOR), "catalogue")]
         for number, (first, size) in self.objects.items():
             view, run = divmod(number - 131072, 16)

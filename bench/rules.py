@@ -188,10 +188,10 @@ class Image:
         found = [superblock(disk[slot * SECTOR:(slot + 1) * SECTOR], slot, 64) for slot in (0, 1)]
         if found == [None, None]:
             raise LookupError("NotFormatted")
-        self.generation, first, size, is_readable = max(block for block in found if block)
+        self.generation, first, size, layout = max(block for block in found if block)
         if struct.unpack_from("<I", disk, self.generation % 2 * SECTOR + 12) != (64,):
             raise LookupError("DeviceSize")
-        refuse(not is_readable)
+        refuse(layout != 1)
         data = Bytes(bytes(disk[first * SECTOR:first * SECTOR + size]))
         data.name(b"CAT1")
         entries, root = data.take("II")

@@ -15,7 +15,7 @@ use Rattle.cube_model.specs.declared.query.Cond.TheVariants.{OneOf, Between, Qua
 use Rattle.cube_model.specs.declared.query.Query.{Query}
 use Rattle.cube_model.specs.declared.rows.DimRows.{DimRows}
 use Rattle.cube_model.specs.declared.rows.LineOrder.{LineOrder}
-use Rattle.cube_model.specs.Admission.{all_rows, long_text, sums_cause, unknown_key}
+use Rattle.cube_model.specs.Admission.{early_refusal, all_rows, long_text, sums_cause, unknown_key}
 use Rattle.cube_model.specs.Aggregates.{aggregate}
 use Rattle.cube_model.specs.Answers.{keys_among, line_of, rows_of_key}
 use Rattle.cube_model.specs.Ascending.{ascending}
@@ -114,11 +114,12 @@ admissions_kept rows more batches number batch e =
     let gaps = cause_if (nat_lt (length batches + 1) number) Gap in
     let repeated = cause_if (nat_le number (length batches)) Repeated in
     let known = unknown_key rows 1 batch in
-    let one = both repeated (gaps ∷ counts ∷ sizes ∷ texts ∷ known ∷ sums) e in
-    let two = both gaps (counts ∷ sizes ∷ texts ∷ known ∷ sums) one.1 in
-    let three = both counts (sizes ∷ texts ∷ known ∷ sums) two.1 in
-    let four = both sizes (texts ∷ known ∷ sums) three.1 in
-    let five = both texts (known ∷ sums) four.1 in
-    let six = both known sums five.1 in
-    ap (λ cause. first_cause (repeated ∷ gaps ∷ counts ∷ sizes ∷ texts ∷ cause ∷ sums))
+    let early = both (early_refusal rows batches number batch) sums e in
+    let one = both repeated (gaps ∷ counts ∷ sizes ∷ texts ∷ known ∷ []) early.0 in
+    let two = both gaps (counts ∷ sizes ∷ texts ∷ known ∷ []) one.1 in
+    let three = both counts (sizes ∷ texts ∷ known ∷ []) two.1 in
+    let four = both sizes (texts ∷ known ∷ []) three.1 in
+    let five = both texts (known ∷ []) four.1 in
+    let six = both known [] five.1 in
+    ap (λ cause. first_cause (first_cause (repeated ∷ gaps ∷ counts ∷ sizes ∷ texts ∷ cause ∷ []) ∷ sums))
     (unknown_kept rows more 1 batch (all_known rows 1 batch six.0)) ∙ e

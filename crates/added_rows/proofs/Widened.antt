@@ -15,8 +15,8 @@ use Rattle.warehouse_root.specs.Layouts.{number_of}
 use Rattle.warehouse_root.specs.Objects.{run_id, segment_id}
 use Rattle.warehouse_root.specs.Root as roots
 use Rattle.warehouse_objects.specs.Represents.{HasRows, HoldsGroupings, dimension_of, object_of, root_of, rows_in}
-use Rattle.warehouse_objects.specs.Represents.{run_after, segment_after}
-use Rattle.warehouse_objects.specs.Warehouse.{AreInOrder, Cuboid, Warehouse, fresh, modes_of}
+use Rattle.warehouse_objects.specs.Represents.{modes_object, run_after, segment_after}
+use Rattle.warehouse_objects.specs.Warehouse.{AreInOrder, Cuboid, Warehouse, fresh, modes_of, ship_modes_of}
 use Rattle.warehouse_objects.proofs.CallerLemmas.{root_proper}
 use Rattle.dimensions.specs.Added.{joined}
 use Rattle.added_rows.specs.Added.{put_of, widened, widening_puts}
@@ -94,9 +94,10 @@ module _ (w : Warehouse) (more : DimRows) where
   -- the objects after those of the dimensions
   abbrev others_of : ℕ → Option (List ℕ)
   others_of id =
-      if nat_lt id (segment_id 1) then None
+      if id == 5 then modes_object w.layout (ship_modes_of w)
+      else (if nat_lt id (segment_id 1) then None
       else (if nat_lt id (run_id 0 0) then segment_after (id - segment_id 1) w.batches else run_after
-      (id - run_id 0 0) w.cuboids)
+      (id - run_id 0 0) w.cuboids))
 
   objects_then : (id : ℕ) → among (widening_puts w.rows more) id (object_of w id) ≡ object_of (widened w more) id
   objects_then id =
@@ -151,7 +152,6 @@ represents_widened c w more represents storable few =
           ∙ objects_then w more id;
       once = once_after puts [] bytes (number_of w.layout) c represents.once;
       layout = layout_after puts [] bytes (number_of w.layout) c;
-      first = represents.first;
       root = record {
         spelled = root_after puts [] bytes (number_of w.layout) c;
         proper = root_proper (widened w more) (in_order_then w more represents.batches)
@@ -163,6 +163,8 @@ represents_widened c w more represents storable few =
       };
       rows = storable;
       batches = in_order_then w more represents.batches;
+      modes = represents.modes;
+      plain = represents.plain;
       cuboids = λ k d within. cuboid_then w more (get_or w.cuboids k d) (represents.cuboids k d within);
     }
 

@@ -44,7 +44,7 @@ plus_rows-all accepted batches rows represents = ap (λ totals. plus_rows totals
 
 -- the first of seven causes, in three groups
 in_groups : (a b c d e f g : Option Fault)
-    → first_cause (a ∷ b ∷ c ∷ d ∷ e ∷ f ∷ g ∷ [])
+    → first_cause (first_cause (a ∷ b ∷ c ∷ d ∷ e ∷ f ∷ []) ∷ g ∷ [])
     ≡ first_cause (first_cause (a ∷ b ∷ c ∷ []) ∷ d ∷ first_cause (e ∷ f ∷ g ∷ []) ∷ [])
 in_groups (Some a) b c d e f g = refl
 in_groups None (Some b) c d e f g = refl
@@ -73,14 +73,15 @@ refusal-in_parts dimensions accepted batches number rows represents =
     (cause_if (nat_lt most_batch_rows (length rows)) TooManyRows) (long_text 1 rows) (unknown_key dimensions 1 rows)
     (totals_cause (plus_rows accepted.totals rows)))
     ∙ ap (λ totals. first_cause
-    (cause_if (nat_le number accepted.count) Repeated ∷ cause_if (nat_lt (accepted.count + 1) number) Gap
+    (first_cause (cause_if (nat_le number accepted.count) Repeated ∷ cause_if (nat_lt (accepted.count + 1) number) Gap
     ∷ cause_if (nat_le most_batches accepted.count) TooManyBatches
     ∷ cause_if (nat_lt most_batch_rows (length rows)) TooManyRows ∷ long_text 1 rows ∷ unknown_key dimensions 1 rows
-    ∷ totals_cause totals ∷ [])) sums
-    ∙ ap (λ count. first_cause (cause_if (nat_le number count) Repeated ∷ cause_if (nat_lt (count + 1) number) Gap
+    ∷ []) ∷ totals_cause totals ∷ [])) sums
+    ∙ ap (λ count. first_cause
+    (first_cause (cause_if (nat_le number count) Repeated ∷ cause_if (nat_lt (count + 1) number) Gap
     ∷ cause_if (nat_le most_batches count) TooManyBatches
     ∷ cause_if (nat_lt most_batch_rows (length rows)) TooManyRows ∷ long_text 1 rows ∷ unknown_key dimensions 1 rows
-    ∷ totals_cause (totals_of (all_rows batches ++ rows)) ∷ [])) represents.count
+    ∷ []) ∷ totals_cause (totals_of (all_rows batches ++ rows)) ∷ [])) represents.count
 
 module _ (dimensions : DimRows) (old : Accepted) (number : ℕ) (rows : List LineOrder) (batches : List (List LineOrder))
     (represents : HasAccepted old batches) where

@@ -13,7 +13,7 @@ use Rattle.cube_model.specs.declared.measure.Measure.TheVariants.{Discounted, Pr
 use Rattle.cube_model.specs.declared.rows.DimRows.{DimRows}
 use Rattle.cube_model.specs.declared.rows.LineOrder.{LineOrder}
 use Rattle.cube_model.specs.Admission.{all_rows, refusal, long_text, long_field, unknown_key, unknown_axis, sums_cause}
-use Rattle.cube_model.specs.Admission.{absolute_total, AreInRange}
+use Rattle.cube_model.specs.Admission.{absolute_total, early_refusal, AreInRange}
 use Rattle.cube_model.specs.Attributes.{customer_of, supplier_of, part_of, date_of}
 use Rattle.cube_model.specs.Causes.{first_cause, cause_if}
 use Rattle.cube_model.specs.Limits.{most_batch_rows, most_batches}
@@ -59,25 +59,24 @@ only (Some fault) e = e
 pub passes : (dimensions : DimRows) (batches : List (List LineOrder)) (number : ℕ) (rows : List LineOrder)
     → refusal dimensions batches number rows ≡ None → Passes dimensions batches rows
 passes dimensions batches number rows e =
-    let sums = sums_cause (all_rows batches ++ rows) ∷ [] in
-    let keys = unknown_key dimensions 1 rows ∷ sums in
+    let early = both (early_refusal dimensions batches number rows) (sums_cause (all_rows batches ++ rows) ∷ []) e in
+    let keys = unknown_key dimensions 1 rows ∷ [] in
     let texts = long_text 1 rows ∷ keys in
     let sizes = cause_if (nat_lt most_batch_rows (length rows)) TooManyRows ∷ texts in
     let counts = cause_if (nat_le most_batches (length batches)) TooManyBatches ∷ sizes in
     let gaps = cause_if (nat_lt (length batches + 1) number) Gap ∷ counts in
-    let repeated = both (cause_if (nat_le number (length batches)) Repeated) gaps e in
+    let repeated = both (cause_if (nat_le number (length batches)) Repeated) gaps early.0 in
     let gap = both (cause_if (nat_lt (length batches + 1) number) Gap) counts repeated.1 in
     let many = both (cause_if (nat_le most_batches (length batches)) TooManyBatches) sizes gap.1 in
     let wide = both (cause_if (nat_lt most_batch_rows (length rows)) TooManyRows) texts many.1 in
     let long = both (long_text 1 rows) keys wide.1 in
-    let unknown = both (unknown_key dimensions 1 rows) sums long.1 in
     record {
       batches_left =
           below most_batches (length batches) (not_so (nat_le most_batches (length batches)) TooManyBatches many.0);
       few = at_most most_batch_rows (length rows) (not_so (nat_lt most_batch_rows (length rows)) TooManyRows wide.0);
       texts = long.0;
-      known = unknown.0;
-      sums = only (sums_cause (all_rows batches ++ rows)) unknown.1;
+      known = only (unknown_key dimensions 1 rows) long.1;
+      sums = only (sums_cause (all_rows batches ++ rows)) early.1;
     }
 
 total_below : (total : ℕ) (measure : Measure) → cause_if (nat_le sum_limit total) (SumRange measure) ≡ None

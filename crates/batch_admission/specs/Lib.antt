@@ -1,3 +1,4 @@
 pub mod Accepted
 pub mod Found
+pub mod ShipModes
 pub mod Totals

@@ -122,8 +122,9 @@ impl Admission {
         self.keep(number, found)
     }
 
-    // Refuses a number that is not the next one, and a batch after the last that there can be.
-    fn check_number(&self, number: u32) -> Result<(), Fault>
+    /// Refuses a number that is not the next one, and a batch after the last that there can be: `Repeated` where the
+    /// number was accepted before, `Gap` where one is left out, `TooManyBatches` where there can be no further one.
+    pub fn check_number(&self, number: u32) -> Result<(), Fault>
         ensures cause { result_err result ≡ number_cause self.now.count number }
         ensures next { OnOk result ((number ≡ self.now.count + 1) × (number ≤ most_batches)) }
     {

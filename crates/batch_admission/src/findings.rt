@@ -1,8 +1,9 @@
 //! What the rows of a batch are refused for.
-ghost use Rattle.std.specs.Prelude.{◌≡◌, ℕ, ◌+◌, ◌<◌, ◌≤◌, [], None, List, ◌++◌, is_some, length, IfOk};
+ghost use Rattle.std.specs.Prelude.{◌≡◌, ℕ, ◌+◌, ◌<◌, ◌≤◌, [], ◌∷◌, None, List, ◌++◌, is_some, length, IfOk};
 ghost use Rattle.std.specs.Result.{result_err};
 ghost use Rattle.cube_model.specs.declared.rows.DimRows.{DimRows};
 ghost use Rattle.cube_model.specs.declared.rows.LineOrder.{LineOrder};
+ghost use Rattle.cube_model.specs.Causes.{first_cause};
 ghost use Rattle.cube_model.specs.Limits.{most_batch_rows};
 ghost use Rattle.batch_admission.specs.Found.{cause_of, found_in, found_with};
 ghost use Rattle.batch_admission.specs.Totals.{AreBelow, sum_limit};
@@ -100,6 +101,13 @@ impl Findings {
         ensures { result ≡ cause_of self.now }
     {
         self.judged().err()
+    }
+
+    /// The first cause to refuse a batch of these rows, their sums apart: a text that is too long, or an unknown key.
+    pub fn early_cause(&self) -> Option<Fault>
+        ensures { result ≡ first_cause (self.now.long_text ∷ self.now.unknown_key ∷ []) }
+    {
+        self.long_text.or(self.unknown_key)
     }
 
     /// The totals with these rows, or the first cause to refuse a batch of them.

@@ -3,6 +3,7 @@ mod After
 mod Gathered
 mod Chunked
 mod Coded
+mod CodesRead
 mod Extremal
 mod Front
 mod Header

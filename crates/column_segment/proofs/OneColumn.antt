@@ -14,7 +14,7 @@ use Rattle.column_segment.specs.declared.columns.NumberColumn.TheVariants.{Order
 use Rattle.column_segment.specs.declared.columns.ByteColumn.TheVariants.{Quantity, Discount, Tax}
 use Rattle.column_segment.specs.declared.columns.FactColumn.{FactColumn}
 use Rattle.column_segment.specs.declared.columns.FactColumn.TheVariants.{Amount, Number, Figure}
-use Rattle.column_segment.specs.Decoded.{amounts_in, column_bytes}
+use Rattle.column_segment.specs.Decoded.{column_bytes}
 use Rattle.column_segment.specs.Projected.{FitsColumnIn, ShareColumn, StaysOutside, place_of, width_of}
 use Rattle.column_segment.proofs.Chunked.{within_rows}
 

@@ -207,12 +207,12 @@ no_dictionary n bytes few none = λ column rest many short is.
     (AreProper-firsts most_batch_rows column short (omega (arith, many, few, length-firsts column)))
     (is ∙ append_assoc (texts_spelling (firsts column)) (codes_spelling (codes_of column)) rest)
 
-codes_back : (list : List ℕ) → AllByRecursion (λ code. code < 2 ^ 16) list
+pub codes_back : (list : List ℕ) → AllByRecursion (λ code. code < 2 ^ 16) list
     → map (from_le_bytes w16) (map (spelling 2) list) ≡ list
 codes_back [] fit = refl
 codes_back (code ∷ list) fit = let head = read_2 code fit.0 in let tail = codes_back list fit.1 in λ i. head i ∷ tail i
 
-weaker : (count : ℕ) (list : List ℕ) → count ≤ 65536 → AllByRecursion (λ x. x < count) list
+pub weaker : (count : ℕ) (list : List ℕ) → count ≤ 65536 → AllByRecursion (λ x. x < count) list
     → AllByRecursion (λ x. x < 2 ^ 16) list
 weaker count [] le all = tt
 weaker count (x ∷ list) le all = (omega (arith, all.0, le), weaker count list le all.1)

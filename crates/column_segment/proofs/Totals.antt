@@ -15,10 +15,10 @@ use Rattle.column_kernels.specs.Masks.{lies_in, selected}
 use Rattle.column_kernels.specs.Sums.{differences, numbers_of, products}
 use Rattle.column_kernels.proofs.CallerLemmas.{selected-map, total_of_numbers}
 use Rattle.column_segment.specs.declared.columns.AmountColumn.{AmountColumn}
-use Rattle.column_segment.specs.declared.columns.AmountColumn.TheVariants.{OrderKey, ExtendedPrice, OrdTotalPrice}
+use Rattle.column_segment.specs.declared.columns.AmountColumn.TheVariants.{ExtendedPrice}
 use Rattle.column_segment.specs.declared.columns.AmountColumn.TheVariants.{Revenue, SupplyCost}
 use Rattle.column_segment.specs.declared.columns.ByteColumn.{ByteColumn}
-use Rattle.column_segment.specs.declared.columns.ByteColumn.TheVariants.{Quantity, Discount, Tax}
+use Rattle.column_segment.specs.declared.columns.ByteColumn.TheVariants.{Quantity, Discount}
 use Rattle.column_segment.specs.declared.layout.Layout.{Layout}
 use Rattle.column_segment.specs.Columns.{amount_of, byte_of}
 use Rattle.column_segment.specs.Decoded.{HoldsColumns, amount_place, byte_place, column_bytes, rows_in}

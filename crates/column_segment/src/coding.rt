@@ -9,6 +9,7 @@ ghost use Rattle.wire.specs.Spelling.{spelling};
 ghost use Rattle.dictionary.specs.Columns.{column_spelling};
 ghost use Rattle.dictionary.specs.Dictionary.{Adds, code_of};
 ghost use Rattle.dictionary.specs.Spelling.{AreShort};
+ghost use Rattle.column_segment.specs.Coding.{AreCoded, AreCodesOf};
 ghost use Rattle.column_segment.specs.Columns.{text_columns};
 ghost use Rattle.column_segment.specs.Segment.{text_column};
 
@@ -82,6 +83,7 @@ pub(crate) struct Texts {
 }
 
 impl Texts {
+    ghost use Rattle.column_segment.specs.Coding.{AreModesOf};
     ghost use Rattle.column_segment.specs.Encoding.{AreOfBatch, HaveRoom, HaveTexts};
 
     // Those of no row, with room for the codes of so many.
@@ -113,6 +115,14 @@ impl Texts {
         self.shipmode.push(alloc, TextColumn::ShipMode.of(row))
     }
 
+    // The ship modes, each once, and the code of each row's.
+    pub(crate) fn ship_modes(&self) -> (&Dictionary, &[[u8; 2]])
+        ensures { (rows : List LineOrder) → HaveTexts rows self.now
+            → AreModesOf rows result.0.now.texts result.1.now }
+    {
+        coded_column(&self.shipmode.texts, &self.shipmode.codes)
+    }
+
     // Adds the columns to bytes.
     pub(crate) fn push_to(&self, out: &mut Vec<u8>) -> Result<(), Fault>
         requires batch { AreOfBatch self.now }
@@ -125,6 +135,15 @@ impl Texts {
         self.commitdate.push_to(out)?;
         self.shipmode.push_to(out)
     }
+}
+
+// A column of texts: its dictionary, and the code of each row's.
+fn coded_column<'a>(texts: &'a Dictionary, codes: &'a [[u8; 2]]) -> (&'a Dictionary, &'a [[u8; 2]])
+    ensures { (column : List (List ℕ)) → AreCoded column texts.now (flat_map (λ code. code) codes.now)
+        → AreCodesOf column result.0.now.texts result.1.now }
+{
+    let _few = texts.len();
+    (texts, codes)
 }
 
 // Adds a code.

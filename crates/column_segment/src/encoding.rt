@@ -8,6 +8,7 @@ ghost use Rattle.column_segment.specs.Segment.{IsBatch, header_of, segment_of};
 use crate::coding::Texts;
 use crate::gathering::{Figures, Keys, PIECE};
 use cube_model::{Fault, LineOrder};
+use dictionary::Dictionary;
 use std::alloc::Global;
 use wire::{push_bytes, push_u32};
 
@@ -64,6 +65,7 @@ impl Drop for BatchColumns {
 }
 
 impl BatchColumns {
+    ghost use Rattle.column_segment.specs.Coding.{AreModesOf};
     ghost use Rattle.column_segment.specs.Encoding.{AreColumnsOfBatch, HaveFew, HaveRows};
 
     /// Those of no row, with room for so many rows.
@@ -105,6 +107,15 @@ impl BatchColumns {
         self.keys.push(rows)?;
         self.figures.push(rows)?;
         push_texts(&mut self.texts, alloc, rows)
+    }
+
+    /// The ship modes of the rows that were added: each once in the order of first use, and for each row the code of
+    /// its ship mode, which is a place among them, in two bytes, the lowest first.
+    pub fn ship_modes(&self) -> (&Dictionary, &[[u8; 2]])
+        ensures { (rows : List LineOrder) → HaveRows rows self.now
+            → AreModesOf rows result.0.now.texts result.1.now }
+    {
+        self.texts.ship_modes()
     }
 
     /// The bytes of the batch. It can only fail when out of memory.

@@ -6,7 +6,7 @@ use crate::files::{DimensionFiles, Reads, unread_table};
 use crate::refusal::Refusal;
 use crate::table_paths::table_name;
 use clap::ArgMatches;
-use cube_model::{Axis, DimRows, Fault};
+use cube_model::{Axis, DimRows, Fault, MemberPlace};
 use dimensions::Dims;
 use ssb_eval::{DimensionTables, RefusedLine, Tables, UnknownKey};
 use std::alloc::Global;
@@ -124,8 +124,12 @@ fn axis_of(fault: Fault) -> Option<Axis> {
     match fault {
         Fault::DuplicateKey { axis, .. }
         | Fault::HierarchyBroken { axis, .. }
-        | Fault::ReservedMember { axis, .. }
-        | Fault::TooManyMembers { axis, .. } => Some(axis),
+        | Fault::ReservedMember {
+            place: MemberPlace::InDimension { axis, .. },
+        }
+        | Fault::TooManyMembers {
+            place: MemberPlace::InDimension { axis, .. },
+        } => Some(axis),
         _ => None,
     }
 }

@@ -19,6 +19,7 @@ use std::fs::OpenFile;
 use std::io::ErrorKind;
 use std::os::unix::fs::FileExt;
 use std::rt::{Clock, Files};
+use warehouse::Layout;
 
 /// How large a warehouse is to be.
 #[derive(Clone, Copy)]
@@ -113,7 +114,8 @@ where
 {
     let dims = read(rt, given)?;
     let sectors = sectors_of(rt.alloc(), size, &dims)?;
-    match device::create(rt, device::path_of(given), sectors, existing(given), dims) {
+    let path = device::path_of(given);
+    match device::create(rt, path, sectors, existing(given), dims, layout_of(given)) {
         Ok(()) => Ok(sectors),
         Err(met) => {
             let sectors = Some(sectors);
@@ -138,6 +140,12 @@ fn sectors_of(alloc: Global, size: Size, dims: &Dims) -> Result<u32, Refusal> {
             ).ok(),
         }),
     }
+}
+
+// The layout that the command asks for, the first where it names none.
+fn layout_of(given: &ArgMatches<'_>) -> Layout {
+    let number = given.get_one::<u32>("layout").unwrap_or(1);
+    Layout::of_number(number).unwrap_or(Layout::First)
 }
 
 // What the file may hold before.

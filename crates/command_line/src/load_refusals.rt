@@ -1,7 +1,7 @@
 //! What is said of a refusal of a load.
 use crate::load::LoadPlan;
 use clap::ArgMatches;
-use command_files::locating::{in_line, line_of, located};
+use command_files::locating::{LineAt, in_line, line_of, located};
 use command_files::refusal::Refusal;
 use command_files::repeated::{StoredBatch, repeated_hint};
 use command_files::table_paths::table_name;
@@ -15,7 +15,9 @@ use ssb_eval::UnknownKey;
 use std::alloc::Global;
 use std::io::Read;
 use std::rt::Files;
-use table_hints::{KeyAt, Needs, Table, limit_hint, line_hint, loaded_key_hint, number_hint};
+use table_hints::{
+    KeyAt, Needs, Table, limit_hint, line_hint, loaded_key_hint, number_hint, refused_mode,
+};
 use warehouse::Session;
 use warehouse_jobs::LoadText;
 
@@ -72,6 +74,9 @@ fn hint_of<D: Sectors, L: Read + Drop>(
     if let Some(unknown) = key_for(fault, text.unknown()) {
         return unknown_hint(alloc, given, plan, session, unknown);
     }
+    if let Some((row, said)) = refused_mode(fault) {
+        return mode_hint(alloc, given, plan, done, row, said);
+    }
     match fault {
         Fault::Repeated => stored_hint(alloc, given, plan, session, text.rows(), done),
         fault => batch_hint(alloc, given, plan, session, fault),
@@ -95,6 +100,21 @@ fn unknown_hint<D: Sectors>(
         line: at.line,
     };
     Ok(Some(loaded_key_hint(alloc, at, batch)?))
+}
+
+// The row of a batch that is refused for its ship mode, after so many batches that were done, and what is said of it.
+fn mode_hint(
+    alloc: Global,
+    given: &ArgMatches<'_>,
+    plan: &LoadPlan,
+    done: u32,
+    row: u32,
+    said: &str,
+) -> Result<Option<String>, Fault> {
+    let before = u64::from(done).saturating_mul(u64::from(plan.cut.rows));
+    let line = before.saturating_add(u64::from(row));
+    let LineAt { path, line } = located(alloc, given, plan.counts.as_slice(), line)?;
+    Ok(Some(format!(in alloc; "{path} line {line}: {said}")?))
 }
 
 // A batch of so many rows that is not the stored one of its number, after so many that were done.

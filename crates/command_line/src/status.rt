@@ -7,7 +7,7 @@ use command_files::refusal::Refusal;
 use command_files::texts::print_text;
 use command_sessions::device::{self, Access, InFile};
 use command_sessions::explaining::explained;
-use command_sessions::job::{done_in, perform_job};
+use command_sessions::job::done_in;
 use command_sessions::space::Room;
 use command_sessions::unfinished::note_unfinished;
 use cube_model::Fault;
@@ -18,7 +18,7 @@ use sector_device::Sectors;
 use std::alloc::{AllocError, Global};
 use std::os::unix::fs::FileExt;
 use std::rt::{Clock, Files};
-use warehouse::{Session, Status};
+use warehouse::{Layout, Session, Status};
 use warehouse_jobs::Job;
 
 /// The fields of a record.
@@ -32,32 +32,42 @@ pub fn status<R: Files + AllocGlobal + Print + Eprint + Clock>(
 where
     R::File: FileExt + LockFile,
 {
-    let format = format_of(given);
-    if format.is_none() && !given.get_flag("all") {
-        return perform_job(rt, given, Access::Read, Job::Status);
-    }
     match device::open(rt, given, Access::Read) {
-        Ok(mut session) => match format {
-            None => print_all(rt, given, &mut session),
+        Ok(mut session) => match format_of(given) {
+            None => print_lines(rt, given, &mut session),
             Some(format) => print_records(rt, given, &session, format),
         },
         Err(met) => Err(explained(rt, given, met)),
     }
 }
 
-// Prints all numbers of an open warehouse.
-fn print_all<R: Files + AllocGlobal + Print + Eprint, D: Sectors + InFile>(
+// Prints the numbers of an open warehouse, a line each.
+fn print_lines<R: Files + AllocGlobal + Print + Eprint, D: Sectors + InFile>(
     rt: &R,
     given: &ArgMatches<'_>,
     session: &mut Session<D>,
 ) -> Result<u8, Refusal> {
-    let space = Space::of(rt.alloc(), session)?;
+    let space = match given.get_flag("all") {
+        true => Some(Space::of(rt.alloc(), session)?),
+        false => None,
+    };
+    print_layout(rt, session.status()?.layout)?;
     let status = done_in(rt, given, session, Job::Status)?;
-    if status == DONE {
-        print_space(rt, space)?;
+    if let Some(space) = space {
+        if status == DONE {
+            print_space(rt, space)?;
+        }
     }
     note_unfinished(rt, given, session);
     Ok(status)
+}
+
+// Prints the layout of a warehouse, where it is not the first.
+fn print_layout<R: AllocGlobal + Print>(rt: &R, layout: Layout) -> Result<u8, Refusal> {
+    match layout {
+        Layout::First => Ok(DONE),
+        Layout::Second => print_text(rt, "layout 2\n"),
+    }
 }
 
 // The sectors of a warehouse, and for how many more batches of the size of the last one they have room, about.
@@ -114,6 +124,7 @@ fn print_records<R: Files + AllocGlobal + Print + Eprint, D: Sectors + InFile>(
 fn status_records(alloc: Global, format: Format, status: &Status) -> Result<Records, AllocError> {
     let mut records = Records::new(alloc, format, &FIELDS)?;
     let numbers = [
+        number("layout", u64::from(status.layout.number())),
         number("batches", u64::from(status.batches)),
         number("additions", u64::from(status.additions)),
         number("rows", status.rows),

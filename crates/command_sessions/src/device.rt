@@ -13,7 +13,7 @@ use std::fs::{self, OpenFile};
 use std::io::{self, ErrorKind};
 use std::os::unix::fs::FileExt;
 use std::rt::{Clock, Files};
-use warehouse::Session;
+use warehouse::{Layout, Session};
 use watched_device::Watched;
 
 /// The device of a warehouse: a file of which a meter sees the calls, with a cache.
@@ -32,20 +32,21 @@ pub enum Access {
     Read,
 }
 
-/// Makes a warehouse without batches in a file, which is made where it is absent. At a refusal such a file is removed
-/// again, if nothing was committed in it.
+/// Makes a warehouse of a layout without batches in a file, which is made where it is absent. At a refusal such a file
+/// is removed again, if nothing was committed in it.
 pub fn create<R: Files + AllocGlobal + Eprint + Clock>(
     rt: &R,
     path: &str,
     sectors: u32,
     existing: Existing,
     dims: Dims,
+    layout: Layout,
 ) -> Result<(), Met>
 where
     R::File: FileExt + LockFile,
 {
     let (device, is_new) = made(rt, path, sectors, existing, None)?;
-    match warehouse::create(rt.alloc(), device, dims) {
+    match warehouse::create_as(rt.alloc(), device, dims, layout) {
         Ok(_session) => {
             keep_name(rt, path);
             Ok(())

@@ -8,7 +8,7 @@ pub(crate) static CREATE: Described = Described {
     name: "create",
     about: "Makes a warehouse in a file, with the four dimension tables.",
     usage: "ssbcube create DEV --sectors N --customer FILE --supplier FILE
-                      --part FILE --date FILE [--overwrite]
+                      --part FILE --date FILE [--layout N] [--overwrite]
        ssbcube create DEV --sectors N --tables FOLDER ...
        ssbcube create DEV --rows N ...
        ssbcube create DEV --for LINEORDER ...",
@@ -29,6 +29,10 @@ sectors out: for batches of 65,536 rows, eight cuboids, and some more.
 
 With --tables the tables are customer.tbl, supplier.tbl, part.tbl and date.tbl of
 FOLDER. A table that has its own option too is the file of that option.
+
+The layout stays as it is. In layout 1 the file keeps the dimension tables and the
+batches, in layout 2 the ship modes of the fact rows too, each once. They are then
+65,535 at most, and none of them is ALL.
 
 Examples:
   ssbcube create star.dev --sectors 1000000 --customer customer.tbl \\
@@ -61,6 +65,12 @@ refusal a file that it made is removed again.",
                 value: "LINEORDER",
                 help: "As many as the rows of a fact table take, and some more",
                 kind: Kind::OptionNot(Value::Text, &["sectors"]),
+            },
+            Word {
+                name: "layout",
+                value: "N",
+                help: "1, or 2, which keeps the ship modes too; 1 if left out",
+                kind: Kind::Option(Value::Number(1, 2)),
             },
             Word {
                 name: "overwrite",

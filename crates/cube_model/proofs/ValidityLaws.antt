@@ -13,6 +13,7 @@ use Rattle.std.proofs.lemmas.List.{map-append, append-nil}
 use Rattle.cube_model.specs.declared.fault.Fault.{Fault}
 use Rattle.cube_model.specs.declared.fault.Fault.TheVariants.{TooManyRows, DuplicateKey, ReservedMember, TooManyMembers}
 use Rattle.cube_model.specs.declared.fault.Fault.TheVariants.{HierarchyBroken}
+use Rattle.cube_model.specs.declared.fault.MemberPlace.TheVariants.{InDimension}
 use Rattle.cube_model.specs.Causes.{first_cause, cause_if}
 use Rattle.cube_model.specs.Validity.{Rules, customer_rules, supplier_rules, part_rules, date_rules, members_of}
 use Rattle.cube_model.specs.Validity.{repeats_key, names_all, overflows, breaks_link, row_cause, rows_cause}
@@ -233,8 +234,8 @@ module _ {Row : Type 0} (rules : Rules Row) where
   row_none earlier row =
       let number = length earlier + 1 in
       let four = four_none (cause_if (repeats_key rules earlier row) (DuplicateKey rules.axis number))
-      (cause_if (names_all rules row) (ReservedMember rules.axis number))
-      (cause_if (overflows rules earlier row) (TooManyMembers rules.axis number))
+      (cause_if (names_all rules row) (ReservedMember (InDimension rules.axis number)))
+      (cause_if (overflows rules earlier row) (TooManyMembers (InDimension rules.axis number)))
       (cause_if (breaks_link rules earlier row) (HierarchyBroken rules.axis number)) in
       let keys = any_false (λ other. rules.key other == rules.key row) (λ other. KeyDiffers other row)
       (λ other. numbers_differ (rules.key other) (rules.key row)) earlier in

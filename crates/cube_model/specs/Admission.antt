@@ -9,6 +9,7 @@ use Rattle.cube_model.specs.declared.fault.Fault.{Fault}
 use Rattle.cube_model.specs.declared.fault.Fault.TheVariants.{Repeated, Gap, TooManyBatches, TooManyRows, FieldTooLong}
 use Rattle.cube_model.specs.declared.fault.Fault.TheVariants.{UnknownCustomer, UnknownSupplier, UnknownPart}
 use Rattle.cube_model.specs.declared.fault.Fault.TheVariants.{UnknownDate, SumRange}
+use Rattle.cube_model.specs.declared.fault.MemberPlace.TheVariants.{InBatch}
 use Rattle.cube_model.specs.declared.fault.Place.TheVariants.{Row}
 use Rattle.cube_model.specs.declared.rows.DimRows.{DimRows}
 use Rattle.cube_model.specs.declared.rows.LineOrder.{LineOrder}
@@ -16,6 +17,7 @@ use Rattle.cube_model.specs.Attributes.{customer_of, supplier_of, part_of, date_
 use Rattle.cube_model.specs.Causes.{first_cause, cause_if}
 use Rattle.cube_model.specs.Limits.{longest_text, most_batch_rows, most_batches}
 use Rattle.cube_model.specs.Measures.{measure_of}
+use Rattle.cube_model.specs.ShipModes.{modes_cause, modes_in}
 
 -- a text is longer than a kept text may be
 abbrev pub is_long : List ℕ → Bool
@@ -78,15 +80,27 @@ sums_cause rows = first_cause (
 abbrev pub all_rows : List (List LineOrder) → List LineOrder
 all_rows batches = flat_map (λ batch. batch) batches
 
--- the first cause for which a batch with a number is refused after earlier batches
-abbrev pub refusal : DimRows → List (List LineOrder) → ℕ → List LineOrder → Option Fault
-refusal dimensions batches number rows = first_cause (
+-- the first cause that a batch with a number gives after earlier batches, its sums apart
+abbrev pub early_refusal : DimRows → List (List LineOrder) → ℕ → List LineOrder → Option Fault
+early_refusal dimensions batches number rows = first_cause (
     cause_if (nat_le number (length batches)) Repeated
     ∷ cause_if (nat_lt (length batches + 1) number) Gap
     ∷ cause_if (nat_le most_batches (length batches)) TooManyBatches
     ∷ cause_if (nat_lt most_batch_rows (length rows)) TooManyRows
     ∷ long_text 1 rows
-    ∷ unknown_key dimensions 1 rows
+    ∷ unknown_key dimensions 1 rows ∷ [])
+
+-- the first cause for which a batch with a number is refused after earlier batches
+abbrev pub refusal : DimRows → List (List LineOrder) → ℕ → List LineOrder → Option Fault
+refusal dimensions batches number rows = first_cause (
+    early_refusal dimensions batches number rows
+    ∷ sums_cause (all_rows batches ++ rows) ∷ [])
+
+-- the same where ship modes are the members of an axis
+abbrev pub moded_refusal : DimRows → List (List LineOrder) → ℕ → List LineOrder → Option Fault
+moded_refusal dimensions batches number rows = first_cause (
+    early_refusal dimensions batches number rows
+    ∷ modes_cause InBatch (modes_in (all_rows batches)) (modes_in rows)
     ∷ sums_cause (all_rows batches ++ rows) ∷ [])
 
 -- a batch that is not refused

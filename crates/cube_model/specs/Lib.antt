@@ -16,4 +16,5 @@ pub mod Orders
 pub mod Places
 pub mod Proper
 pub mod Selection
+pub mod ShipModes
 pub mod Validity

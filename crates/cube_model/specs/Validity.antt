@@ -11,6 +11,7 @@ use Rattle.cube_model.specs.declared.attr.Axis.TheVariants.{Customer, Supplier, 
 use Rattle.cube_model.specs.declared.fault.Fault.{Fault}
 use Rattle.cube_model.specs.declared.fault.Fault.TheVariants.{DuplicateKey, ReservedMember, TooManyMembers}
 use Rattle.cube_model.specs.declared.fault.Fault.TheVariants.{HierarchyBroken, TooManyRows}
+use Rattle.cube_model.specs.declared.fault.MemberPlace.TheVariants.{InDimension}
 use Rattle.cube_model.specs.declared.rows.CustomerRow.{CustomerRow}
 use Rattle.cube_model.specs.declared.rows.SupplierRow.{SupplierRow}
 use Rattle.cube_model.specs.declared.rows.PartRow.{PartRow}
@@ -95,8 +96,8 @@ module _ {Row : Type 0} (rules : Rules Row) where
   abbrev pub row_cause : List Row → Row → Option Fault
   row_cause earlier row = first_cause (
       cause_if (repeats_key earlier row) (DuplicateKey rules.axis (length earlier + 1))
-      ∷ cause_if (names_all row) (ReservedMember rules.axis (length earlier + 1))
-      ∷ cause_if (overflows earlier row) (TooManyMembers rules.axis (length earlier + 1))
+      ∷ cause_if (names_all row) (ReservedMember (InDimension rules.axis (length earlier + 1)))
+      ∷ cause_if (overflows earlier row) (TooManyMembers (InDimension rules.axis (length earlier + 1)))
       ∷ cause_if (breaks_link earlier row) (HierarchyBroken rules.axis (length earlier + 1)) ∷ [])
 
   -- the first cause to refuse one of the rows that are left, after earlier ones

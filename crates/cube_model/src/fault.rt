@@ -24,6 +24,27 @@ impl fmt::Display for Place {
     }
 }
 
+/// Where a member is. Batches and rows count from 1.
+#[derive(Clone, Copy, Debug, PartialEq, Eq)]
+pub enum MemberPlace {
+    /// In a row of a dimension.
+    InDimension { axis: Axis, row: u32 },
+    /// In a row of the batch that was given.
+    InBatch { row: u32 },
+    /// In a row of a batch that is stored.
+    InStoredBatch { batch: u32, row: u32 },
+}
+
+impl fmt::Display for MemberPlace {
+    fn fmt<W: fmt::Write>(&self, f: &mut fmt::Formatter<W>) -> fmt::Result {
+        match self {
+            MemberPlace::InDimension { axis, row } => write!(f, "{axis} row {row}"),
+            MemberPlace::InBatch { row } => write!(f, "row {row}"),
+            MemberPlace::InStoredBatch { batch, row } => write!(f, "batch {batch} row {row}"),
+        }
+    }
+}
+
 /// Why a call was refused, and where. It prints as `fault N NAME PLACE`.
 ///
 /// Lines, fields and rows count from 1. Field 0 means a whole line.
@@ -56,7 +77,7 @@ pub enum Fault {
     /// A member has two upper members.
     HierarchyBroken { axis: Axis, row: u32 },
     /// A member is the text `ALL`, which means every member.
-    ReservedMember { axis: Axis, row: u32 },
+    ReservedMember { place: MemberPlace },
     /// No customer has the key.
     UnknownCustomer { row: u32 },
     /// No supplier has the key.
@@ -81,8 +102,8 @@ pub enum Fault {
     NoSuchPrefix,
     /// A cuboid would have too many cells.
     TooManyCells { view: u16 },
-    /// A level of a dimension has too many members.
-    TooManyMembers { axis: Axis, row: u32 },
+    /// A level of a dimension, or the axis of ship modes, has too many members.
+    TooManyMembers { place: MemberPlace },
     /// The last generation is reached.
     Worn,
     /// A reader failed.
@@ -208,10 +229,12 @@ impl Fault {
             Fault::FieldCount { line } => write!(f, " line {line}"),
             Fault::BadNumber { line, field } => write!(f, " line {line} field {field}"),
             Fault::FieldTooLong { place, field } => write!(f, " {place} field {field}"),
-            Fault::DuplicateKey { axis, row }
-            | Fault::HierarchyBroken { axis, row }
-            | Fault::ReservedMember { axis, row }
-            | Fault::TooManyMembers { axis, row } => write!(f, " {axis} row {row}"),
+            Fault::DuplicateKey { axis, row } | Fault::HierarchyBroken { axis, row } => {
+                write!(f, " {axis} row {row}")
+            }
+            Fault::ReservedMember { place } | Fault::TooManyMembers { place } => {
+                write!(f, " {place}")
+            }
             Fault::UnknownCustomer { row }
             | Fault::UnknownSupplier { row }
             | Fault::UnknownPart { row }

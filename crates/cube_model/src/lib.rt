@@ -16,7 +16,7 @@ mod rows;
 pub use amount::Amount;
 pub use answer::{Answer, Fraction, Line, Member, Value};
 pub use attr::{Attr, Axis};
-pub use fault::{Fault, Place};
+pub use fault::{Fault, MemberPlace, Place};
 pub use items::{Items, Text};
 pub use laws::{
     answer_is_the_one, fraction_is_the_one, keys_are_in_total_order, rows_of_a_key,

@@ -1,5 +1,5 @@
 -- A store that was read, and one that a refusal left as it was.
-use Rattle.std.proofs.Common.{◌∙◌, sym, subst}
+use Rattle.std.proofs.Common.{◌∙◌, sym, subst, List, ℕ}
 use Rattle.sector_device.specs.declared.device.Sectors.{Ghosts}
 use Rattle.cube_model.specs.declared.rows.DimRows.{DimRows}
 use Rattle.object_store.specs.Content.{Content}
@@ -24,9 +24,11 @@ module _ {D : Type 0} (g : Ghosts D) (a b : Store D g) where
       → Represents (content_of g a) w
   back_still still k w represents = subst (λ (x : Content). Represents x w) (still.content k) represents
 
-  pub loaded_still : IsStill g a b → (disk_of g b).keeps_word → (rows : DimRows) (root : PlainRoot)
-      → IsLoaded (content_of g a) rows root → IsLoaded (content_of g b) rows root
-  loaded_still still k rows root is = subst (λ (x : Content). IsLoaded x rows root) (sym (still.content k)) is
+  pub loaded_still : IsStill g a b → (disk_of g b).keeps_word → (rows : DimRows)
+      (modes : List (List ℕ)) (root : PlainRoot)
+      → IsLoaded (content_of g a) rows modes root → IsLoaded (content_of g b) rows modes root
+  loaded_still still k rows modes root is =
+      subst (λ (x : Content). IsLoaded x rows modes root) (sym (still.content k)) is
 
   pub at_before : IsAsBefore g a b → (root : PlainRoot) (w : Warehouse) → StoreAt g a root w → StoreAt g b root w
   at_before same root w is = record {
@@ -37,9 +39,9 @@ module _ {D : Type 0} (g : Ghosts D) (a b : Store D g) where
     root_is = λ k. is.root_is (subst (λ (d : D). g.keeps_word d) same.device k);
   }
 
-  pub loaded_before : IsAsBefore g a b → (rows : DimRows) (root : PlainRoot) → IsLoaded (content_of g a) rows root
-      → IsLoaded (content_of g b) rows root
-  loaded_before same rows root is = subst (λ (x : Content). IsLoaded x rows root) (sym same.content) is
+  pub loaded_before : IsAsBefore g a b → (rows : DimRows) (modes : List (List ℕ)) (root : PlainRoot)
+      → IsLoaded (content_of g a) rows modes root → IsLoaded (content_of g b) rows modes root
+  loaded_before same rows modes root is = subst (λ (x : Content). IsLoaded x rows modes root) (sym same.content) is
 
 -- where the word counts alone
 pub leaves_if : (P : Content → Type 0) (old new : Disk) → (new.keeps_word → old.keeps_word)

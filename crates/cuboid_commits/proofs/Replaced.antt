@@ -23,17 +23,17 @@ use Rattle.object_store.specs.declared.store.Store.{Store}
 use Rattle.object_store.proofs.CallerLemmas.{bytes_after, few_after, generation_after, layout_after, root_after}
 use Rattle.lattice.specs.declared.view.View.{View}
 use Rattle.warehouse_root.specs.declared.cuboid.StoredCuboid.{StoredCuboid}
-use Rattle.warehouse_root.specs.declared.layout.Layout.TheVariants.{First}
+use Rattle.warehouse_root.specs.declared.layout.Layout.{Layout}
 use Rattle.warehouse_root.specs.Layouts.{number_of}
 use Rattle.warehouse_root.specs.Limits.{most_cuboids}
 use Rattle.warehouse_root.specs.Objects.{run_id, run_ids}
 use Rattle.warehouse_root.specs.Root as roots
 use Rattle.warehouse_root.specs.Root.{PlainRoot}
 use Rattle.warehouse_objects.specs.Loaded.{IsLoaded}
-use Rattle.warehouse_objects.specs.Represents.{Represents, root_of, said_with}
+use Rattle.warehouse_objects.specs.Represents.{HasModes, Represents, root_of, said_with}
 use Rattle.warehouse_objects.specs.Warehouse.{Warehouse, aimed, dropped_ids, is_among, with_views}
 use Rattle.warehouse_objects.proofs.CallerLemmas.{dropped_are, few_objects, root_viewed, represents_aimed}
-use Rattle.warehouse_objects.proofs.CallerLemmas.{represents_chosen}
+use Rattle.warehouse_objects.proofs.CallerLemmas.{modes_still, represents_chosen}
 use Rattle.cuboid_commits.specs.Keeping.{StoreAt}
 use Rattle.cuboid_commits.specs.Nexts.{first_run}
 use Rattle.cuboid_commits.specs.Replacing.{dropped_of, replaced}
@@ -46,7 +46,7 @@ few_replaced c drops bytes layout few = omega (arith, few_after [] drops bytes l
 
 -- what was handed to the commit
 pub replaced_by : (c : Content) (drops bytes : List ℕ) (layout : ℕ) (next : PlainRoot) → bytes ≡ roots.root_of next
-    → layout ≡ number_of First → committed [] drops bytes layout c ≡ replaced next drops c
+    → layout ≡ number_of next.layout → committed [] drops bytes layout c ≡ replaced next drops c
 replaced_by c drops bytes layout next bytes_are layout_is =
     ap (λ (b : List ℕ). committed [] drops b layout c) bytes_are
     ∙ ap (λ (l : ℕ). committed [] drops (roots.root_of next) l c) layout_is
@@ -61,28 +61,30 @@ without_high (drop ∷ drops) id was runs low =
     ∙ without_high drops id was (All-tail (λ d. first_run ≤ d) drop drops runs) low
 
 module _ (c : Content) (drops : List ℕ) (next : PlainRoot) (runs : All (λ id. first_run ≤ id) drops) where
-  same_at : (low : ℕ) → low < 5 → bytes_of (replaced next drops c) low ≡ bytes_of c low
-  same_at low few = bytes_after [] drops (roots.root_of next) (number_of First) c low
+  same_at : (low : ℕ) → low < 6 → bytes_of (replaced next drops c) low ≡ bytes_of c low
+  same_at low few = bytes_after [] drops (roots.root_of next) (number_of next.layout) c low
       ∙ without_high drops low (bytes_of c low) runs (omega (arith, few))
 
   -- what is kept in memory then
-  pub loaded_replaced : (rows : DimRows) (root : PlainRoot) → next.layout ≡ root.layout → IsLoaded c rows root
-      → IsLoaded (replaced next drops c) rows next
-  loaded_replaced rows root same is = record {
-    layout = layout_after [] drops (roots.root_of next) (number_of First) c;
+  pub loaded_replaced : (rows : DimRows) (modes : List (List ℕ)) (root : PlainRoot) → next.layout ≡ root.layout
+      → IsLoaded c rows modes root → IsLoaded (replaced next drops c) rows modes next
+  loaded_replaced rows modes root same is = record {
+    layout = layout_after [] drops (roots.root_of next) (number_of next.layout) c;
     has_rows = record {
       customers = same_at 1 (omega arith) ∙ is.has_rows.customers;
       suppliers = same_at 2 (omega arith) ∙ is.has_rows.suppliers;
       parts = same_at 3 (omega arith) ∙ is.has_rows.parts;
       dates = same_at 4 (omega arith) ∙ is.has_rows.dates;
     };
-    of_layout = same ∙ is.of_layout;
-    root_bytes = root_after [] drops (roots.root_of next) (number_of First) c;
+    has_modes = modes_still c (replaced next drops c) next.layout modes (same_at 5 (omega arith))
+        (subst (λ (l : Layout). HasModes c l modes) (sym same) is.has_modes);
+    are_modes = is.are_modes;
+    root_bytes = root_after [] drops (roots.root_of next) (number_of next.layout) c;
   }
 
 pub generation_replaced : (c : Content) (drops : List ℕ) (next : PlainRoot)
     → (replaced next drops c).generation ≡ c.generation + 1
-generation_replaced c drops next = generation_after [] drops (roots.root_of next) (number_of First) c
+generation_replaced c drops next = generation_after [] drops (roots.root_of next) (number_of next.layout) c
 
 -- before a commit
 pub leaves_before : (c d : Content) (old new : Disk) → Leaves old new (λ x. x ≡ c) → Leaves old new (IsOneOf c d)
@@ -97,13 +99,11 @@ pub record Makes (c : Content) (root next : PlainRoot) (drops : List ℕ) (w v :
 
 made_so : (c : Content) (w v : Warehouse) (next : PlainRoot) (dropped drops : List ℕ) → Represents c w
     → root_of v ≡ next → dropped ≡ drops
-    → Represents (committed [] dropped (roots.root_of (root_of v)) (number_of w.layout) c) v
+    → Represents (committed [] dropped (roots.root_of (root_of v)) (number_of v.layout) c) v
     → Represents (replaced next drops c) v
 made_so c w v next dropped drops represents next_is drops_are is =
     subst (λ (d : List ℕ). Represents (replaced next d c) v) drops_are
-    (subst (λ (r : PlainRoot). Represents (committed [] dropped (roots.root_of r) (number_of First) c) v) next_is
-    (subst (λ (l : ℕ). Represents (committed [] dropped (roots.root_of (root_of v)) l c) v)
-    (ap number_of represents.first) is))
+    (subst (λ (r : PlainRoot). Represents (committed [] dropped (roots.root_of r) (number_of r.layout) c) v) next_is is)
 
 -- a new target
 aimed_root : (root : PlainRoot) (w : Warehouse) → root_of w ≡ root

@@ -17,11 +17,12 @@ use Rattle.warehouse_root.specs.Layouts.{number_of}
 use Rattle.warehouse_root.specs.Objects.{run_id}
 use Rattle.warehouse_root.specs.Root as roots
 use Rattle.warehouse_root.specs.Root.{PlainRoot}
-use Rattle.warehouse_root.specs.declared.layout.Layout.TheVariants.{First}
+use Rattle.warehouse_root.specs.declared.layout.Layout.{Layout}
 use Rattle.warehouse_objects.specs.Loaded.{IsLoaded}
 use Rattle.warehouse_objects.specs.Lawful.{later_runs, run_put}
-use Rattle.warehouse_objects.specs.Represents.{Represents, root_of}
+use Rattle.warehouse_objects.specs.Represents.{HasModes, Represents, root_of}
 use Rattle.warehouse_objects.specs.Warehouse.{Cuboid, StoredRun, Warehouse, kept}
+use Rattle.warehouse_objects.proofs.CallerLemmas.{modes_still}
 use Rattle.warehouse_objects.proofs.Kept.{represents_appended, represents_merged}
 use Rattle.cuboid_commits.specs.Nexts.{Appends, BringsOn, Merges, first_run}
 use Rattle.cuboid_commits.specs.declared.keeping.Next.{Next}
@@ -42,29 +43,34 @@ module _ (c : Content) (w : Warehouse) (old new : Cuboid) (run : StoredRun) (nex
   moved : (n : ℕ) (drops : List ℕ) → next.id ≡ run_id (index_of new.view) n → next.drops.items ≡ drops
       → Represents (committed (run_put new n run) drops root_bytes (number_of w.layout) c) (kept w new)
       → Represents
-      (committed ((next.id, next.bytes.items) ∷ []) next.drops.items next.root_bytes.items (number_of First) c)
+      (committed ((next.id, next.bytes.items) ∷ []) next.drops.items next.root_bytes.items (number_of next.root.layout)
+      c)
       (kept w new)
   moved n drops id_is drops_are is =
       subst (λ (i : ℕ). Represents
-      (committed ((i, next.bytes.items) ∷ []) next.drops.items next.root_bytes.items (number_of First) c)
+      (committed ((i, next.bytes.items) ∷ []) next.drops.items next.root_bytes.items (number_of next.root.layout) c)
       (kept w new)) (sym id_is)
       (subst (λ (b : List ℕ). Represents
-      (committed ((run_id (index_of new.view) n, b) ∷ []) next.drops.items next.root_bytes.items (number_of First)
+      (committed ((run_id (index_of new.view) n, b) ∷ []) next.drops.items next.root_bytes.items
+      (number_of next.root.layout)
       c) (kept w new)) (sym brings.bytes)
-      (subst (λ (d : List ℕ). Represents (committed (run_put new n run) d next.root_bytes.items (number_of First) c)
+      (subst (λ (d : List ℕ). Represents
+      (committed (run_put new n run) d next.root_bytes.items (number_of next.root.layout) c)
       (kept w new)) (sym drops_are)
-      (subst (λ (b : List ℕ). Represents (committed (run_put new n run) drops b (number_of First) c) (kept w new))
+      (subst (λ (b : List ℕ). Represents (committed (run_put new n run) drops b (number_of next.root.layout) c)
+      (kept w new))
       (sym bytes_are)
       (subst (λ (l : ℕ). Represents (committed (run_put new n run) drops root_bytes l c) (kept w new))
-      (ap number_of represents.first) is))))
+      (ap (λ (r : PlainRoot). number_of r.layout) (sym brings.root)) is))))
 
   pub represents_next : Represents
-      (committed ((next.id, next.bytes.items) ∷ []) next.drops.items next.root_bytes.items (number_of First) c)
+      (committed ((next.id, next.bytes.items) ∷ []) next.drops.items next.root_bytes.items (number_of next.root.layout)
+      c)
       (kept w new)
   represents_next =
       ⊎_elim {C =
       Represents (committed ((next.id, next.bytes.items) ∷ []) next.drops.items next.root_bytes.items
-      (number_of First) c) (kept w new)}
+      (number_of next.root.layout) c) (kept w new)}
       (λ (a : Appends old new run next). moved (length old.runs) [] a.id a.drops
       (represents_appended c w old new represents brings.may run a.runs))
       (λ (m : Merges old new run next). moved 0 (later_runs old) m.id m.drops
@@ -75,7 +81,7 @@ module _ (c : Content) (w : Warehouse) (old new : Cuboid) (run : StoredRun) (nex
 module _ (c : Content) (w : Warehouse) (old new : Cuboid) (run : StoredRun) (next : Next) (put drops bytes : List ℕ)
     (layout : ℕ)
     (put_is : put ≡ next.bytes.items) (drops_are : drops ≡ next.drops.items)
-    (bytes_are_next : bytes ≡ next.root_bytes.items) (layout_is : layout ≡ number_of First) where
+    (bytes_are_next : bytes ≡ next.root_bytes.items) (layout_is : layout ≡ number_of next.root.layout) where
   pub after : Represents c w → BringsOn w old new run next
       → Represents (committed ((next.id, put) ∷ []) drops bytes layout c) (kept w new)
   after represents brings =
@@ -110,30 +116,32 @@ without_runs (drop ∷ drops) id was runs low =
     ∙ without_runs drops id was (All-tail (λ d. first_run ≤ d) drop drops runs) low
 
 module _ (c : Content) (id : ℕ) (put drops bytes : List ℕ) (layout : ℕ) (runs : All (λ i. first_run ≤ i) (id ∷ drops))
-    (layout_is : layout ≡ number_of First) where
-  same_at : (low : ℕ) → low < 5 → bytes_of (committed ((id, put) ∷ []) drops bytes layout c) low ≡ bytes_of c low
-  same_at low few =
-      let high : first_run ≤ id = All-head (λ i. first_run ≤ i) id drops runs in
-      let other : (id == low) ≡ false = grind (arith, nat_tests, high, few) in
-      bytes_after ((id, put) ∷ []) drops bytes layout c low
-      ∙ ap (λ (b : Bool). if b then Some put else without drops low (bytes_of c low)) other
-      ∙ without_runs drops low (bytes_of c low) (All-tail (λ i. first_run ≤ i) id drops runs) (omega (arith, few))
+  where
+    same_at : (low : ℕ) → low < 6 → bytes_of (committed ((id, put) ∷ []) drops bytes layout c) low ≡ bytes_of c low
+    same_at low few =
+        let high : first_run ≤ id = All-head (λ i. first_run ≤ i) id drops runs in
+        let other : (id == low) ≡ false = grind (arith, nat_tests, high, few) in
+        bytes_after ((id, put) ∷ []) drops bytes layout c low
+        ∙ ap (λ (b : Bool). if b then Some put else without drops low (bytes_of c low)) other
+        ∙ without_runs drops low (bytes_of c low) (All-tail (λ i. first_run ≤ i) id drops runs) (omega (arith, few))
 
-  -- it is the root of after, and the dimensions of before
-  pub loaded_next : (after : PlainRoot) → bytes ≡ roots.root_of after → after.layout ≡ First
-      → (rows : DimRows) (root : PlainRoot) → IsLoaded c rows root
-      → IsLoaded (committed ((id, put) ∷ []) drops bytes layout c) rows after
-  loaded_next after bytes_are first rows root is = record {
-    layout = layout_after ((id, put) ∷ []) drops bytes layout c ∙ layout_is;
-    has_rows = record {
-      customers = same_at 1 (omega arith) ∙ is.has_rows.customers;
-      suppliers = same_at 2 (omega arith) ∙ is.has_rows.suppliers;
-      parts = same_at 3 (omega arith) ∙ is.has_rows.parts;
-      dates = same_at 4 (omega arith) ∙ is.has_rows.dates;
-    };
-    of_layout = first;
-    root_bytes = root_after ((id, put) ∷ []) drops bytes layout c ∙ bytes_are;
-  }
+    -- it is the root of after, and the dimensions of before
+    pub loaded_next : (after : PlainRoot) → layout ≡ number_of after.layout → bytes ≡ roots.root_of after
+        → (rows : DimRows) (modes : List (List ℕ)) (root : PlainRoot) → after.layout ≡ root.layout
+        → IsLoaded c rows modes root → IsLoaded (committed ((id, put) ∷ []) drops bytes layout c) rows modes after
+    loaded_next after layout_is bytes_are rows modes root same is = record {
+      layout = layout_after ((id, put) ∷ []) drops bytes layout c ∙ layout_is;
+      has_rows = record {
+        customers = same_at 1 (omega arith) ∙ is.has_rows.customers;
+        suppliers = same_at 2 (omega arith) ∙ is.has_rows.suppliers;
+        parts = same_at 3 (omega arith) ∙ is.has_rows.parts;
+        dates = same_at 4 (omega arith) ∙ is.has_rows.dates;
+      };
+      has_modes = modes_still c (committed ((id, put) ∷ []) drops bytes layout c) after.layout modes
+          (same_at 5 (omega arith)) (subst (λ (l : Layout). HasModes c l modes) (sym same) is.has_modes);
+      are_modes = is.are_modes;
+      root_bytes = root_after ((id, put) ∷ []) drops bytes layout c ∙ bytes_are;
+    }
 
 -- ---- why it is refused
 

@@ -19,13 +19,11 @@ use Rattle.cuboid_upkeep.specs.Steps.{AreUnfit, HaveTooMany}
 use Rattle.cuboid_upkeep.proofs.CallerLemmas.{merge_refused}
 use Rattle.object_store.specs.Content.{Content}
 use Rattle.warehouse_root.specs.declared.cuboid.StoredCuboid.{StoredCuboid}
-use Rattle.warehouse_root.specs.Layouts.{views_of}
-use Rattle.warehouse_root.specs.Root.{IsProperCuboid, PlainRoot}
-use Rattle.warehouse_root.specs.declared.layout.Layout.{Layout}
-use Rattle.warehouse_root.specs.declared.layout.Layout.TheVariants.{First}
+use Rattle.warehouse_root.specs.Root.{PlainRoot}
 use Rattle.warehouse_objects.specs.Warehouse.{AreInOrder, Cuboid, Warehouse, modes_of}
 use Rattle.warehouse_objects.specs.Represents.{HoldsGroupings, Represents, rows_in}
 use Rattle.warehouse_objects.proofs.Batches.{foldable}
+use Rattle.warehouse_objects.proofs.CallerLemmas.{plain_view}
 use Rattle.cuboid_commits.specs.Nexts.{HasStored}
 use Rattle.cuboid_commits.proofs.Spans.{cuboid_known, rows_split}
 
@@ -36,9 +34,6 @@ no_mode view less = by view.ship_mode refl
     by : (b : Bool) → view.ship_mode ≡ b → view.ship_mode ≡ false
     by true e = let many : mode_number view.ship_mode ≡ 256 = ap mode_number e in absurd (omega (arith, less, many))
     by false e = e
-
-pub first_views : (layout : Layout) (n : ℕ) → layout ≡ First → n < views_of layout → n < 256
-first_views layout n first less = subst (λ (l : Layout). n < views_of l) first less
 
 -- the rows up to the end of a span are in range
 module _ (w : Warehouse) (order : AreInOrder w.rows w.batches) (span : Span) (some : span.from ≤ span.to)
@@ -138,10 +133,7 @@ count_of root said w old has = ap (λ (r : PlainRoot). length r.batches) has.roo
 
 -- the view of a warehouse's cuboid does not group by ship mode
 pub first_view : (c : Content) (root : PlainRoot) (said : StoredCuboid) (w : Warehouse) (old : Cuboid) (view : View)
-    → Represents c w → HasStored root said w old → IsProperCuboid root.layout (length root.batches) said
-    → index_of view ≡ said.view
-    → view.ship_mode ≡ false
-first_view c root said w old view represents has proper number =
-    let low = first_views root.layout said.view (ap (λ (r : PlainRoot). r.layout) has.root_is ∙ represents.first)
-    proper.view in
-    no_mode view (omega (arith, low, number))
+    → Represents c w → HasStored root said w old → index_of view ≡ said.view → view.ship_mode ≡ false
+first_view c root said w old view represents has number =
+    let low = plain_view c w represents said.view old has.found in
+    no_mode view (omega (arith, low, number, ap (λ (s : StoredCuboid). s.view) has.said_is))

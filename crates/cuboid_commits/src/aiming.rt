@@ -1,5 +1,5 @@
 //! The commit that sets the target of the stored cuboids.
-ghost use Rattle.std.specs.Prelude.{◌≡◌, ◌≢◌, ◌⊎◌, ◌+◌, [], false, IfErr, IsErrOf, OnErr, OnOk};
+ghost use Rattle.std.specs.Prelude.{◌≡◌, ◌≢◌, ◌⊎◌, ◌+◌, [], false, IfErr, IsErrOf, OnErr, OnOk, List, ℕ};
 ghost use Rattle.cube_model.specs.declared.fault.Fault.TheVariants.{Device, Failed};
 ghost use Rattle.cube_model.specs.declared.rows.DimRows.{DimRows};
 ghost use Rattle.object_store.specs.Disk.{Leaves};
@@ -52,9 +52,10 @@ pub fn aim<D: Sectors>(alloc: Global, store: &mut Store<D>, root: &mut Root) -> 
     ensures device { IsErrOf result Device → Breaks D.Sectors store.old store.new }
 
     // Also after an error.
-    ensures loaded { has_failed store.new ≡ false → D.keeps_word (device_of store.new) → (rows : DimRows)
-        → IsLoaded (content_of D.Sectors store.old) rows root.old
-        → IsLoaded (content_of D.Sectors store.new) rows root.new }
+    ensures loaded { has_failed store.new ≡ false → D.keeps_word (device_of store.new)
+        → (rows : DimRows) (modes : List (List ℕ))
+        → IsLoaded (content_of D.Sectors store.old) rows modes root.old
+        → IsLoaded (content_of D.Sectors store.new) rows modes root.new }
     ensures word { D.keeps_word (device_of store.new) → D.keeps_word (device_of store.old) }
 {
     let _usable = store.is_broken();

@@ -1,6 +1,6 @@
 //! Bringing one stored cuboid to the target.
 ghost use Rattle.std.specs.Prelude.{◌≡◌, ◌≢◌, ◌⊎◌, ◌↔◌, ◌<◌, ◌≤◌, ◌∷◌, [], All, Some, false, length, slice_get, IfErr};
-ghost use Rattle.std.specs.Prelude.{IfOk, IsErrOf, IsTrue, OnErr, OnOk};
+ghost use Rattle.std.specs.Prelude.{IfOk, IsErrOf, IsTrue, OnErr, OnOk, List, ℕ};
 ghost use Rattle.cube_model.specs.declared.fault.Fault.TheVariants.{BadLayout, Device, Failed, Memory, TooManyCells};
 ghost use Rattle.cube_model.specs.FaultNumbers.{number_of};
 ghost use Rattle.cube_model.specs.declared.rows.DimRows.{DimRows};
@@ -10,7 +10,6 @@ ghost use Rattle.object_store.specs.Store.{Breaks, IsAsBefore, Refuses, content_
 ghost use Rattle.object_store.specs.Store.{room_of};
 ghost use Rattle.lattice.specs.Views.{index_of};
 ghost use Rattle.warehouse_root.specs.Root.{IsProperCuboid, IsRoot};
-ghost use Rattle.warehouse_root.specs.declared.layout.Layout.TheVariants.{First};
 ghost use Rattle.warehouse_objects.specs.Loaded.{IsLoaded};
 ghost use Rattle.warehouse_objects.specs.Represents.{Represents};
 ghost use Rattle.warehouse_objects.specs.Warehouse.{Cuboid, Warehouse};
@@ -64,9 +63,10 @@ pub(crate) fn bring_on<D: Sectors>(
     ensures causes { IfErr result EndsBringing }
     ensures failed { IsErrOf result Failed → ⊥ }
     ensures device { IsErrOf result Device → Breaks D.Sectors store.old store.new }
-    ensures loaded { has_failed store.new ≡ false → D.keeps_word (device_of store.new) → (rows : DimRows)
-        → IsLoaded (content_of D.Sectors store.old) rows root.old
-        → IsLoaded (content_of D.Sectors store.new) rows root.new }
+    ensures loaded { has_failed store.new ≡ false → D.keeps_word (device_of store.new)
+        → (rows : DimRows) (modes : List (List ℕ))
+        → IsLoaded (content_of D.Sectors store.old) rows modes root.old
+        → IsLoaded (content_of D.Sectors store.new) rows modes root.new }
     ensures word { D.keeps_word (device_of store.new) → D.keeps_word (device_of store.old) }
 {
     let _usable = store.is_broken();
@@ -121,9 +121,9 @@ fn put_next<D: Sectors>(
     ensures ok { OnOk result ((w v : Warehouse) → StoreAt D.Sectors store.old root.old w
         → (D.keeps_word (device_of store.old) → IsBroughtBy w next v)
         → StoreAt D.Sectors store.new root.new v) }
-    ensures loaded { OnOk result (D.keeps_word (device_of store.new) → (rows : DimRows)
-        → IsLoaded (content_of D.Sectors store.old) rows root.old
-        → next.root.layout ≡ First → IsLoaded (content_of D.Sectors store.new) rows root.new) }
+    ensures loaded { OnOk result (D.keeps_word (device_of store.new) → (rows : DimRows) (modes : List (List ℕ))
+        → IsLoaded (content_of D.Sectors store.old) rows modes root.old
+        → next.root.layout ≡ root.old.layout → IsLoaded (content_of D.Sectors store.new) rows modes root.new) }
     ensures root { OnOk result (root.new ≡ next.root) }
     ensures unchanged { OnErr result (root.new ≡ root.old) }
     ensures fine { OnOk result (has_failed store.new ≡ false) }

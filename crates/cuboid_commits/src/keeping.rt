@@ -1,5 +1,6 @@
 //! The commit that brings a stored cuboid on.
-ghost use Rattle.std.specs.Prelude.{◌≡◌, ◌≢◌, ◌⊎◌, ◌<◌, ◌≤◌, ◌∷◌, [], All, false, length, IfErr, IsErrOf, OnOk};
+ghost use Rattle.std.specs.Prelude.{ℕ};
+ghost use Rattle.std.specs.Prelude.{◌≡◌, ◌≢◌, ◌⊎◌, ◌<◌, ◌≤◌, ◌∷◌, [], All, false, length, IfErr, IsErrOf, OnOk, List};
 ghost use Rattle.cube_model.specs.declared.fault.Fault.TheVariants.{Device, Failed};
 ghost use Rattle.cube_model.specs.declared.rows.DimRows.{DimRows};
 ghost use Rattle.wire.specs.Limits.{most_objects};
@@ -8,7 +9,6 @@ ghost use Rattle.object_store.specs.Disk.{Leaves};
 ghost use Rattle.object_store.specs.Store.{Breaks, IsAsBefore, Refuses, content_of, device_of, disk_of, has_failed};
 ghost use Rattle.object_store.specs.Store.{room_of};
 ghost use Rattle.warehouse_root.specs.Root.{IsRoot, PlainRoot};
-ghost use Rattle.warehouse_root.specs.declared.layout.Layout.TheVariants.{First};
 ghost use Rattle.warehouse_objects.specs.Loaded.{IsLoaded};
 ghost use Rattle.warehouse_objects.specs.Represents.{Represents};
 ghost use Rattle.warehouse_objects.specs.Warehouse.{Cuboid, StoredRun, Warehouse, kept};
@@ -57,9 +57,10 @@ pub fn keep_one<D: Sectors>(alloc: Global, store: &mut Store<D>, next: &Next) ->
     ensures ok { OnOk result ((w : Warehouse) (root : PlainRoot) (old new : Cuboid) (run : StoredRun)
         → StoreAt D.Sectors store.old root w → BringsOn w old new run next.now
         → StoreAt D.Sectors store.new next.now.root (kept w new)) }
-    ensures loaded { OnOk result (D.keeps_word (device_of store.new) → (rows : DimRows) (root : PlainRoot)
-        → IsLoaded (content_of D.Sectors store.old) rows root
-        → next.now.root.layout ≡ First → IsLoaded (content_of D.Sectors store.new) rows next.now.root) }
+    ensures loaded { OnOk result (D.keeps_word (device_of store.new)
+        → (rows : DimRows) (modes : List (List ℕ)) (root : PlainRoot)
+        → IsLoaded (content_of D.Sectors store.old) rows modes root
+        → next.now.root.layout ≡ root.layout → IsLoaded (content_of D.Sectors store.new) rows modes next.now.root) }
     ensures fine { OnOk result (has_failed store.new ≡ false) }
     ensures failures { OnOk result ((disk_of D.Sectors store.new).failures ≡ (disk_of D.Sectors store.old).failures) }
 
@@ -80,7 +81,7 @@ pub fn keep_one<D: Sectors>(alloc: Global, store: &mut Store<D>, next: &Next) ->
         &puts,
         next.drops.as_slice(),
         next.root_bytes.as_slice(),
-        Layout::First.number(),
+        next.root.layout().number(),
     ) {
         Ok(()) => Ok(()),
         Err(fault) => Err(fault),

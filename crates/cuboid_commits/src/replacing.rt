@@ -1,4 +1,5 @@
 //! The commit of another root.
+ghost use Rattle.std.specs.Prelude.{List, ℕ};
 ghost use Rattle.std.specs.Prelude.{◌≡◌, ◌≢◌, ◌⊎◌, ◌<◌, ◌≤◌, [], All, false, length, IfErr, IsErrOf, OnErr, OnOk};
 ghost use Rattle.cube_model.specs.declared.fault.Fault.TheVariants.{BadLayout, Device, Failed};
 ghost use Rattle.cube_model.specs.declared.rows.DimRows.{DimRows};
@@ -39,9 +40,9 @@ pub(crate) fn replace_root<D: Sectors>(
     ensures ok { OnOk result (D.keeps_word (device_of store.new)
         → content_of D.Sectors store.new ≡ replaced next drops.now (content_of D.Sectors store.old)) }
     ensures root { OnOk result (root.new ≡ next) }
-    ensures loaded { OnOk result (D.keeps_word (device_of store.new) → (rows : DimRows)
-        → IsLoaded (content_of D.Sectors store.old) rows root.old
-        → IsLoaded (content_of D.Sectors store.new) rows root.new) }
+    ensures loaded { OnOk result (D.keeps_word (device_of store.new) → (rows : DimRows) (modes : List (List ℕ))
+        → IsLoaded (content_of D.Sectors store.old) rows modes root.old
+        → IsLoaded (content_of D.Sectors store.new) rows modes root.new) }
     ensures fine { OnOk result (has_failed store.new ≡ false) }
     ensures failures { OnOk result ((disk_of D.Sectors store.new).failures ≡ (disk_of D.Sectors store.old).failures) }
 
@@ -66,7 +67,8 @@ pub(crate) fn replace_root<D: Sectors>(
         Ok(bytes) => bytes,
         Err(fault) => return Err(fault),
     };
-    match store.commit(alloc, &[], drops, bytes.as_slice(), Layout::First.number()) {
+    let layout = next.layout().number();
+    match store.commit(alloc, &[], drops, bytes.as_slice(), layout) {
         Ok(()) => {
             *root = next;
             Ok(())

@@ -1,5 +1,5 @@
 //! Bringing all stored cuboids to all batches.
-ghost use Rattle.std.specs.Prelude.{◌≡◌, ◌≢◌, ◌↔◌, All, IsTrue, false, length, IfErr, IfOk, IsErrOf};
+ghost use Rattle.std.specs.Prelude.{◌≡◌, ◌≢◌, ◌↔◌, All, IsTrue, false, length, IfErr, IfOk, IsErrOf, List, ℕ};
 ghost use Rattle.cube_model.specs.declared.fault.Fault.TheVariants.{BadLayout, Device, Failed};
 ghost use Rattle.cube_model.specs.declared.rows.DimRows.{DimRows};
 ghost use Rattle.object_store.specs.Disk.{Leaves};
@@ -56,9 +56,10 @@ pub fn keep_up<D: Sectors>(
     ensures device { IsErrOf result Device → Breaks D.Sectors store.old store.new }
 
     // What is kept in memory stays that of the content.
-    ensures loaded { has_failed store.new ≡ false → D.keeps_word (device_of store.new) → (rows : DimRows)
-        → IsLoaded (content_of D.Sectors store.old) rows root.old
-        → IsLoaded (content_of D.Sectors store.new) rows root.new }
+    ensures loaded { has_failed store.new ≡ false → D.keeps_word (device_of store.new)
+        → (rows : DimRows) (modes : List (List ℕ))
+        → IsLoaded (content_of D.Sectors store.old) rows modes root.old
+        → IsLoaded (content_of D.Sectors store.new) rows modes root.new }
     ensures word { D.keeps_word (device_of store.new) → D.keeps_word (device_of store.old) }
 {
     let _usable = store.is_broken();

@@ -1,6 +1,6 @@
 //! The commit that chooses which cuboids are stored.
-ghost use Rattle.std.specs.Prelude.{◌≡◌, ◌≢◌, ◌⊎◌, ◌≤◌, ◌==◌, ◌+◌, [], false, length, IfErr, IfOk, IsErrOf, OnErr};
-ghost use Rattle.std.specs.Prelude.{OnOk};
+ghost use Rattle.std.specs.Prelude.{◌≡◌, ◌≢◌, ◌⊎◌, ◌≤◌, ◌==◌, ◌+◌, [], false, length, IfErr, IfOk, IsErrOf, OnErr, ℕ};
+ghost use Rattle.std.specs.Prelude.{OnOk, List};
 ghost use Rattle.std.specs.List.{find};
 ghost use Rattle.cube_model.specs.declared.fault.Fault.TheVariants.{Device, Failed, Memory};
 ghost use Rattle.cube_model.specs.declared.rows.DimRows.{DimRows};
@@ -64,9 +64,10 @@ pub fn set_views<D: Sectors>(
     ensures device { IsErrOf result Device → Breaks D.Sectors store.old store.new }
 
     // Also after an error.
-    ensures loaded { has_failed store.new ≡ false → D.keeps_word (device_of store.new) → (rows : DimRows)
-        → IsLoaded (content_of D.Sectors store.old) rows root.old
-        → IsLoaded (content_of D.Sectors store.new) rows root.new }
+    ensures loaded { has_failed store.new ≡ false → D.keeps_word (device_of store.new)
+        → (rows : DimRows) (modes : List (List ℕ))
+        → IsLoaded (content_of D.Sectors store.old) rows modes root.old
+        → IsLoaded (content_of D.Sectors store.new) rows modes root.new }
     ensures word { D.keeps_word (device_of store.new) → D.keeps_word (device_of store.old) }
 {
     let _usable = store.is_broken();

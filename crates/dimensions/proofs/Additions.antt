@@ -8,6 +8,7 @@ use Rattle.cube_model.specs.declared.attr.Axis.{Axis}
 use Rattle.cube_model.specs.declared.fault.Fault.{Fault}
 use Rattle.cube_model.specs.declared.fault.Fault.TheVariants.{DuplicateKey, HierarchyBroken, ReservedMember}
 use Rattle.cube_model.specs.declared.fault.Fault.TheVariants.{TooManyMembers, TooManyRows, Memory}
+use Rattle.cube_model.specs.declared.fault.MemberPlace.TheVariants.{InDimension}
 use Rattle.cube_model.specs.Causes.{first_cause, cause_if}
 use Rattle.cube_model.specs.Validity.{Rules, row_cause, rows_cause, dimension_cause}
 use Rattle.dimensions.specs.declared.table.Table.{Table}
@@ -61,8 +62,10 @@ module _ {Row : Type 0} (rules_of : Rules Row) where
 from_none : (fault : Fault) → counted_after 0 fault ≡ fault
 from_none (DuplicateKey axis row) = let e : row - 0 ≡ row = omega arith in ap (DuplicateKey axis) e
 from_none (HierarchyBroken axis row) = let e : row - 0 ≡ row = omega arith in ap (HierarchyBroken axis) e
-from_none (ReservedMember axis row) = let e : row - 0 ≡ row = omega arith in ap (ReservedMember axis) e
-from_none (TooManyMembers axis row) = let e : row - 0 ≡ row = omega arith in ap (TooManyMembers axis) e
+from_none (ReservedMember (InDimension axis row)) =
+    let e : row - 0 ≡ row = omega arith in ap (λ n. ReservedMember (InDimension axis n)) e
+from_none (TooManyMembers (InDimension axis row)) =
+    let e : row - 0 ≡ row = omega arith in ap (λ n. TooManyMembers (InDimension axis n)) e
 from_none _ = refl
 
 all_from_none : (cause : Option Fault) → option_map (counted_after 0) cause ≡ cause
@@ -72,12 +75,12 @@ all_from_none (Some fault) = ap (λ f. Some f) (from_none fault)
 -- a fault that names no row of a dimension
 pub names_no_row : (count : ℕ) (fault : Fault) → ((axis : Axis) (row : ℕ) → fault ≡ DuplicateKey axis row → ⊥)
     → ((axis : Axis) (row : ℕ) → fault ≡ HierarchyBroken axis row → ⊥)
-    → ((axis : Axis) (row : ℕ) → fault ≡ ReservedMember axis row → ⊥)
-    → ((axis : Axis) (row : ℕ) → fault ≡ TooManyMembers axis row → ⊥) → fault ≡ counted_after count fault
+    → ((axis : Axis) (row : ℕ) → fault ≡ ReservedMember (InDimension axis row) → ⊥)
+    → ((axis : Axis) (row : ℕ) → fault ≡ TooManyMembers (InDimension axis row) → ⊥) → fault ≡ counted_after count fault
 names_no_row count (DuplicateKey axis row) key link name room = absurd (key axis row refl)
 names_no_row count (HierarchyBroken axis row) key link name room = absurd (link axis row refl)
-names_no_row count (ReservedMember axis row) key link name room = absurd (name axis row refl)
-names_no_row count (TooManyMembers axis row) key link name room = absurd (room axis row refl)
+names_no_row count (ReservedMember (InDimension axis row)) key link name room = absurd (name axis row refl)
+names_no_row count (TooManyMembers (InDimension axis row)) key link name room = absurd (room axis row refl)
 names_no_row count _ key link name room = refl
 
 -- ---- tables

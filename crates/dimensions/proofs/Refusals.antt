@@ -6,6 +6,7 @@ use Rattle.std.specs.List.{list_any}
 use Rattle.std.proofs.lemmas.List.{map-append, length-map}
 use Rattle.cube_model.specs.declared.fault.Fault.TheVariants.{DuplicateKey, ReservedMember, TooManyMembers}
 use Rattle.cube_model.specs.declared.fault.Fault.TheVariants.{HierarchyBroken, TooManyRows}
+use Rattle.cube_model.specs.declared.fault.MemberPlace.TheVariants.{InDimension}
 use Rattle.cube_model.specs.Causes.{first_cause, cause_if}
 use Rattle.cube_model.specs.Validity.{members_of, Rules, repeats_key, names_all, overflows, breaks_link, row_cause}
 use Rattle.cube_model.specs.Validity.{rows_cause, dimension_cause}
@@ -16,33 +17,33 @@ module _ {Row : Type 0} (rules_of : Rules Row) (earlier : List Row) (row : Row) 
       → row_cause rules_of earlier row ≡ None
   no_cause a b c d = λ i. first_cause (
       cause_if (a i) (DuplicateKey rules_of.axis (length earlier + 1))
-      ∷ cause_if (b i) (ReservedMember rules_of.axis (length earlier + 1))
-      ∷ cause_if (c i) (TooManyMembers rules_of.axis (length earlier + 1))
+      ∷ cause_if (b i) (ReservedMember (InDimension rules_of.axis (length earlier + 1)))
+      ∷ cause_if (c i) (TooManyMembers (InDimension rules_of.axis (length earlier + 1)))
       ∷ cause_if (d i) (HierarchyBroken rules_of.axis (length earlier + 1)) ∷ [])
 
   pub cause_repeats : repeats_key rules_of earlier row ≡ true
       → row_cause rules_of earlier row ≡ Some (DuplicateKey rules_of.axis (length earlier + 1))
   cause_repeats a = λ i. first_cause (
       cause_if (a i) (DuplicateKey rules_of.axis (length earlier + 1))
-      ∷ cause_if (names_all rules_of row) (ReservedMember rules_of.axis (length earlier + 1))
-      ∷ cause_if (overflows rules_of earlier row) (TooManyMembers rules_of.axis (length earlier + 1))
+      ∷ cause_if (names_all rules_of row) (ReservedMember (InDimension rules_of.axis (length earlier + 1)))
+      ∷ cause_if (overflows rules_of earlier row) (TooManyMembers (InDimension rules_of.axis (length earlier + 1)))
       ∷ cause_if (breaks_link rules_of earlier row) (HierarchyBroken rules_of.axis (length earlier + 1)) ∷ [])
 
   pub cause_names : repeats_key rules_of earlier row ≡ false → names_all rules_of row ≡ true
-      → row_cause rules_of earlier row ≡ Some (ReservedMember rules_of.axis (length earlier + 1))
+      → row_cause rules_of earlier row ≡ Some (ReservedMember (InDimension rules_of.axis (length earlier + 1)))
   cause_names a b = λ i. first_cause (
       cause_if (a i) (DuplicateKey rules_of.axis (length earlier + 1))
-      ∷ cause_if (b i) (ReservedMember rules_of.axis (length earlier + 1))
-      ∷ cause_if (overflows rules_of earlier row) (TooManyMembers rules_of.axis (length earlier + 1))
+      ∷ cause_if (b i) (ReservedMember (InDimension rules_of.axis (length earlier + 1)))
+      ∷ cause_if (overflows rules_of earlier row) (TooManyMembers (InDimension rules_of.axis (length earlier + 1)))
       ∷ cause_if (breaks_link rules_of earlier row) (HierarchyBroken rules_of.axis (length earlier + 1)) ∷ [])
 
   pub cause_overflows : repeats_key rules_of earlier row ≡ false → names_all rules_of row ≡ false
       → overflows rules_of earlier row ≡ true
-      → row_cause rules_of earlier row ≡ Some (TooManyMembers rules_of.axis (length earlier + 1))
+      → row_cause rules_of earlier row ≡ Some (TooManyMembers (InDimension rules_of.axis (length earlier + 1)))
   cause_overflows a b c = λ i. first_cause (
       cause_if (a i) (DuplicateKey rules_of.axis (length earlier + 1))
-      ∷ cause_if (b i) (ReservedMember rules_of.axis (length earlier + 1))
-      ∷ cause_if (c i) (TooManyMembers rules_of.axis (length earlier + 1))
+      ∷ cause_if (b i) (ReservedMember (InDimension rules_of.axis (length earlier + 1)))
+      ∷ cause_if (c i) (TooManyMembers (InDimension rules_of.axis (length earlier + 1)))
       ∷ cause_if (breaks_link rules_of earlier row) (HierarchyBroken rules_of.axis (length earlier + 1)) ∷ [])
 
   pub cause_breaks : repeats_key rules_of earlier row ≡ false → names_all rules_of row ≡ false
@@ -50,8 +51,8 @@ module _ {Row : Type 0} (rules_of : Rules Row) (earlier : List Row) (row : Row) 
       → row_cause rules_of earlier row ≡ Some (HierarchyBroken rules_of.axis (length earlier + 1))
   cause_breaks a b c d = λ i. first_cause (
       cause_if (a i) (DuplicateKey rules_of.axis (length earlier + 1))
-      ∷ cause_if (b i) (ReservedMember rules_of.axis (length earlier + 1))
-      ∷ cause_if (c i) (TooManyMembers rules_of.axis (length earlier + 1))
+      ∷ cause_if (b i) (ReservedMember (InDimension rules_of.axis (length earlier + 1)))
+      ∷ cause_if (c i) (TooManyMembers (InDimension rules_of.axis (length earlier + 1)))
       ∷ cause_if (d i) (HierarchyBroken rules_of.axis (length earlier + 1)) ∷ [])
 
 list_any-map : {A B : Type 0} (p : B → Bool) (f : A → B) (xs : List A)
@@ -111,8 +112,9 @@ module _ {A B : Type 0} (to : Rules B) (f : A → B) where
       → row_cause (rules_through to f) earlier row ≡ row_cause to (map f earlier) (f row)
   row_cause-through earlier row = λ i. first_cause (
       cause_if (repeats-through earlier row i) (DuplicateKey to.axis (sym (length-map earlier f) i + 1))
-      ∷ cause_if (names-through row i) (ReservedMember to.axis (sym (length-map earlier f) i + 1))
-      ∷ cause_if (overflows-through earlier row i) (TooManyMembers to.axis (sym (length-map earlier f) i + 1))
+      ∷ cause_if (names-through row i) (ReservedMember (InDimension to.axis (sym (length-map earlier f) i + 1)))
+      ∷ cause_if (overflows-through earlier row i)
+      (TooManyMembers (InDimension to.axis (sym (length-map earlier f) i + 1)))
       ∷ cause_if (breaks-through earlier row i) (HierarchyBroken to.axis (sym (length-map earlier f) i + 1)) ∷ [])
 
   pub rows_cause-through : (earlier rows : List A)

@@ -10,6 +10,7 @@ use Rattle.cube_model.specs.declared.attr.Axis.{Axis}
 use Rattle.cube_model.specs.declared.fault.Fault.{Fault}
 use Rattle.cube_model.specs.declared.fault.Fault.TheVariants.{DuplicateKey, ReservedMember, TooManyMembers}
 use Rattle.cube_model.specs.declared.fault.Fault.TheVariants.{HierarchyBroken, Memory}
+use Rattle.cube_model.specs.declared.fault.MemberPlace.TheVariants.{InDimension}
 use Rattle.cube_model.specs.Validity.{members_of, repeats_key, names_all, overflows, breaks_link}
 use Rattle.dictionary.specs.Dictionary.{firsts}
 use Rattle.dictionary.proofs.CallerLemmas.{bytes_eq-same, bytes_eq-refl, bytes_eq-apart, list_any-map, list_any_place}
@@ -94,12 +95,13 @@ module _ (axis : Axis) (rows : List TextRow) (old : Table) (row : TextRow) (is :
       new_key = repeats_is ∙ grind arith
 
       pub refuses_name : (i : ℕ) × (i < length old.columns.items) × (bytes_eq (codes "ALL") (text_in i row) ≡ true)
-          → AddsRow axis rows row new (Err (ReservedMember axis n))
+          → AddsRow axis rows row new (Err (ReservedMember (InDimension axis n)))
       refuses_name named =
           let some : names_all (text_rules axis) row ≡ true =
           texts_some (λ text. bytes_eq (codes "ALL") (text row)) (lowers_of axis) named.0
           (omega (arith, named.1, is.count)) named.2 in
-          inr (cause_names (text_rules axis) rows row new_key some ∙ ap (λ m. Some (ReservedMember axis m)) numbered)
+          inr (cause_names (text_rules axis) rows row new_key some
+          ∙ ap (λ m. Some (ReservedMember (InDimension axis m))) numbered)
 
       module _ (unnamed : (i : ℕ) → i < length old.columns.items → bytes_eq (codes "ALL") (text_in i row) ≡ false) where
         no_name : names_all (text_rules axis) row ≡ false
@@ -122,13 +124,13 @@ module _ (axis : Axis) (rows : List TextRow) (old : Table) (row : TextRow) (is :
             omega (arith, lacks.1, ap length column.texts_are) in
             grind arith
 
-        pub refuses_room : HasNoRoom old row → AddsRow axis rows row new (Err (TooManyMembers axis n))
+        pub refuses_room : HasNoRoom old row → AddsRow axis rows row new (Err (TooManyMembers (InDimension axis n)))
         refuses_room none =
             let some : overflows (text_rules axis) rows row ≡ true =
             texts_some (λ text. nat_lt 65535 (length (members_of (map text (rows ++ row ∷ []))))) (lowers_of axis)
             none.0 (omega (arith, none.1, is.count)) (overflow_at none.0 none.1 none.2) in
             inr (cause_overflows (text_rules axis) rows row new_key no_name some
-            ∙ ap (λ m. Some (TooManyMembers axis m)) numbered)
+            ∙ ap (λ m. Some (TooManyMembers (InDimension axis m))) numbered)
 
         module _ (numbers : List ℕ) (numbers_are : Numbers old row numbers) where
           fits_at : (i : ℕ) → i < length (lowers_of axis)

@@ -4,6 +4,7 @@ use Rattle.std.specs.Option.{option_map}
 use Rattle.cube_model.specs.declared.fault.Fault.{Fault}
 use Rattle.cube_model.specs.declared.fault.Fault.TheVariants.{DuplicateKey, HierarchyBroken, ReservedMember}
 use Rattle.cube_model.specs.declared.fault.Fault.TheVariants.{TooManyMembers}
+use Rattle.cube_model.specs.declared.fault.MemberPlace.TheVariants.{InDimension}
 use Rattle.cube_model.specs.declared.rows.DimRows.{DimRows}
 use Rattle.cube_model.specs.Causes.{first_cause}
 use Rattle.cube_model.specs.Validity.{Rules, customer_rules, supplier_rules, part_rules, date_rules, dimension_cause}
@@ -21,8 +22,8 @@ joined old new = record {
 abbrev pub counted_after : ℕ → Fault → Fault
 counted_after count (DuplicateKey axis row) = DuplicateKey axis (row - count)
 counted_after count (HierarchyBroken axis row) = HierarchyBroken axis (row - count)
-counted_after count (ReservedMember axis row) = ReservedMember axis (row - count)
-counted_after count (TooManyMembers axis row) = TooManyMembers axis (row - count)
+counted_after count (ReservedMember (InDimension axis row)) = ReservedMember (InDimension axis (row - count))
+counted_after count (TooManyMembers (InDimension axis row)) = TooManyMembers (InDimension axis (row - count))
 counted_after count fault = fault
 
 -- The first cause to refuse a dimension's rows followed by others. Rows count from 1 among the others.

@@ -18,7 +18,7 @@ use crate::members::is_all;
 use crate::ranks::Ranks;
 use crate::row::TableRow;
 use crate::shape::{COLUMN_LIMIT, column_count, lower_column, row_limit};
-use cube_model::{Axis, Fault};
+use cube_model::{Axis, Fault, MemberPlace};
 use std::alloc::Global;
 
 /// The rows of a dimension: the key of each, and a column of texts for each of its attributes.
@@ -140,11 +140,13 @@ impl Table {
             return Err(Fault::DuplicateKey { axis, row: number });
         }
         if names_all(row, self.columns.len()) {
-            return Err(Fault::ReservedMember { axis, row: number });
+            let place = MemberPlace::InDimension { axis, row: number };
+            return Err(Fault::ReservedMember { place });
         }
         let mut codes = [0; COLUMN_LIMIT];
         if !self.number(row, &mut codes) {
-            return Err(Fault::TooManyMembers { axis, row: number });
+            let place = MemberPlace::InDimension { axis, row: number };
+            return Err(Fault::TooManyMembers { place });
         }
         if !self.enter(alloc, row, &codes)? {
             return Err(Fault::HierarchyBroken { axis, row: number });
@@ -336,13 +338,21 @@ fn counted_after(before: u32, fault: Fault) -> Fault
             axis,
             row: row.saturating_sub(before),
         },
-        Fault::ReservedMember { axis, row } => Fault::ReservedMember {
-            axis,
-            row: row.saturating_sub(before),
+        Fault::ReservedMember {
+            place: MemberPlace::InDimension { axis, row },
+        } => Fault::ReservedMember {
+            place: MemberPlace::InDimension {
+                axis,
+                row: row.saturating_sub(before),
+            },
         },
-        Fault::TooManyMembers { axis, row } => Fault::TooManyMembers {
-            axis,
-            row: row.saturating_sub(before),
+        Fault::TooManyMembers {
+            place: MemberPlace::InDimension { axis, row },
+        } => Fault::TooManyMembers {
+            place: MemberPlace::InDimension {
+                axis,
+                row: row.saturating_sub(before),
+            },
         },
         other => other,
     }

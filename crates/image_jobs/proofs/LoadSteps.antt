@@ -105,8 +105,9 @@ module _ {D : Type 0} (g : Ghosts D) (facts : Facts) (w : Warehouse) (first size
   batch_refuses session v number rows fault why = ⊎_elim (λ other. inr (inl other))
       (λ unknown. ⊎_elim (λ memory. inl memory.0)
       (λ more. ⊎_elim (λ refused. inr (inr (more.0, inl refused)))
+      (⊎_elim (λ memory. inl memory.0)
       (λ full. ⊎_elim (λ memory. inl memory)
-      (λ room. inr (inr (more.0, inr (full.0, ⊎_elim (λ worn. inr worn.0) (λ none. inl none.0) room)))) full.1)
+      (λ room. inr (inr (more.0, inr (full.0, ⊎_elim (λ worn. inr worn.0) (λ none. inl none.0) room)))) full.1))
       more.1)
       unknown)
       why

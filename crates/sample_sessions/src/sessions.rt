@@ -4,7 +4,7 @@ use dimensions::Dims;
 use sample_star::{FACTS, Fact, STAR, Star, dim_rows, line_orders};
 use sector_device::{MemDisk, Sectors};
 use std::alloc::Global;
-use warehouse::{Session, Status, create, open, open_as_is};
+use warehouse::{Layout, Session, Status, create, open, open_as_is};
 
 /// The dimensions of the sample star.
 pub fn sample_dims(alloc: Global) -> Result<Dims, Fault> {
@@ -92,10 +92,11 @@ pub fn loaded(alloc: Global, batches: u32) -> Result<Session<MemDisk>, Fault> {
     Ok(session)
 }
 
-/// The status of a warehouse of so many batches with so many rows together, which took a commit for each. Nothing was
-/// added to its dimensions.
+/// The status of a warehouse of the first layout, of so many batches with so many rows together, which took a commit
+/// for each. Nothing was added to its dimensions.
 pub fn status(batches: u32, rows: u64) -> Status {
     Status {
+        layout: Layout::First,
         batches,
         rows,
         additions: 0,

@@ -15,13 +15,12 @@ use Rattle.cuboid_upkeep.specs.Grouping.{RepresentRows}
 use Rattle.cuboid_upkeep.specs.Lawful.{CellsAreTheOne}
 use Rattle.cuboid_upkeep.specs.Steps.{HaveTooMany}
 use Rattle.warehouse_root.specs.declared.cuboid.StoredCuboid.{StoredCuboid}
-use Rattle.warehouse_root.specs.Layouts.{views_of}
 use Rattle.warehouse_objects.proofs.CallerLemmas.{own_view}
 use Rattle.warehouse_objects.specs.Represents.{IsLaidOut, said_of}
 use Rattle.warehouse_objects.specs.Warehouse.{Cuboid, Warehouse, cuboid_at, modes_of}
 use Rattle.stored_cuboids.specs.Merged.{HasMerge, IsSound}
 use Rattle.stored_cuboids.proofs.Merging.{merged_one}
-use Rattle.stored_cuboids.proofs.StoredRuns.{is_proper}
+use Rattle.warehouse_objects.proofs.CallerLemmas.{plain_view}
 use Rattle.cuboid_cells.specs.Steps.{cells_of}
 
 -- ---- cells that group rows
@@ -73,7 +72,7 @@ no_mode view below = elim view.ship_mode as (λ t. view.ship_mode ≡ t → t �
 pub stored_mode : (c : Content) (w : Warehouse) (view : ℕ) (stored : Cuboid) (cells : PlainCells) → IsLaidOut c w
     → cuboid_at view w.cuboids ≡ Some stored → index_of cells.view ≡ index_of stored.view → cells.view.ship_mode ≡ false
 stored_mode c w view stored cells laid found same =
-    no_mode cells.view (omega (arith, same, (is_proper c w view stored laid found).view, ap views_of laid.first))
+    no_mode cells.view (omega (arith, same, plain_view c w laid view stored found))
 
 -- ---- the cuboids of a root
 

@@ -1,7 +1,7 @@
 //! A dimension row that breaks a rule of its table.
 use crate::quoted::Quoted;
 use crate::refusals::row_limits;
-use cube_model::{Attr, Axis, DimRows, Fault};
+use cube_model::{Attr, Axis, DimRows, Fault, MemberPlace};
 use dimensions::Dims;
 use std::alloc::Global;
 use std::fmt;
@@ -19,8 +19,12 @@ pub fn rows_hint(
     match fault {
         Fault::DuplicateKey { axis, row } => key_hint(alloc, path, rows, axis, row),
         Fault::HierarchyBroken { axis, row } => upper_hint(alloc, path, rows, stored, axis, row),
-        Fault::ReservedMember { row, .. } => reserved(alloc, path, row),
-        Fault::TooManyMembers { row, .. } => crowded(alloc, path, row),
+        Fault::ReservedMember {
+            place: MemberPlace::InDimension { row, .. },
+        } => reserved(alloc, path, row),
+        Fault::TooManyMembers {
+            place: MemberPlace::InDimension { row, .. },
+        } => crowded(alloc, path, row),
         Fault::TooManyRows if stored.is_some() => {
             row_limits(alloc, "with the rows of the warehouse, ")
         }

@@ -15,7 +15,7 @@ mod text_lines;
 
 pub use dimension_lines::rows_hint;
 pub use files::Table;
-pub use loads::{Cut, KeyAt, key_hint, loaded_key_hint, number_hint};
+pub use loads::{Cut, KeyAt, key_hint, loaded_key_hint, number_hint, refused_mode};
 pub use needs::{Needs, row_count};
 pub use refusals::{limit_hint, row_limits};
 pub use text_lines::line_hint;

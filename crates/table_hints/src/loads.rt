@@ -1,9 +1,10 @@
 //! A fact row that is refused.
+ghost use Rattle.std.specs.Option.{option_map};
 ghost use Rattle.std.specs.Prelude.{◌≡◌, ◌≤◌, ◌<◌, ◌^◌};
-ghost use Rattle.table_hints.specs.Places.{batch_of};
+ghost use Rattle.table_hints.specs.Places.{batch_of, refused_row};
 
 use cube_model::limits::{MOST_BATCH_ROWS, MOST_BATCHES};
-use cube_model::{Axis, Fault};
+use cube_model::{Axis, Fault, MemberPlace};
 use std::alloc::Global;
 
 /// How a load cuts a file into batches: the number of the first, and the rows of each.
@@ -50,6 +51,24 @@ pub fn loaded_key_hint(alloc: Global, at: KeyAt<'_>, batch: u32) -> Result<Strin
         "batch {batch}, line {line} of {path}: {axis} {key} is in no {axis} row of the warehouse; ssbcube add adds one"
     )?;
     Ok(said)
+}
+
+/// The row for whose ship mode a batch is refused, and what is said of it. Nothing where that is not the fault.
+pub fn refused_mode(fault: Fault) -> Option<(u32, &'static str)>
+    ensures { option_map (λ found. found.0) result ≡ refused_row fault }
+{
+    match fault {
+        Fault::ReservedMember {
+            place: MemberPlace::InBatch { row },
+        } => Some((
+            row,
+            "the ship mode ALL is reserved: it means every ship mode",
+        )),
+        Fault::TooManyMembers {
+            place: MemberPlace::InBatch { row },
+        } => Some((row, "the 65536th ship mode, and there may be 65535")),
+        _ => None,
+    }
 }
 
 // The batch of a line.

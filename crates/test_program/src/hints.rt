@@ -1,11 +1,11 @@
 //! What is said after a refusal that no page shows, and the names that hints know.
-use cube_model::{Axis, Fault};
+use cube_model::{Axis, Fault, MemberPlace};
 use query_words::{Known, QueryWords, nearest, read_query};
 use sample_sessions::sample_dims;
 use sample_star::{STAR, dim_rows};
 use std::alloc::Global;
 use std::test::Fail;
-use table_hints::{Cut, KeyAt, limit_hint, loaded_key_hint, number_hint, rows_hint};
+use table_hints::{Cut, KeyAt, limit_hint, loaded_key_hint, number_hint, refused_mode, rows_hint};
 
 /// A fault of the sample's dimension rows, the name of their file, and what is said, first of the rows alone and then
 /// of rows that are added to a warehouse that has them.
@@ -20,8 +20,10 @@ static ROWS: [RowsCase; 6] = [
     ),
     (
         Fault::TooManyMembers {
-            axis: Axis::Customer,
-            row: 70_000,
+            place: MemberPlace::InDimension {
+                axis: Axis::Customer,
+                row: 70_000,
+            },
         },
         "customer.tbl",
         "customer.tbl line 70000: the 65536th member of a column, and there may be 65535",
@@ -125,6 +127,29 @@ fn a_limit_and_a_key_have_their_lines(rt: HostRuntime) -> Result<(), Fail> {
         "batch 6, line 3 of lineorder.tbl: date 19971202 is in no date row of the warehouse; ssbcube add adds one"
     );
     Ok(())
+}
+
+/// Where a member is that is one too many, and what is said where that is a ship mode of a load.
+static MODES: [(MemberPlace, Option<(u32, &str)>); 3] = [
+    (
+        MemberPlace::InBatch { row: 7 },
+        Some((7, "the 65536th ship mode, and there may be 65535")),
+    ),
+    (MemberPlace::InStoredBatch { batch: 1, row: 7 }, None),
+    (
+        MemberPlace::InDimension {
+            axis: Axis::Part,
+            row: 7,
+        },
+        None,
+    ),
+];
+
+#[test]
+fn one_ship_mode_too_many_has_its_line(rt: HostRuntime) {
+    for (place, said) in MODES {
+        assert_eq!(rt; refused_mode(Fault::TooManyMembers { place }), said);
+    }
 }
 
 // The words of a query with a word where names of its kind may be.

@@ -10,7 +10,7 @@ ghost use Rattle.test_texts.specs.Examples.{range_query, range_lines, empty_quer
 ghost use Rattle.test_texts.specs.Examples.{falling_lines};
 ghost use Rattle.cube_model.specs.Validity.{invalid_cause};
 
-use cube_model::{Agg, Axis, Fault, Measure, Place};
+use cube_model::{Agg, Axis, Fault, Measure, MemberPlace, Place};
 
 /// A sum under conditions on an attribute, the discount and the quantity.
 fn discounted_example()
@@ -81,7 +81,7 @@ fn valid_example()
 fn reserved_example()
     ensures { invalid_cause
         (with_customers (kingdom_customer 1 ∷ customer 2 (codes "X") (codes "ALL") (codes "EUROPE") ∷ []))
-        ≡ Some (Fault.ReservedMember Axis.Customer 2) }
+        ≡ Some (Fault.ReservedMember (MemberPlace.InDimension Axis.Customer 2)) }
 {}
 
 /// A city of two nations is refused at the second.

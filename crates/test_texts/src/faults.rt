@@ -1,9 +1,9 @@
 //! Printed faults.
-use cube_model::{Axis, Fault, Measure, Place};
+use cube_model::{Axis, Fault, Measure, MemberPlace, Place};
 use std::alloc::{AllocError, Global};
 
 /// The number and the printed text of each fault.
-static FAULTS: [(u8, Fault, &str); 33] = [
+static FAULTS: [(u8, Fault, &str); 35] = [
     (1, Fault::Memory, "fault 1 Memory"),
     (2, Fault::Device, "fault 2 Device"),
     (3, Fault::Failed, "fault 3 Failed"),
@@ -57,10 +57,19 @@ static FAULTS: [(u8, Fault, &str); 33] = [
     (
         14,
         Fault::ReservedMember {
-            axis: Axis::Date,
-            row: 3,
+            place: MemberPlace::InDimension {
+                axis: Axis::Date,
+                row: 3,
+            },
         },
         "fault 14 ReservedMember date row 3",
+    ),
+    (
+        14,
+        Fault::ReservedMember {
+            place: MemberPlace::InBatch { row: 2 },
+        },
+        "fault 14 ReservedMember row 2",
     ),
     (
         15,
@@ -103,10 +112,19 @@ static FAULTS: [(u8, Fault, &str); 33] = [
     (
         27,
         Fault::TooManyMembers {
-            axis: Axis::Supplier,
-            row: 9,
+            place: MemberPlace::InDimension {
+                axis: Axis::Supplier,
+                row: 9,
+            },
         },
         "fault 27 TooManyMembers supplier row 9",
+    ),
+    (
+        27,
+        Fault::TooManyMembers {
+            place: MemberPlace::InStoredBatch { batch: 1, row: 2 },
+        },
+        "fault 27 TooManyMembers batch 1 row 2",
     ),
     (28, Fault::Worn, "fault 28 Worn"),
     (29, Fault::Input, "fault 29 Input"),

@@ -1,5 +1,5 @@
 //! Runs of commands that add rows to the dimensions.
-use cube_model::{Attr, Axis, Fault};
+use cube_model::{Attr, Axis, Fault, MemberPlace};
 use sample_sessions::{Expected, Given, Lines, Numbers, first_other_reply};
 use sample_star::{
     Asked, BY_CITY, Day, EVERY_ROW, FIRST_CUSTOMER, FIRST_DAY, FIRST_FACT, FIRST_PART,
@@ -113,8 +113,10 @@ static ONE_CUSTOMER_MORE: [(Given, Expected); 22] = [
     (
         Given::Add(2, RESERVED),
         Expected::Refused(Fault::ReservedMember {
-            axis: Axis::Supplier,
-            row: 1,
+            place: MemberPlace::InDimension {
+                axis: Axis::Supplier,
+                row: 1,
+            },
         }),
     ),
     (

@@ -1,5 +1,5 @@
 -- A session and its store, for the commits of cuboids and for audits.
-use Rattle.std.proofs.Common.{◌≡◌, sym}
+use Rattle.std.proofs.Common.{◌≡◌, ℕ, List, sym}
 use Rattle.sector_device.specs.declared.device.Sectors.{Ghosts}
 use Rattle.object_store.specs.Content.{Content}
 use Rattle.warehouse_objects.specs.Loaded.{IsLoaded}
@@ -15,12 +15,14 @@ use Rattle.warehouse.specs.Upkeep.{IsLaidAt}
 module _ {D : Type 0} (g : Ghosts D) (w : Warehouse) where
   -- what `kept_is_represented` says of a session
   abbrev pub Tells : Session D g → Type 0
-  Tells session = (c : Content) (v : Warehouse) → IsLoaded c session.dims.value session.root → Represents c v
+  Tells session = (c : Content) (v : Warehouse) (modes : List (List ℕ))
+      → IsLoaded c session.dims.value modes session.root → Represents c v
       → Agrees v session.dims.value session.root
 
   pub agrees : (session : Session D g) → IsAt g session w → Tells session → (disk_of g session).keeps_word
       → Agrees w session.dims.value session.root
-  agrees session at tells k = tells (content_of g session) w (session.loaded at.fine k) (at.represents k)
+  agrees session at tells k =
+      tells (content_of g session) w session.modes (session.loaded at.fine k) (at.represents k)
 
   -- its store, with the root in memory
   pub kept_at : (session : Session D g) → IsAt g session w → Tells session

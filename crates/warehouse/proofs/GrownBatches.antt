@@ -1,6 +1,6 @@
 -- A batch that grows.
 use Rattle.std.proofs.Common.{◌≡◌, ◌≤◌, arith, ℕ, true, false, List, [], ◌∷◌, ◌++◌, All, map, length, Option, Some}
-use Rattle.std.proofs.Common.{None, is_some, refl, sym, ap, ◌∙◌, inr}
+use Rattle.std.proofs.Common.{None, is_some, refl, sym, subst, ap, ◌∙◌, inr}
 use Rattle.std.specs.Prelude.{Result, Ok, Err, IfOk, IfErr}
 use Rattle.std.specs.List.{AllByRecursion}
 use Rattle.std.proofs.lemmas.List.{map-append}
@@ -9,7 +9,7 @@ use Rattle.cube_model.specs.declared.fault.Fault.{Fault}
 use Rattle.cube_model.specs.declared.fault.Fault.TheVariants.{Memory}
 use Rattle.cube_model.specs.declared.rows.DimRows.{DimRows}
 use Rattle.cube_model.specs.declared.rows.LineOrder.{LineOrder}
-use Rattle.cube_model.specs.Admission.{all_rows, long_text}
+use Rattle.cube_model.specs.Admission.{all_rows, long_text, refusal}
 use Rattle.cube_model.specs.Limits.{most_batch_rows}
 use Rattle.column_segment.specs.Columns.{Column, FitsColumn, number_columns}
 use Rattle.column_segment.specs.Encoding.{HaveRows}
@@ -22,9 +22,12 @@ use Rattle.warehouse_root.specs.declared.totals.StoredTotals.{StoredTotals}
 use Rattle.warehouse_root.specs.Root.{PlainRoot, with_batch}
 use Rattle.warehouse_objects.proofs.CallerLemmas.{batch_of}
 use Rattle.warehouse_objects.specs.Represents.{root_of, said_of, stored}
+use Rattle.warehouse_objects.specs.Facts.{refusal_of}
 use Rattle.warehouse_objects.specs.Warehouse.{Warehouse, loaded}
 use Rattle.warehouse.specs.Growing.{IsGrown, totals_in}
-use Rattle.warehouse.specs.Prepared.{Admitted, Prepares}
+use Rattle.warehouse.specs.Prepared.{Admitted, AreMore, HasFitModes, Prepares}
+use Rattle.warehouse.specs.declared.prepared.MoreModes.{MoreModes}
+use Rattle.warehouse.proofs.CheckedModes.{fit_refusal, passes_checks}
 use Rattle.warehouse.specs.declared.growing.GrowingBatch.{GrowingBatch}
 use Rattle.warehouse.specs.declared.prepared.Prepared.{Prepared}
 
@@ -122,10 +125,22 @@ root-more w rows root after count totals is many sums made =
       cuboids = map said_of w.cuboids;
     })
 
-pub prepares-with : (w : Warehouse) (number : ℕ) (rows : List LineOrder) (root : PlainRoot) (count : ℕ)
-    (totals : StoredTotals) (result : Result Prepared Fault) → root_of w ≡ root → count ≡ length rows
-    → Admitted w number rows (Ok totals) → IfOk result (λ p. p.root ≡ with_batch count totals root)
-    → IfErr result (λ fault. fault ≡ Memory) → Prepares w number rows result
-prepares-with w number rows root count totals (Ok p) is many admitted made memory =
-    (admitted.0, root-more w rows root p.root count totals is many admitted.1 made)
-prepares-with w number rows root count totals (Err fault) is many admitted made memory = inr (admitted.0, memory)
+module _ (w : Warehouse) (number : ℕ) (rows : List LineOrder) (more : Option MoreModes)
+    (fit : HasFitModes w.layout w.batches rows) (are : AreMore w rows more) where
+  -- a batch whose sums and ship modes are no cause to refuse it is made ready
+  pub prepares-with : (root : PlainRoot) (count : ℕ) (totals : StoredTotals) (result : Result Prepared Fault)
+      → root_of w ≡ root → count ≡ length rows → Admitted w number rows (Ok totals)
+      → IfOk result (λ p. p.more ≡ more) → IfOk result (λ p. p.root ≡ with_batch count totals root)
+      → IfErr result (λ fault. fault ≡ Memory) → Prepares w number rows result
+  prepares-with root count totals (Ok p) is many admitted put made memory = (
+    fit_refusal w.rows w.batches number rows w.layout fit ∙ admitted.0,
+    root-more w rows root p.root count totals is many admitted.1 made,
+    subst (AreMore w rows) (sym put) are,
+  )
+  prepares-with root count totals (Err fault) is many admitted put made memory =
+      inr (memory, passes_checks w.rows w.batches number rows w.layout admitted.0)
+
+  -- a cause that its sums are is the first one
+  pub refused-with : (fault : Fault) → refusal w.rows w.batches number rows ≡ Some fault
+      → refusal_of w number rows ≡ Some fault
+  refused-with fault e = fit_refusal w.rows w.batches number rows w.layout fit ∙ e

@@ -3,17 +3,16 @@ use Rattle.std.proofs.Common.{◌≡◌, ⊎_elim, inl, inr, ◌≤◌, ℕ, zer
 use Rattle.std.proofs.Common.{slice_get, refl, sym, subst, arith}
 use Rattle.sector_device.specs.declared.device.Sectors.{Ghosts}
 use Rattle.sector_device.specs.Device.{Image, IsImage}
-use Rattle.cube_model.specs.Admission.{IsAdmissible}
 use Rattle.object_store.specs.Content.{Content}
 use Rattle.object_store.specs.Shows.{Shows}
 use Rattle.object_store.specs.Frames.{shows_same}
 use Rattle.object_store.specs.Disk.{ShowsSome}
 use Rattle.object_store.specs.Moments.{begins}
 use Rattle.added_rows.specs.Added.{widened}
-use Rattle.warehouse_objects.specs.Facts.{Change, Facts, a_batch, addition_refusal, facts_in, some_rows}
+use Rattle.warehouse_objects.specs.Facts.{Change, Facts, IsAdmissibleIn, a_batch, addition_refusal, facts_in, some_rows}
 use Rattle.warehouse_objects.specs.Warehouse.{Warehouse, loaded, with_views}
 use Rattle.warehouse_objects.specs.Represents.{Represents}
-use Rattle.warehouse_objects.proofs.CallerLemmas.{next_number}
+use Rattle.warehouse_objects.proofs.CallerLemmas.{admissible_in, next_number}
 use Rattle.warehouse.specs.declared.command.Command.{Command}
 use Rattle.warehouse.specs.declared.command.Command.TheVariants.{Submit, Query, Status, Choose, Upkeep, Audit, Add}
 use Rattle.warehouse.specs.declared.command.Command.TheVariants.{Start, Step}
@@ -38,8 +37,8 @@ in_command w (Submit number batch) c during =
     (λ represents. (w, as_it_is w (Some (a_batch batch)), represents))
     (λ more.
     let admissible =
-    subst (λ (n : ℕ). IsAdmissible w.rows w.batches n batch) (next_number w.rows w.batches number batch more.0)
-    more.0 in
+    subst (λ (n : ℕ). IsAdmissibleIn w.layout w.rows w.batches n batch)
+    (next_number w.rows w.batches number batch (admissible_in w.layout w.rows w.batches number batch more.0)) more.0 in
     (loaded w batch, inr (a_batch batch, refl, (admissible, refl)), more.1)) during
 in_command w (Query as_of query) c represents = (w, as_it_is w None, represents)
 in_command w Status c represents = (w, as_it_is w None, represents)

@@ -3,6 +3,8 @@ mod Restarting
 mod Reopened
 pub mod Refusing
 pub mod Preparing
+pub mod EarlyCauses
+pub mod CheckedModes
 pub mod GrownBatches
 pub mod Represented
 pub mod Submitting

@@ -8,11 +8,10 @@ use Rattle.cube_model.specs.declared.fault.Fault.TheVariants.{Device, Memory}
 use Rattle.cube_model.specs.declared.query.Query as queries
 use Rattle.cube_model.specs.declared.rows.DimRows.{DimRows}
 use Rattle.cube_model.specs.declared.rows.LineOrder.{LineOrder}
-use Rattle.cube_model.specs.Admission.{IsAdmissible}
 use Rattle.cube_model.specs.Answers.{answer_as_of}
 use Rattle.object_store.specs.Disk.{Leaves}
 use Rattle.added_rows.specs.Added.{widened}
-use Rattle.warehouse_objects.specs.Facts.{AdmitsRows}
+use Rattle.warehouse_objects.specs.Facts.{Admits, AdmitsRows}
 use Rattle.warehouse_objects.specs.Warehouse.{Warehouse, loaded, with_views}
 use Rattle.warehouse_objects.specs.Represents.{Represents}
 use Rattle.cuboid_commits.specs.Keeping.{IsKeptUp}
@@ -55,15 +54,15 @@ module _ {D : Type 0} (g : Ghosts D) (w : Warehouse) (slots : Slots) (old new : 
   abbrev SubmitLeaves : ℕ → List LineOrder → Type 0
   SubmitLeaves number batch =
       Leaves (disk_of g old) (disk_of g new)
-      (λ c. Represents c w ⊎ (IsAdmissible w.rows w.batches number batch × Represents c (loaded w batch)))
+      (λ c. Represents c w ⊎ (Admits w number batch × Represents c (loaded w batch)))
 
   pub submit_done : (number : ℕ) (batch rows : List LineOrder) → rows ≡ batch
-      → IsAdmissible w.rows w.batches number rows → CommitsOnce g old new → IsAt g new (loaded w rows)
+      → Admits w number rows → CommitsOnce g old new → IsAt g new (loaded w rows)
       → SubmitLeaves number rows → Does g old w slots (Submit number batch) Done new
   submit_done number batch rows same admissible once now leaves = (
     amid (loaded w batch) slots,
     (
-      inl (refl, (subst (λ (b : List LineOrder). IsAdmissible w.rows w.batches number b) same admissible, once), refl),
+      inl (refl, (subst (λ (b : List LineOrder). Admits w number b) same admissible, once), refl),
       subst (SubmitLeaves number) same leaves,
       subst (λ (b : List LineOrder). IsAt g new (loaded w b)) same now,
     ),

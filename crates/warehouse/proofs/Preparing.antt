@@ -14,7 +14,9 @@ use Rattle.warehouse_root.specs.Root.{AreProperTotals}
 use Rattle.warehouse_root.specs.declared.totals.StoredTotals.{StoredTotals}
 use Rattle.warehouse_objects.specs.Represents.{stored}
 use Rattle.warehouse.specs.Prepared.{MayFollow}
-use Rattle.warehouse_objects.proofs.CallerLemmas.{batch_of, is_batch, next_number}
+use Rattle.warehouse_objects.specs.Facts.{Admits}
+use Rattle.warehouse_objects.specs.Warehouse.{Warehouse}
+use Rattle.warehouse_objects.proofs.CallerLemmas.{admissible_in, batch_of, is_batch, next_number}
 
 -- an admissible batch may be put
 pub follows : (rows : DimRows) (batches : List (List LineOrder)) (number : ℕ) (batch : List LineOrder)
@@ -25,6 +27,12 @@ follows rows batches number batch admissible =
       few = omega (arith, next, (passes rows batches number batch admissible).batches_left);
       batch = is_batch rows batches number batch admissible;
     }
+
+-- a batch that a warehouse admits may be put there
+pub follows_admitted : (w : Warehouse) (number : ℕ) (batch : List LineOrder) → Admits w number batch
+    → MayFollow (length w.batches) number batch
+follows_admitted w number batch admits =
+    follows w.rows w.batches number batch (admissible_in w.layout w.rows w.batches number batch admits)
 
 -- a batch that was accepted after so many may be put there
 pub can_follow : (count batches number : ℕ) (batch : List LineOrder) → CanFollow count number batch → count ≡ batches

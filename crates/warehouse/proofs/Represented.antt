@@ -1,5 +1,10 @@
 -- What a session that a call left unchanged represents.
-use Rattle.std.proofs.Common.{◌≡◌, false, sym, ◌∙◌, subst}
+use Rattle.std.proofs.Common.{◌≡◌, ℕ, true, false, List, Result, sym, ◌∙◌, subst}
+use Rattle.cube_model.specs.declared.fault.Fault.{Fault}
+use Rattle.cube_model.specs.declared.rows.DimRows.{DimRows}
+use Rattle.warehouse_root.specs.Root.{PlainRoot}
+use Rattle.warehouse_objects.specs.Loaded.{IsLoaded}
+use Rattle.warehouse_objects.specs.Reads.{ReadsOnly}
 use Rattle.sector_device.specs.declared.device.Sectors.{Ghosts}
 use Rattle.object_store.specs.Content.{Content}
 use Rattle.object_store.specs.Disk.{Disk, Leaves, disk}
@@ -50,3 +55,16 @@ module _ {D : Type 0} (g : Ghosts D) (w : Warehouse) where
       → Leaves (stores.disk_of g old) (stores.disk_of g new) (λ c. Represents c w)
   as_before_leaves old new same leaves =
       subst (λ (d : D). Leaves (stores.disk_of g old) (disk g d) (λ c. Represents c w)) (sym same.device) leaves
+
+-- what was kept in memory of a store is so after it was read
+pub reads_loaded : {D A : Type 0} (g : Ghosts D) (result : Result A Fault) (old new : Store D g) (rows : DimRows)
+    (modes : List (List ℕ)) (root : PlainRoot) → ReadsOnly g old new result → stores.has_failed new ≡ false
+    → (stores.disk_of g new).keeps_word
+    → (stores.has_failed old ≡ false → (stores.disk_of g old).keeps_word
+    → IsLoaded (stores.content_of g old) rows modes root)
+    → IsLoaded (stores.content_of g new) rows modes root
+reads_loaded g result old new rows modes root reads fine k loaded =
+    let still : stores.IsStill g old new =
+    reads.stays (λ is. let bad : true ≡ false = sym (reads.device is).failed ∙ fine in absurd cc) in
+    subst (λ (c : Content). IsLoaded c rows modes root) (sym (still.content k))
+    (loaded (sym still.failed ∙ fine) (still.word k))

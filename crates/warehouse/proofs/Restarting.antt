@@ -11,7 +11,8 @@ use Rattle.object_store.specs.Disk.{disk, AllShow, Each, IsBlank}
 use Rattle.object_store.specs.Shows.{HasNone}
 use Rattle.object_store.proofs.CallerLemmas.{shows_one}
 use Rattle.object_store.proofs.Looking.{none_same}
-use Rattle.warehouse_objects.specs.Facts.{Adds, Change, Facts, a_batch, facts_in, some_rows, with_next, with_rows}
+use Rattle.warehouse_objects.specs.Facts.{Adds, Change, Facts, a_batch, facts_in, in_second, some_rows, the_layout}
+use Rattle.warehouse_objects.specs.Facts.{with_next, with_rows}
 use Rattle.warehouse_objects.specs.Warehouse.{Warehouse, fresh}
 use Rattle.warehouse_objects.specs.Represents.{Represents}
 use Rattle.warehouse_objects.specs.Lawful.{ContentIsOneWarehouse}
@@ -78,6 +79,9 @@ with_batch facts batch =
 with_more : (facts : Facts) (more : DimRows) → HaveNoFewer facts (with_rows facts more)
 with_more facts more = record { batches = omega arith; additions = omega arith }
 
+in_another_layout : (facts : Facts) → HaveNoFewer facts (in_second facts)
+in_another_layout facts = record { batches = omega arith; additions = omega arith }
+
 -- there are no fewer that are acknowledged than before
 no_fewer : (facts : Facts) (command : Command) (reply : Reply) → HaveNoFewer facts (acknowledged facts command reply)
 no_fewer facts (Submit number batch) Done = with_batch facts batch
@@ -115,6 +119,7 @@ none_fewer facts (command ∷ commands) (reply ∷ replies) =
 adds_none_fewer : (facts new : Facts) (change : Change) → Adds facts change new → HaveNoFewer facts new
 adds_none_fewer facts new (a_batch batch) adds = subst (HaveNoFewer facts) (sym adds.1) (with_batch facts batch)
 adds_none_fewer facts new (some_rows more) adds = subst (HaveNoFewer facts) (sym adds.1) (with_more facts more)
+adds_none_fewer facts new the_layout adds = subst (HaveNoFewer facts) (sym adds.1) (in_another_layout facts)
 
 -- nor has what may be found
 found_more : (facts : Facts) (last : Option Change) (found : Warehouse) → MayBeFound facts last found

@@ -1,3 +1,4 @@
+pub mod Props
 pub mod Refusing
 pub mod Loaded
 pub mod Session

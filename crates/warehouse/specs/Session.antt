@@ -17,7 +17,7 @@ use Rattle.object_store.specs.Moments.{all_weaker}
 use Rattle.object_store.specs.Room.{Room}
 use Rattle.object_store.specs.Store as stores
 use Rattle.added_rows.specs.Added.{widened, widening_puts}
-use Rattle.warehouse_objects.specs.Facts.{Admits, AdmitsRows, number_refusal, refusal_of, rows_refusal_of}
+use Rattle.warehouse_objects.specs.Facts.{Admits, AdmitsRows, PassesChecks, number_refusal, refusal_of, rows_refusal_of}
 use Rattle.warehouse_objects.specs.Warehouse.{Warehouse, loaded}
 use Rattle.warehouse_objects.specs.Represents.{Represents, root_of}
 use Rattle.warehouse_objects.specs.Lawful.{loading_puts}
@@ -61,13 +61,15 @@ abbrev pub CommitsOnce : {D : Type 0} (g : Ghosts D) → Session D g → Session
 CommitsOnce g old new = (disk_of g new).keeps_word → (content_of g new).generation ≡ (content_of g old).generation + 1
 
 -- Why a submit is refused where the device has not failed: the first cause of the model, or one of its commit. The
--- commit puts the segment of the batch, and the root with it.
+-- commit puts the segment of the batch, its new ship modes, and the root with it. There may also be no memory to look
+-- at the ship modes, which in the second layout comes before the sums.
 abbrev pub SubmitRefuses : {D : Type 0} (g : Ghosts D) → Session D g → Warehouse → ℕ → List LineOrder → Fault → Type 0
 SubmitRefuses g session w number batch fault =
     (refusal_of w number batch ≡ Some fault)
+    ⊎ (((fault ≡ Memory) × PassesChecks w number batch)
     ⊎ (Admits w number batch
     × stores.Refuses (content_of g session) (room_of session) (loading_puts w number batch) []
-    (roots.root_of (root_of (loaded w batch))) fault)
+    (roots.root_of (root_of (loaded w batch))) fault))
 
 -- Why an addition of dimension rows is refused where the device has not failed: the first cause of the model, or memory
 -- in the place of one that is found by building the dimensions, or a cause of its commit. The commit puts each

@@ -22,6 +22,7 @@ IsSaidAt (Some cuboid) None = ⊥
 IsSaidAt (Some cuboid) (Some said) = IsSaidOf cuboid said
 
 pub record IsStatus (w : Warehouse) (generation : ℕ) (status : Status) : Type 0 where
+  pub layout : status.layout ≡ w.layout
   pub batches : status.batches ≡ length w.batches
   pub rows : status.rows ≡ length (all_rows w.batches)
   pub additions : status.additions ≡ w.additions

@@ -7,7 +7,7 @@ use Rattle.object_store.specs.Disk.{Leaves}
 use Rattle.warehouse_objects.specs.Facts.{Admits}
 use Rattle.warehouse_objects.specs.Warehouse.{Warehouse, loaded}
 use Rattle.warehouse_objects.specs.Represents.{Represents, root_of}
-use Rattle.warehouse.specs.Prepared.{IsPrepared}
+use Rattle.warehouse.specs.Prepared.{AreMore, IsPrepared}
 use Rattle.warehouse.specs.Session.{IsAt, device_of, disk_of}
 use Rattle.warehouse.specs.declared.prepared.Prepared.{Prepared}
 use Rattle.warehouse.specs.declared.session.Session.{Session}
@@ -17,7 +17,8 @@ pub record IsReady {D : Type 0} (g : Ghosts D) (session : Session D g) (w : Ware
     (rows : List LineOrder) (prepared : Prepared) : Type 0 where
   pub at : IsAt g session w
   pub prepared_is : IsPrepared session.root number rows prepared
-  pub admissible : g.keeps_word (device_of session) → Admits w number rows × (prepared.root ≡ root_of (loaded w rows))
+  pub admissible : g.keeps_word (device_of session) → Admits w number rows
+      × (prepared.root ≡ root_of (loaded w rows)) × AreMore w rows prepared.more
   pub still : Leaves (disk_of g session) (disk_of g session) (λ c. Represents c w)
 
 -- what a crash within its submit may leave: the warehouse as it was, or with the batch if that is admissible

@@ -22,7 +22,6 @@ use crate::widening::{MOST_PUTS, Widening, puts_of, widen};
 use cube_model::{DimRows, Fault};
 use sector_device::Sectors;
 use std::alloc::Global;
-use warehouse_root::Layout;
 use warehouse_root::limits::MOST_ADDITIONS;
 
 impl<D: Sectors> Session<D> {
@@ -124,17 +123,15 @@ impl<D: Sectors> Session<D> {
             root_bytes,
             objects,
         } = wider;
+        let layout = root.layout().number();
         let puts = match puts_of(alloc, objects.as_slice()) {
             Ok(puts) => puts,
             Err(fault) => return Err(fault),
         };
-        match self.store.commit(
-            alloc,
-            puts.as_slice(),
-            &[],
-            root_bytes.as_slice(),
-            Layout::First.number(),
-        ) {
+        match self
+            .store
+            .commit(alloc, puts.as_slice(), &[], root_bytes.as_slice(), layout)
+        {
             Ok(()) => {
                 self.dims = dims;
                 self.root = root;

@@ -7,15 +7,17 @@ use cube_model::{Axis, Fault};
 use dimension_objects::encode;
 use dimensions::Dims;
 use std::alloc::Global;
+use warehouse_objects::ShipModes;
 use warehouse_root::{Layout, Root};
 
-/// The bytes of the four dimensions, and the root of no batch.
+/// The bytes of the four dimensions and of no ship modes, and the root of no batch.
 #[derive(Drop)]
 pub(crate) struct Beginning {
     pub(crate) customers: Vec<u8>,
     pub(crate) suppliers: Vec<u8>,
     pub(crate) parts: Vec<u8>,
     pub(crate) dates: Vec<u8>,
+    pub(crate) modes: Vec<u8>,
     pub(crate) root: Root,
     pub(crate) root_bytes: Vec<u8>,
 }
@@ -23,20 +25,22 @@ pub(crate) struct Beginning {
 impl Beginning {
     ghost use Rattle.warehouse.specs.Beginning.{IsBeginning};
 
-    /// That of a warehouse with these dimensions.
-    pub(crate) fn of(alloc: Global, dims: &Dims) -> Result<Beginning, Fault>
-        ensures ok { IfOk result (IsBeginning dims.now) }
+    /// That of a warehouse of a layout with these dimensions.
+    pub(crate) fn of(alloc: Global, dims: &Dims, layout: Layout) -> Result<Beginning, Fault>
+        ensures ok { IfOk result (IsBeginning layout dims.now) }
         ensures memory { IfErr result (λ fault. fault ≡ Memory) }
     {
-        let root = Root::new(alloc, Layout::First);
+        let root = Root::new(alloc, layout);
         let root_bytes = root.encode(alloc)?;
         let (customers, suppliers) = two_encoded(alloc, dims, Axis::Customer, Axis::Supplier)?;
         let (parts, dates) = two_encoded(alloc, dims, Axis::Part, Axis::Date)?;
+        let modes = ShipModes::none(alloc).encode(alloc)?;
         Ok(Beginning {
             customers,
             suppliers,
             parts,
             dates,
+            modes,
             root,
             root_bytes,
         })

@@ -1,27 +1,29 @@
 //! A batch that grows by rows until it is submitted.
 ghost use Rattle.std.specs.Prelude.{◌≡◌, ◌≢◌, ◌≤◌, ◌<◌, ◌↔◌, ◌++◌, [], List, None, true, false, length, IfErr, IfNone};
-ghost use Rattle.std.specs.Prelude.{IfOk, IfSome, IsErrOf, IsOkUnless, OnOk};
+ghost use Rattle.std.specs.Prelude.{IfOk, IfSome, IsErrOf, IsOkUnless, MatchResult, OnOk, Some, ◌+◌};
 ghost use Rattle.batch_admission.specs.Found.{cause_of, found_in};
 ghost use Rattle.cube_model.specs.declared.fault.Fault.TheVariants.{Device, Failed, Memory};
 ghost use Rattle.cube_model.specs.declared.rows.DimRows.{DimRows};
 ghost use Rattle.cube_model.specs.declared.rows.LineOrder.{LineOrder};
 ghost use Rattle.column_segment.specs.Segment.{IsBatch, segment_of};
-ghost use Rattle.cube_model.specs.Admission.{long_text};
+ghost use Rattle.cube_model.specs.Admission.{early_refusal, long_text};
 ghost use Rattle.cube_model.specs.Limits.{most_batch_rows};
 ghost use Rattle.object_store.specs.Disk.{Leaves};
 ghost use Rattle.warehouse.specs.Growing.{IsGrown, totals_in};
-ghost use Rattle.warehouse.specs.Prepared.{Admitted, IsPrepared, MayFollow, Prepares};
+ghost use Rattle.warehouse.specs.Prepared.{AddsModes, Admitted, CanBePut, ChecksModes, IsPrepared, MayFollow, Prepares};
 ghost use Rattle.warehouse.specs.Refusing.{is_of_device};
 ghost use Rattle.warehouse.specs.Session.{Breaks, CommitsOnce, IsAt, KeepsContent, SubmitRefuses, content_of};
 ghost use Rattle.warehouse.specs.Session.{device_of, disk_of, has_failed};
 ghost use Rattle.warehouse.specs.Submitting.{WithOrWithout};
 ghost use Rattle.warehouse_objects.specs.Facts.{Admits};
 ghost use Rattle.warehouse_objects.specs.Represents.{Represents, root_of};
-ghost use Rattle.warehouse_objects.specs.Warehouse.{Warehouse, loaded};
+ghost use Rattle.warehouse_objects.specs.Warehouse.{Warehouse, loaded, ship_modes_of};
+ghost use Rattle.warehouse_root.specs.declared.layout.Layout.TheVariants.{Second};
+ghost use Rattle.warehouse_root.specs.Modes.{kept_modes};
 ghost use Rattle.warehouse_root.specs.Root.{AreProperTotals, PlainRoot};
 ghost use Rattle.wire.specs.Limits.{most_objects};
 
-use crate::prepared::{Prepared, admission_of, cause_of, stored_of};
+use crate::prepared::{MoreModes, Prepared, admission_of, cause_of, stored_of};
 use crate::session::Session;
 use batch_admission::Findings;
 use column_segment::BatchColumns;
@@ -29,8 +31,8 @@ use cube_model::{Fault, LineOrder};
 use dimensions::Dims;
 use sector_device::Sectors;
 use std::alloc::Global;
-use warehouse_objects::numbers_fit;
-use warehouse_root::{Root, StoredTotals};
+use warehouse_objects::{ShipModes, numbers_fit};
+use warehouse_root::{Layout, Root, StoredTotals};
 
 /// A batch that grows by rows until it is submitted to the session that began it, or compared with one that is stored.
 /// Its rows are checked and written as columns as they come, and are not kept.
@@ -104,18 +106,93 @@ impl GrowingBatch {
         Ok(Some(self.columns.encode(alloc, number)?))
     }
 
-    // Makes the batch ready after those of a root, or answers the first cause to refuse it, or `Memory`.
-    fn prepared(&self, alloc: Global, root: &Root, number: u32) -> Result<Prepared, Fault>
+    // Makes the batch ready after those of a root and of their ship modes, or answers the first cause to refuse it, or
+    // `Memory`.
+    fn prepared(
+        &self,
+        alloc: Global,
+        root: &Root,
+        modes: &ShipModes,
+        number: u32,
+    ) -> Result<Prepared, Fault>
         requires grown { (dimensions : DimRows) × (rows : List LineOrder) × IsGrown dimensions root.now rows self.now }
         ensures ready { IfOk result (λ p. (dimensions : DimRows) (rows : List LineOrder)
             → IsGrown dimensions root.now rows self.now → IsPrepared root.now number rows p) }
-        ensures model { (w : Warehouse) (rows : List LineOrder) → root_of w ≡ root.now
+        ensures model { (w : Warehouse) (rows : List LineOrder) → root_of w ≡ root.now → modes.now ≡ ship_modes_of w
             → IsGrown w.rows root.now rows self.now → Prepares w number rows result }
         ensures apart { IfErr result (λ fault. is_of_device fault ≡ false) }
     {
+        let more = self.checked_modes(alloc, root, modes, number)?;
         let totals = admitted(root, number, &self.found)?;
         let segment = self.columns.encode(alloc, number)?;
-        Prepared::with_segment(alloc, root, segment, self.row_count(), totals)
+        Prepared::with_segment(alloc, root, segment, more, self.row_count(), totals)
+    }
+
+    // The ship modes with those of the batch, if a layout keeps them and some are new, or the first cause to refuse the
+    // batch, its sums apart.
+    fn checked_modes(
+        &self,
+        alloc: Global,
+        root: &Root,
+        modes: &ShipModes,
+        number: u32,
+    ) -> Result<Option<MoreModes>, Fault>
+        requires grown { (dimensions : DimRows) × (rows : List LineOrder) × IsGrown dimensions root.now rows self.now }
+        ensures more { IfOk result (λ more. IfSome more (CanBePut root.now.layout)) }
+        ensures model { (w : Warehouse) (rows : List LineOrder) → root_of w ≡ root.now → modes.now ≡ ship_modes_of w
+            → IsGrown w.rows root.now rows self.now → ChecksModes w number rows result }
+        ensures apart { IfErr result (λ fault. is_of_device fault ≡ false) }
+    {
+        match root.layout() {
+            Layout::First => Ok(None),
+            Layout::Second => {
+                self.check_early(root, number)?;
+                self.more_modes(alloc, modes)
+            }
+        }
+    }
+
+    // Looks for the first cause to refuse the batch, its ship modes and its sums apart. It takes no memory.
+    fn check_early(&self, root: &Root, number: u32) -> Result<(), Fault>
+        ensures model { (w : Warehouse) (rows : List LineOrder) → root_of w ≡ root.now
+            → IsGrown w.rows root.now rows self.now
+            → MatchResult result (λ _. early_refusal w.rows w.batches number rows ≡ None)
+            (λ fault. early_refusal w.rows w.batches number rows ≡ Some fault) }
+        ensures short { OnOk result (self.now.found.long_text ≡ None) }
+        ensures apart { IfErr result (λ fault. is_of_device fault ≡ false) }
+    {
+        let _rows = self.found.row_count();
+        if let Err(fault) = admission_of(root).check_number(number) {
+            return Err(cause_of(fault));
+        }
+        match self.found.early_cause() {
+            Some(fault) => Err(cause_of(fault)),
+            None => Ok(()),
+        }
+    }
+
+    // Ship modes with those of the batch, if some are new, or the first of these that is a cause to refuse the batch.
+    fn more_modes(&self, alloc: Global, modes: &ShipModes) -> Result<Option<MoreModes>, Fault>
+        requires grown { (dimensions : DimRows) × (root : PlainRoot) × (rows : List LineOrder)
+            × IsGrown dimensions root rows self.now }
+        requires short { self.now.found.long_text ≡ None }
+        ensures more { IfOk result (λ more. IfSome more (CanBePut Second)) }
+        ensures model { (dimensions : DimRows) (root : PlainRoot) (earlier rows : List LineOrder)
+            → IsGrown dimensions root rows self.now → modes.now ≡ kept_modes Second earlier
+            → AddsModes earlier rows result }
+        ensures apart { IfErr result (λ fault. is_of_device fault ≡ false) }
+    {
+        let _rows = self.found.row_count();
+        let (own, codes) = self.columns.ship_modes();
+        let all = match modes.with_batch(alloc, own, codes) {
+            Ok(all) => all,
+            Err(fault) => return Err(cause_of(fault)),
+        };
+        if all.len() == modes.len() {
+            return Ok(None);
+        }
+        let bytes = all.encode(alloc)?;
+        Ok(Some(MoreModes { modes: all, bytes }))
     }
 }
 
@@ -201,7 +278,7 @@ impl<D: Sectors> Session<D> {
     ) -> Result<Prepared, Fault>
         requires batch { IsOfSession self.now batch.now }
         ensures fine { IfOk result (λ _. has_failed self.now ≡ false) }
-        ensures few { IfOk result (λ _. length (content_of D.Sectors self.now).objects < most_objects) }
+        ensures few { IfOk result (λ _. length (content_of D.Sectors self.now).objects + 2 ≤ most_objects) }
         ensures ready { IfOk result (λ p. (rows : List LineOrder) → Grows self.now rows batch.now
             → IsPrepared self.now.root number rows p) }
         ensures model { (w : Warehouse) (rows : List LineOrder) → IsAt D.Sectors self.now w
@@ -212,8 +289,8 @@ impl<D: Sectors> Session<D> {
         ensures leaves { (w : Warehouse) → IsAt D.Sectors self.now w
             → Leaves (disk_of D.Sectors self.now) (disk_of D.Sectors self.now) (λ c. Represents c w) }
     {
-        self.can_put(1)?;
-        batch.prepared(alloc, &self.root, number)
+        self.can_put(2)?;
+        batch.prepared(alloc, &self.root, &self.modes, number)
     }
 }
 

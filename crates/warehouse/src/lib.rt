@@ -32,7 +32,7 @@ mod widening;
 
 pub use chosen::Chosen;
 pub use command::{Command, Reply};
-pub use creation::create;
+pub use creation::{create, create_as};
 pub use growing::GrowingBatch;
 pub use new_rows::NewRows;
 pub use opening::{open, open_as_is};
@@ -46,5 +46,5 @@ pub use status::Status;
 pub use stepping::Stepped;
 pub use view_choice::MOST_DEMANDED;
 pub use warehouse_check::Finding;
-pub use warehouse_root::StoredCuboid;
 pub use warehouse_root::limits::MOST_CUBOIDS;
+pub use warehouse_root::{Layout, StoredCuboid};

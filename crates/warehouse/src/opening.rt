@@ -5,12 +5,11 @@ ghost use Rattle.object_store.specs.Disk.{disk, AllShow, Each, IsBlank, IsShown,
 ghost use Rattle.object_store.specs.Found.{Explains, is_of_layout};
 ghost use Rattle.object_store.specs.Shows.{HasNone};
 ghost use Rattle.object_store.specs.Store as stores;
-ghost use Rattle.warehouse_root.specs.declared.layout.Layout.TheVariants.{First};
 ghost use Rattle.warehouse_root.specs.Layouts.{number_of};
-ghost use Rattle.warehouse_root.specs.Root.{IsRootOf};
+ghost use Rattle.warehouse_root.specs.Root.{IsRoot};
 ghost use Rattle.warehouse_objects.specs.Facts.{Change, Facts};
 ghost use Rattle.warehouse_objects.specs.Warehouse.{Warehouse};
-ghost use Rattle.warehouse_objects.specs.Represents.{Represents};
+ghost use Rattle.warehouse_objects.specs.Represents.{Represents, root_of};
 ghost use Rattle.warehouse.specs.Found.{IsFinished, IsSince, MayBeFound, MayRepresent, MayRepresentSince};
 ghost use Rattle.warehouse_objects.specs.Loaded.{IsLoaded};
 ghost use Rattle.warehouse.specs.Session.{content_of, device_of, disk_of, has_failed, IsAt};
@@ -22,7 +21,7 @@ use object_store::Store;
 use sector_device::Sectors;
 use std::alloc::Global;
 use std::rc::Rc;
-use warehouse_objects::{has_its_objects, read_dims, read_root};
+use warehouse_objects::{ShipModes, has_its_objects, read_dims, read_modes, read_root};
 use warehouse_root::Root;
 
 /// Finds the warehouse on a device, also one that was not restarted, and finishes an upkeep that was cut off. A refusal
@@ -141,16 +140,29 @@ fn load<D: Sectors>(alloc: Global, mut store: Store<D>) -> Result<Session<D>, (F
     ensures causes { IfErr result (λ e. (e.0 ≡ Memory) ⊎ ((e.0 ≡ Device) ⊎ (e.0 ≡ BadLayout))) }
 {
     match read(alloc, &mut store) {
-        Ok((dims, root)) => Ok(Session { store, dims, root }),
+        Ok(kept) => Ok(Session {
+            store,
+            dims: kept.dims,
+            modes: kept.modes,
+            root: kept.root,
+        }),
         Err(fault) => Err((fault, store.close())),
     }
 }
 
-// The dimensions and the root of the warehouse that the content of a store represents.
-fn read<D: Sectors>(alloc: Global, store: &mut Store<D>) -> Result<(Rc<Dims>, Root), Fault>
+// What a session keeps in memory of its warehouse.
+#[derive(Drop)]
+struct Kept {
+    dims: Rc<Dims>,
+    modes: ShipModes,
+    root: Root,
+}
+
+// The dimensions, the ship modes and the root of the warehouse that the content of a store represents.
+fn read<D: Sectors>(alloc: Global, store: &mut Store<D>) -> Result<Kept, Fault>
     requires fine { stores.has_failed store.old ≡ false }
-    ensures loaded { IfOk result (λ parts. D.keeps_word (stores.device_of store.new)
-        → IsLoaded (stores.content_of D.Sectors store.old) parts.0.value parts.1) }
+    ensures loaded { IfOk result (λ kept. D.keeps_word (stores.device_of store.new)
+        → IsLoaded (stores.content_of D.Sectors store.old) kept.dims.value kept.modes kept.root) }
     ensures readable { IsErrOf result BadLayout → D.keeps_word (stores.device_of store.new)
         → (w : Warehouse) → Represents (stores.content_of D.Sectors store.old) w → ⊥ }
     ensures leaves { Leaves (stores.disk_of D.Sectors store.old) (stores.disk_of D.Sectors store.new)
@@ -161,15 +173,18 @@ fn read<D: Sectors>(alloc: Global, store: &mut Store<D>) -> Result<(Rc<Dims>, Ro
 {
     let _broken = store.is_broken();
     let root = known_root(alloc, store)?;
+    let modes = read_modes(alloc, store, root.layout())?;
     let dims = read_dims(alloc, store)?;
     let dims = shared(alloc, dims)?;
-    Ok((dims, root))
+    Ok(Kept { dims, modes, root })
 }
 
 // The root of a store that has just the objects that it asks for.
 fn known_root<D: Sectors>(alloc: Global, store: &Store<D>) -> Result<Root, Fault>
-    ensures ok { IfOk result (IsRootOf First (stores.content_of D.Sectors store.now).root) }
-    ensures layout { OnOk result ((stores.content_of D.Sectors store.now).layout ≡ number_of First) }
+    ensures ok { IfOk result (IsRoot (stores.content_of D.Sectors store.now).root) }
+    ensures layout { IfOk result (λ root. (stores.content_of D.Sectors store.now).layout ≡ number_of root.layout) }
+    ensures found { IfOk result (λ root. (w : Warehouse) → Represents (stores.content_of D.Sectors store.now) w
+        → root ≡ root_of w) }
     ensures readable { IsErrOf result BadLayout → D.keeps_word (stores.device_of store.now)
         → (w : Warehouse) → Represents (stores.content_of D.Sectors store.now) w → ⊥ }
     ensures causes { IfErr result (λ fault. (fault ≡ Memory) ⊎ (fault ≡ BadLayout)) }

@@ -1,12 +1,13 @@
 //! What a submit puts on the device, made ready before the first device call.
-ghost use Rattle.std.specs.Prelude.{◌≡◌, ◌<◌, ◌≤◌, false, length, IfOk, IfErr};
+ghost use Rattle.std.specs.Prelude.{◌≡◌, ◌<◌, ◌≤◌, ℕ, List, false, length, IfOk, IfErr};
 ghost use Rattle.cube_model.specs.declared.fault.Fault.TheVariants.{Memory};
 ghost use Rattle.cube_model.specs.Limits.{most_batch_rows, most_batches};
 ghost use Rattle.batch_admission.specs.Accepted.{HasAccepted};
+ghost use Rattle.warehouse_root.specs.declared.layout.Layout.{Layout};
 ghost use Rattle.warehouse_root.specs.Root.{AreProperTotals, IsProper};
 ghost use Rattle.object_store.specs.Commit.{ArePuts};
 ghost use Rattle.object_store.specs.Content.{Content};
-ghost use Rattle.warehouse_objects.specs.Lawful.{dimension_puts};
+ghost use Rattle.warehouse_objects.specs.Lawful.{beginning_puts};
 ghost use Rattle.warehouse_objects.specs.Represents.{IsLaidOut, Represents, root_of, stored};
 ghost use Rattle.warehouse_objects.specs.Warehouse.{Warehouse, AreStorable};
 ghost use Rattle.warehouse.specs.Growing.{totals_in};
@@ -20,13 +21,21 @@ use dimensions::Dims;
 use std::alloc::Global;
 use std::rc::Rc;
 use warehouse_objects::laws::{objects_are_storable, rows_are_one};
-use warehouse_objects::rows_are_storable;
+use warehouse_objects::{ShipModes, rows_are_storable};
 use warehouse_root::{Root, StoredTotals};
 
-/// The segment of a further batch, and the root with it.
+/// Ship modes of which some are new, and their bytes.
+#[derive(Drop)]
+pub(crate) struct MoreModes {
+    pub(crate) modes: ShipModes,
+    pub(crate) bytes: Vec<u8>,
+}
+
+/// The segment of a further batch, the ship modes with its own where there are new ones, and the root with it.
 #[derive(Drop)]
 pub(crate) struct Prepared {
     pub(crate) segment: Vec<u8>,
+    pub(crate) more: Option<MoreModes>,
     pub(crate) root: Root,
     pub(crate) root_bytes: Vec<u8>,
 }
@@ -34,11 +43,12 @@ pub(crate) struct Prepared {
 impl Prepared {
     ghost use Rattle.warehouse_root.specs.Root.{IsRoot, with_batch};
 
-    // A segment of so many rows, and the root with them and their totals.
+    // A segment of so many rows, ship modes, and the root with the rows and their totals.
     pub(crate) fn with_segment(
         alloc: Global,
         root: &Root,
         segment: Vec<u8>,
+        more: Option<MoreModes>,
         rows: u32,
         totals: StoredTotals,
     ) -> Result<Prepared, Fault>
@@ -46,6 +56,7 @@ impl Prepared {
         requires rows { rows ≤ most_batch_rows }
         requires totals { AreProperTotals totals }
         ensures segment { IfOk result (λ p. p.segment.items ≡ segment.items) }
+        ensures more { IfOk result (λ p. p.more ≡ more) }
         ensures root { IfOk result (λ p. p.root ≡ with_batch rows totals root.now) }
         ensures spelled { IfOk result (λ p. IsRoot p.root_bytes.items p.root) }
         ensures memory { IfErr result (λ fault. fault ≡ Memory) }
@@ -54,6 +65,7 @@ impl Prepared {
         let root_bytes = root.encode(alloc)?;
         Ok(Prepared {
             segment,
+            more,
             root,
             root_bytes,
         })
@@ -110,12 +122,12 @@ pub(crate) fn cause_of(fault: Fault) -> Fault
 /// What is kept in memory is what the content represents. It does nothing.
 pub(crate) fn kept_is_represented(dims: &Rc<Dims>, root: &Root)
     ensures dims { AreStorable dims.now.value }
-    ensures puts { ArePuts (dimension_puts dims.now.value) }
+    ensures puts { (layout : Layout) → ArePuts (beginning_puts layout dims.now.value) }
     ensures root { IsProper root.now }
-    ensures agrees { (c : Content) (w : Warehouse) → IsLoaded c dims.now.value root.now → Represents c w
-        → Agrees w dims.now.value root.now }
-    ensures laid { (c : Content) (w : Warehouse) → IsLoaded c dims.now.value root.now → IsLaidOut c w
-        → Agrees w dims.now.value root.now }
+    ensures agrees { (c : Content) (w : Warehouse) (modes : List (List ℕ)) → IsLoaded c dims.now.value modes root.now
+        → Represents c w → Agrees w dims.now.value root.now }
+    ensures laid { (c : Content) (w : Warehouse) (modes : List (List ℕ)) → IsLoaded c dims.now.value modes root.now
+        → IsLaidOut c w → Agrees w dims.now.value root.now }
 {
     rows_are_one();
     objects_are_storable();

@@ -1,12 +1,12 @@
 //! A session of a warehouse.
 ghost use Rattle.std.specs.Prelude.{◌≡◌, false, IfOk, IfErr};
-ghost use Rattle.std.proofs.Props.{props};
 ghost use Rattle.cube_model.specs.declared.fault.Fault.TheVariants.{Memory};
 ghost use Rattle.object_store.specs.Disk.{Leaves};
 ghost use Rattle.object_store.specs.Store as stores;
 ghost use Rattle.warehouse_objects.specs.Warehouse.{Warehouse};
 ghost use Rattle.warehouse_objects.specs.Represents.{Represents};
 ghost use Rattle.warehouse_objects.specs.Loaded.{IsLoaded};
+ghost use Rattle.warehouse.specs.Props.{props};
 
 use cube_model::Fault;
 use dimensions::Dims;
@@ -14,10 +14,11 @@ use object_store::Store;
 use sector_device::Sectors;
 use std::alloc::Global;
 use std::rc::Rc;
+use warehouse_objects::ShipModes;
 use warehouse_root::Root;
 
-/// A warehouse on a device, open for calls. It keeps the dimensions and the root in memory, and no batch. The queries
-/// that it starts share the dimensions.
+/// A warehouse on a device, open for calls. It keeps the dimensions, the ship modes and the root in memory, and no
+/// batch. The queries that it starts share the dimensions.
 ///
 /// After `Device` it answers `Failed` to every call but `device` and `close`, and calls the device no more. It is to be
 /// opened again.
@@ -25,9 +26,10 @@ use warehouse_root::Root;
 pub struct Session<D: Sectors> {
     pub(crate) store: Store<D>,
     pub(crate) dims: Rc<Dims>,
+    pub(crate) modes: ShipModes,
     pub(crate) root: Root,
     ghost loaded: { stores.has_failed store ≡ false → D.keeps_word (stores.device_of store)
-        → IsLoaded (stores.content_of D.Sectors store) dims.value root } by { Prim.hlevel props },
+        → IsLoaded (stores.content_of D.Sectors store) dims.value modes root } by { Prim.hlevel props },
 }
 
 impl<D: Sectors> Session<D> {

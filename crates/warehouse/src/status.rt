@@ -13,12 +13,14 @@ use crate::prepared::kept_is_represented;
 use crate::session::Session;
 use cube_model::Fault;
 use sector_device::Sectors;
-use warehouse_root::StoredCuboid;
 use warehouse_root::limits::MOST_CUBOIDS;
+use warehouse_root::{Layout, StoredCuboid};
 
 /// The numbers of a warehouse.
 #[derive(Clone, Copy, Debug, PartialEq, Eq)]
 pub struct Status {
+    /// The layout of what is on the device.
+    pub layout: Layout,
     /// How many batches there are.
     pub batches: u32,
     /// How many rows they have together.
@@ -49,6 +51,7 @@ impl<D: Sectors> Session<D> {
         kept_is_represented(&self.dims, &self.root);
         let batches = self.root.batches();
         Ok(Status {
+            layout: self.root.layout(),
             batches: batches.len() as u32,
             rows: row_total(batches),
             additions: self.root.additions(),

@@ -1,16 +1,21 @@
 //! Adding a batch to a warehouse.
 ghost use Rattle.std.specs.Prelude.{◌≡◌, ◌≢◌, ◌<◌, ◌≤◌, ◌⊎◌, ◌+◌, ◌↔◌, true, false, Some, List, length, IfOk, IfErr};
-ghost use Rattle.std.specs.Prelude.{MatchResult, OnOk, IsErrOf};
+ghost use Rattle.std.specs.Prelude.{MatchResult, OnOk, IsErrOf, take};
+ghost use Rattle.std.specs.Result.{result_err};
+ghost use Rattle.batch_admission.specs.Accepted.{HasAccepted};
+ghost use Rattle.cube_model.specs.Admission.{early_refusal};
+ghost use Rattle.cube_model.specs.Limits.{most_batch_rows, most_batches};
+ghost use Rattle.object_store.specs.Commit as commits;
 ghost use Rattle.cube_model.specs.declared.fault.Fault.TheVariants.{Device, Failed, Memory};
 ghost use Rattle.cube_model.specs.declared.rows.LineOrder.{LineOrder};
 ghost use Rattle.wire.specs.Limits.{most_objects};
 ghost use Rattle.object_store.specs.Disk.{Leaves};
-ghost use Rattle.warehouse_objects.specs.Facts.{Admits, refusal_of};
+ghost use Rattle.warehouse_objects.specs.Facts.{Admits, PassesChecks, refusal_of};
 ghost use Rattle.warehouse_objects.specs.Warehouse.{Warehouse, loaded};
 ghost use Rattle.warehouse_objects.specs.Represents.{Represents, root_of};
 ghost use Rattle.warehouse.specs.Growing.{Grows};
 ghost use Rattle.warehouse.specs.Loaded.{Agrees};
-ghost use Rattle.warehouse.specs.Prepared.{IsPrepared, MayFollow};
+ghost use Rattle.warehouse.specs.Prepared.{IsPrepared, prepared_puts};
 ghost use Rattle.warehouse.specs.Refusing.{is_of_device};
 ghost use Rattle.warehouse.specs.Session.{has_failed, content_of, device_of, disk_of, IsAt, Breaks, CommitsOnce};
 ghost use Rattle.warehouse.specs.Session.{KeepsContent, SubmitRefuses};
@@ -19,11 +24,13 @@ ghost use Rattle.warehouse.specs.Submitting.{IsReady, WithOrWithout};
 use crate::growing::GrowingBatch;
 use crate::prepared::{Prepared, admission_of, cause_of, kept_is_represented};
 use crate::session::Session;
+use batch_admission::Admission;
+use cube_model::limits::MOST_BATCH_ROWS;
 use cube_model::{Fault, LineOrder};
 use dimensions::Dims;
 use sector_device::Sectors;
 use std::alloc::Global;
-use warehouse_root::{Layout, Root, segment_id};
+use warehouse_root::{Layout, MODES_ID, Root, segment_id};
 use wire::limits::MOST_OBJECTS;
 
 impl<D: Sectors> Session<D> {
@@ -74,7 +81,7 @@ impl<D: Sectors> Session<D> {
         prepared: Prepared,
     ) -> Result<(), Fault>
         requires fine { has_failed self.old ≡ false }
-        requires few { length (content_of D.Sectors self.old).objects < most_objects }
+        requires few { length (content_of D.Sectors self.old).objects + 2 ≤ most_objects }
         requires ready { (rows : List LineOrder) × IsPrepared self.old.root number rows prepared }
         ensures leaves { (w : Warehouse) (rows : List LineOrder) → IsReady D.Sectors self.old w number rows prepared
             → Leaves (disk_of D.Sectors self.old) (disk_of D.Sectors self.new) (WithOrWithout w number rows) }
@@ -94,16 +101,21 @@ impl<D: Sectors> Session<D> {
         ensures device { IsErrOf result Device → Breaks D.Sectors self.old self.new }
         ensures word { D.keeps_word (device_of self.new) → D.keeps_word (device_of self.old) }
     {
-        let puts = [(segment_id(number), prepared.segment.as_slice())];
+        let (puts, count) = puts_of(number, &prepared);
+        let layout = prepared.root.layout().number();
         match self.store.commit(
             alloc,
-            &puts,
+            &puts[..count],
             &[],
             prepared.root_bytes.as_slice(),
-            Layout::First.number(),
+            layout,
         ) {
             Ok(()) => {
-                self.root = prepared.root;
+                let Prepared { more, root, .. } = prepared;
+                self.root = root;
+                if let Some(more) = more {
+                    self.modes = more.modes;
+                }
                 Ok(())
             }
             Err(fault) => Err(fault),
@@ -117,13 +129,13 @@ impl<D: Sectors> Session<D> {
         ensures grows { IfOk result (Grows self.now rows.now) }
         ensures refused { IfErr result (λ fault. (w : Warehouse) → IsAt D.Sectors self.now w
             → D.keeps_word (device_of self.now)
-            → (refusal_of w number rows.now ≡ Some fault) ⊎ (Admits w number rows.now × (fault ≡ Memory))) }
+            → (refusal_of w number rows.now ≡ Some fault) ⊎ ((fault ≡ Memory) × PassesChecks w number rows.now)) }
         ensures failed { IsErrOf result Failed ↔ (has_failed self.now ≡ true) }
         ensures device { IsErrOf result Device → ⊥ }
         ensures leaves { (w : Warehouse) → IsAt D.Sectors self.now w
             → Leaves (disk_of D.Sectors self.now) (disk_of D.Sectors self.now) (λ c. Represents c w) }
     {
-        self.can_put(1)?;
+        self.can_put(2)?;
         check(&self.dims, &self.root, number, rows)?;
         let mut batch = self.begin_batch(alloc, rows.len())?;
         self.add_rows(alloc, &mut batch, rows)?;
@@ -155,15 +167,66 @@ impl<D: Sectors> Session<D> {
     }
 }
 
-// Looks for the first cause to refuse rows as a further batch. It takes no memory.
+// What the commit of a batch that was made ready puts, and how many objects that is: the segment, and the ship modes
+// where there are more.
+fn puts_of(number: u32, prepared: &Prepared) -> ([(u32, &[u8]); 2], usize)
+    requires { number ≤ most_batches }
+    ensures puts { commits.puts_of (take result.1 result.0) ≡ prepared_puts number prepared.now }
+    ensures within { result.1 ≤ length result.0 }
+{
+    let segment = (segment_id(number), prepared.segment.as_slice());
+    match &prepared.more {
+        Some(more) => ([segment, (MODES_ID, more.bytes.as_slice())], 2),
+        None => ([segment, segment], 1),
+    }
+}
+
+// Looks for the first cause to refuse rows as a further batch, as far as no memory is taken to find it: in the second
+// layout ship modes and sums are left out.
 fn check(dims: &Dims, root: &Root, number: u32, rows: &[LineOrder]) -> Result<(), Fault>
-    ensures follows { OnOk result (MayFollow (length root.now.batches) number rows.now) }
+    ensures few { OnOk result (length rows.now ≤ most_batch_rows) }
     ensures model { (w : Warehouse) → w.rows ≡ dims.now → root_of w ≡ root.now
-        → MatchResult result (λ _. Admits w number rows.now) (λ fault. refusal_of w number rows.now ≡ Some fault) }
+        → MatchResult result (λ _. PassesChecks w number rows.now)
+        (λ fault. refusal_of w number rows.now ≡ Some fault) }
     ensures apart { IfErr result (λ fault. is_of_device fault ≡ false) }
 {
-    match admission_of(root).admit(dims, number, rows) {
+    match first_refusal(dims, root, number, rows) {
         Ok(()) => Ok(()),
         Err(fault) => Err(cause_of(fault)),
+    }
+}
+
+// The same, where the type of the answer does not say that no cause speaks of the device.
+fn first_refusal(dims: &Dims, root: &Root, number: u32, rows: &[LineOrder]) -> Result<(), Fault>
+    ensures few { OnOk result (length rows.now ≤ most_batch_rows) }
+    ensures model { (w : Warehouse) → w.rows ≡ dims.now → root_of w ≡ root.now
+        → MatchResult result (λ _. PassesChecks w number rows.now)
+        (λ fault. refusal_of w number rows.now ≡ Some fault) }
+{
+    let mut admission = admission_of(root);
+    match root.layout() {
+        Layout::First => admission.admit(dims, number, rows),
+        Layout::Second => check_early(&admission, dims, number, rows),
+    }
+}
+
+// Looks for the first cause to refuse rows as a further batch, its ship modes and its sums apart.
+fn check_early(
+    admission: &Admission,
+    dims: &Dims,
+    number: u32,
+    rows: &[LineOrder],
+) -> Result<(), Fault>
+    ensures few { OnOk result (length rows.now ≤ most_batch_rows) }
+    ensures model { (batches : List (List LineOrder)) → HasAccepted admission.now batches
+        → result_err result ≡ early_refusal dims.now batches number rows.now }
+{
+    admission.check_number(number)?;
+    if rows.len() > MOST_BATCH_ROWS {
+        return Err(Fault::TooManyRows);
+    }
+    match admission.findings().more(dims, rows).early_cause() {
+        Some(fault) => Err(fault),
+        None => Ok(()),
     }
 }

@@ -1,4 +1,4 @@
-//! The dimension tables of a warehouse.
+//! The dimension tables of a warehouse, and its layout.
 ghost use Rattle.std.specs.Prelude.{◌≡◌};
 ghost use Rattle.warehouse_objects.specs.Warehouse.{Warehouse};
 ghost use Rattle.warehouse.specs.Session.{device_of, IsAt};
@@ -7,6 +7,7 @@ use crate::prepared::kept_is_represented;
 use crate::session::Session;
 use dimensions::Dims;
 use sector_device::Sectors;
+use warehouse_root::Layout;
 
 impl<D: Sectors> Session<D> {
     /// The rows of the four dimensions. It makes no device call.
@@ -16,5 +17,14 @@ impl<D: Sectors> Session<D> {
     {
         kept_is_represented(&self.dims, &self.root);
         &self.dims
+    }
+
+    /// The layout of what is on the device. It makes no device call.
+    pub fn layout(&self) -> Layout
+        ensures { (w : Warehouse) → IsAt D.Sectors self.now w → D.keeps_word (device_of self.now)
+            → result ≡ w.layout }
+    {
+        kept_is_represented(&self.dims, &self.root);
+        self.root.layout()
     }
 }

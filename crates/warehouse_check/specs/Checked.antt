@@ -51,8 +51,9 @@ pub record IsNextBatch (keeps : Type 0) (c : Content) (dimensions : DimRows) (ba
 -- batches of the root.
 pub record IsChecked (c : Content) : Type 0 where
   pub rows : DimRows
+  pub modes : List (List ℕ)
   pub root : PlainRoot
-  pub loaded : IsLoaded c rows root
+  pub loaded : IsLoaded c rows modes root
   pub storable : AreStorable rows
   pub proper : IsProper root
   pub objects : HasItsObjects c root

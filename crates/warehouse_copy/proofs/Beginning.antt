@@ -7,29 +7,32 @@ use Rattle.object_store.specs.Disk.{Disk, Leaves, LeavesOrNone, OnlyImagesOf, Sh
 use Rattle.object_store.specs.Moments.{passes_also, passes_then}
 use Rattle.object_store.specs.Shows.{HasNone}
 use Rattle.warehouse_objects.specs.Represents.{Represents}
-use Rattle.warehouse_objects.specs.Warehouse.{Warehouse, fresh}
+use Rattle.warehouse_root.specs.declared.layout.Layout.{Layout}
+use Rattle.warehouse_objects.specs.Warehouse.{Warehouse, fresh_in}
 use Rattle.warehouse_copy.specs.Copied.{HoldsPart, with_first}
 use Rattle.warehouse_copy.proofs.Parts.{holds_first}
 
 -- the rows of a warehouse, without batches
-pub fresh_first : (w : Warehouse) (rows : DimRows) → rows ≡ w.rows → fresh rows ≡ with_first w 0
-fresh_first w rows same = ap fresh same
+pub fresh_first : (w : Warehouse) (layout : Layout) (rows : DimRows) → layout ≡ w.layout → rows ≡ w.rows
+    → fresh_in layout rows ≡ with_first w 0
+fresh_first w layout rows alike same = λ i. fresh_in (alike i) (same i)
 
-module _ (w : Warehouse) (rows : DimRows) (same : rows ≡ w.rows) where
-  holds_fresh : (c : Content) → Represents c (fresh rows) → HoldsPart w c
+module _ (w : Warehouse) (layout : Layout) (rows : DimRows) (alike : layout ≡ w.layout) (same : rows ≡ w.rows) where
+  holds_fresh : (c : Content) → Represents c (fresh_in layout rows) → HoldsPart w c
   holds_fresh c represents =
-      holds_first w 0 c (subst (λ (v : Warehouse). Represents c v) (fresh_first w rows same) represents)
+      holds_first w 0 c (subst (λ (v : Warehouse). Represents c v) (fresh_first w layout rows alike same) represents)
 
   -- what a crash leaves while the store is made
-  pub making_leaves : (old new : Disk) → LeavesOrNone old new (λ c. Represents c (fresh rows))
+  pub making_leaves : (old new : Disk) → LeavesOrNone old new (λ c. Represents c (fresh_in layout rows))
       → LeavesOrNone old new (HoldsPart w)
   making_leaves old new leaves =
-      passes_also (ShowsSomeOrNone (λ (c : Content). Represents c (fresh rows))) (ShowsSomeOrNone (HoldsPart w)) old new
+      passes_also (ShowsSomeOrNone (λ (c : Content). Represents c (fresh_in layout rows)))
+      (ShowsSomeOrNone (HoldsPart w)) old new
       (λ k size image one. ⊎_elim (λ none. inl none) (λ shown. inr (shown.0, shown.1, holds_fresh shown.0 shown.2)) one)
       leaves
 
   -- and while it is filled
-  pub filling_leaves : (old mid new : Disk) → LeavesOrNone old mid (λ c. Represents c (fresh rows))
+  pub filling_leaves : (old mid new : Disk) → LeavesOrNone old mid (λ c. Represents c (fresh_in layout rows))
       → Leaves mid new (HoldsPart w) → LeavesOrNone old new (HoldsPart w)
   filling_leaves old mid new first second =
       passes_then (ShowsSomeOrNone (HoldsPart w)) old mid new (making_leaves old mid first)

@@ -4,8 +4,7 @@ use Rattle.std.proofs.Common.{refl, ap, subst, arith}
 use Rattle.std.proofs.lemmas.List.{get_or-map, length-map, take_all}
 use Rattle.lattice.specs.declared.view.View.{View}
 use Rattle.lattice.specs.Views.{index_of}
-use Rattle.warehouse_root.specs.Layouts as layouts
-use Rattle.warehouse_root.specs.Root.{IsProperCuboid}
+use Rattle.warehouse_objects.proofs.CallerLemmas.{plain_views}
 use Rattle.object_store.specs.Content.{Content}
 use Rattle.object_store.specs.Disk.{Disk, Leaves}
 use Rattle.object_store.specs.Moments.{leaves_then, leaves_weaker}
@@ -40,11 +39,15 @@ module _ (w : Warehouse) (views : List View) (v : Warehouse)
   batches_are : v.batches ≡ take (length w.batches) w.batches
   batches_are = ap (λ (facts : Facts). facts.batches) kept.facts
 
+  layout_is : v.layout ≡ w.layout
+  layout_is = ap (λ (facts : Facts). facts.layout) kept.facts
+
   rows_are : v.rows ≡ w.rows
   rows_are = ap (λ (facts : Facts). facts.rows) kept.facts
 
   pub is_copy : views ≡ views_of w → IsCopy w v
   is_copy same = record {
+    layout = layout_is;
     rows = rows_are;
     batches = batches_are ∙ take_all (length w.batches) w.batches (omega arith);
     views = kept_views (with_views (with_first w (length w.batches)) views).cuboids v.cuboids kept.cuboids
@@ -91,16 +94,10 @@ upkeep_leaves w views old mid new first second =
 pub said_are : (w : Warehouse) (c : Content) → Represents c w → (generation : ℕ) (status : Status)
     → IsStatus w generation status
     → AreSaidOf w.cuboids status.cuboids × All (λ cuboid. index_of cuboid.view < 256) w.cuboids
-said_are w c represents generation status is =
-    let first : layouts.views_of w.layout ≡ 256 = ap layouts.views_of represents.first in (
-      record {
-        few = omega (arith, represents.root.proper.most_cuboids, length-map w.cuboids said_of);
-        each = is.cuboids;
-      },
-      λ k d within.
-          let proper : IsProperCuboid w.layout (length (map length w.batches)) (said_of (get_or w.cuboids k d)) =
-          subst (IsProperCuboid w.layout (length (map length w.batches)))
-          (get_or-map said_of w.cuboids k d (said_of d) within)
-          (represents.root.proper.each k (said_of d) (omega (arith, within, length-map w.cuboids said_of))) in
-          omega (arith, proper.view, first),
-    )
+said_are w c represents generation status is = (
+  record {
+    few = omega (arith, represents.root.proper.most_cuboids, length-map w.cuboids said_of);
+    each = is.cuboids;
+  },
+  plain_views c w represents,
+)

@@ -5,21 +5,21 @@ use Rattle.std.proofs.lemmas.List.{length-take-le, take_all}
 use Rattle.std.proofs.lemmas.Option.{slice_get_within}
 use Rattle.sector_device.specs.declared.device.Sectors.{Ghosts}
 use Rattle.cube_model.specs.declared.fault.Fault.{Fault}
-use Rattle.cube_model.specs.declared.fault.Fault.TheVariants.{Device}
+use Rattle.cube_model.specs.declared.fault.Fault.TheVariants.{Device, Memory}
 use Rattle.cube_model.specs.declared.rows.LineOrder.{LineOrder}
-use Rattle.cube_model.specs.Admission.{refusal}
 use Rattle.object_store.specs.Content.{Content}
 use Rattle.object_store.specs.Disk.{Disk, Leaves}
 use Rattle.object_store.specs.Moments.{leaves_weaker}
-use Rattle.warehouse_objects.specs.Facts.{Admits, refusal_of}
+use Rattle.warehouse_objects.specs.Facts.{Admits, refusal_in, refusal_of}
 use Rattle.warehouse_objects.specs.Represents.{Represents}
-use Rattle.warehouse_objects.specs.Warehouse.{Warehouse, fresh, loaded}
+use Rattle.warehouse_objects.specs.Warehouse.{Warehouse, fresh_in, loaded}
 use Rattle.warehouse_objects.proofs.Batches.{get_within, some_one, take_next}
+use Rattle.warehouse_objects.proofs.CallerLemmas.{admitted_in_order}
 use Rattle.warehouse.specs.declared.session.Session.{Session}
 use Rattle.warehouse.specs.Comparing.{numbered}
 use Rattle.warehouse.specs.Session.{IsAt, SubmitRefuses}
 use Rattle.warehouse_copy.specs.Copied.{HoldsPart, IsCopyFault, IsPart, with_first}
-use Rattle.warehouse_copy.proofs.Causes.{of_commit, or_device}
+use Rattle.warehouse_copy.proofs.Causes.{is_fault, of_commit, or_device}
 
 module _ (w : Warehouse) where
   pub part_first : (count : ℕ) → IsPart w (with_first w count)
@@ -37,7 +37,7 @@ module _ (w : Warehouse) where
   pub next_first : (before : ℕ) (rows : List LineOrder) → slice_get w.batches before ≡ Some rows
       → loaded (with_first w before) rows ≡ with_first w (before + 1)
   next_first before rows here =
-      ap (λ (batches : List (List LineOrder)). record (fresh w.rows) { batches = batches })
+      ap (λ (batches : List (List LineOrder)). record (fresh_in w.layout w.rows) { batches = batches })
       (sym (ap (λ (n : ℕ). take n w.batches) (add-one before) ∙ take_next w.batches before rows here))
 
   pub all_first : (count : ℕ) → count ≡ length w.batches → with_first w count ≡ with_first w (length w.batches)
@@ -74,9 +74,9 @@ module _ (w : Warehouse) where
     never_refused c represents fault is =
         let lt : before < length w.batches = slice_get_within w.batches before rows here in
         let many : length (take before w.batches) ≡ before = length-take-le before w.batches (omega (arith, lt)) in
-        let admits : refusal w.rows (take before w.batches) (before + 1) rows ≡ None =
-        subst (λ (n : ℕ). refusal w.rows (take before w.batches) (n + 1) rows ≡ None) many
-        (represents.batches before rows here).admissible in
+        let admits : refusal_in w.layout w.rows (take before w.batches) (before + 1) rows ≡ None =
+        subst (λ (n : ℕ). refusal_in w.layout w.rows (take before w.batches) (n + 1) rows ≡ None) many
+        (admitted_in_order w.layout w.rows w.batches represents.batches represents.modes before rows here) in
         let both : None ≡ Some fault = sym admits ∙ is in cc
 
     pub submit_fault : {E : Type 0} (g : Ghosts E) (session : Session E g) (c : Content) → Represents c w
@@ -86,4 +86,4 @@ module _ (w : Warehouse) where
     submit_fault g session c represents fault why =
         or_device fault
         (λ no. ⊎_elim (λ refused. absurd (never_refused c represents fault refused))
-        (λ commit. of_commit fault commit.1) (why no))
+        (⊎_elim (λ memory. is_fault fault Memory tt memory.0) (λ commit. of_commit fault commit.1)) (why no))

@@ -5,7 +5,7 @@ use Rattle.cube_model.specs.declared.fault.Fault.TheVariants.{AlreadyFormatted, 
 use Rattle.lattice.specs.declared.view.View.{View}
 use Rattle.object_store.specs.Content.{Content}
 use Rattle.warehouse_objects.specs.Represents.{Represents}
-use Rattle.warehouse_objects.specs.Warehouse.{Cuboid, Warehouse, fresh, in_order}
+use Rattle.warehouse_objects.specs.Warehouse.{Cuboid, Warehouse, fresh_in, in_order}
 use Rattle.warehouse_root.specs.Limits.{most_cuboids}
 use Rattle.warehouse_root.specs.declared.cuboid.StoredCuboid.{StoredCuboid}
 use Rattle.cuboid_commits.specs.Keeping.{IsLeastTooLarge}
@@ -16,8 +16,9 @@ use Rattle.warehouse.specs.Status.{IsSaidAt}
 abbrev pub views_of : Warehouse → List View
 views_of w = map (λ cuboid. cuboid.view) w.cuboids
 
--- the dimension rows of a warehouse and all its batches, and the cuboids of its views
+-- the layout, the dimension rows and all batches of a warehouse, and the cuboids of its views
 pub record IsCopy (w copy : Warehouse) : Type 0 where
+  pub layout : copy.layout ≡ w.layout
   pub rows : copy.rows ≡ w.rows
   pub batches : copy.batches ≡ w.batches
   pub views : views_of copy ≡ in_order (views_of w)
@@ -32,9 +33,9 @@ pub record IsPart (w part : Warehouse) : Type 0 where
 abbrev pub HoldsPart : Warehouse → Content → Type 0
 HoldsPart w c = (part : Warehouse) × IsPart w part × Represents c part
 
--- the warehouse of its dimension rows and its first so many batches, without cuboids
+-- the warehouse of its layout, its dimension rows and its first so many batches, without cuboids
 abbrev pub with_first : Warehouse → ℕ → Warehouse
-with_first w count = record (fresh w.rows) { batches = take count w.batches }
+with_first w count = record (fresh_in w.layout w.rows) { batches = take count w.batches }
 
 -- Why a copy is not made: no memory, a device that fails, no room, or the last generation. Or the new device is too
 -- small, or has a warehouse already.

@@ -15,12 +15,12 @@ use cube_model::Fault;
 use dimensions::Dims;
 use sector_device::Sectors;
 use std::alloc::Global;
-use warehouse::{Session, create};
+use warehouse::{Session, create_as};
 
-/// Makes a copy of a warehouse on a device without one, of any size that has room: the same dimension rows, the same
-/// batches in the same order, and the cuboids of the same views, each brought to all batches unless its view has more
-/// than 262,144 cells. So it answers each query as the first does. It has no free sectors between its objects, and
-/// begins with all dimension rows: it counts no addition of rows.
+/// Makes a copy of a warehouse on a device without one, of any size that has room: the same layout and dimension rows,
+/// the same batches in the same order, and the cuboids of the same views, each brought to all batches unless its view
+/// has more than 262,144 cells. So it answers each query as the first does. It has no free sectors between its objects,
+/// and begins with all dimension rows: it counts no addition of rows.
 ///
 /// A refusal hands the device back, and `from` says whether its own device failed. After a crash, and after a refusal
 /// once the copy was begun, the device holds a warehouse of the same dimension rows and the first batches. One batch is
@@ -66,11 +66,12 @@ pub fn copy<D: Sectors, E: Sectors>(
     ensures causes { IfErr result (λ e. (w : Warehouse) → IsAt D.Sectors from.old w → D.keeps_word (device_of from.new)
         → E.keeps_word e.1 → IsCopyFault e.0) }
 {
+    let layout = from.layout();
     let dims = match tables_of(alloc, from) {
         Ok(dims) => dims,
         Err(fault) => return Err((fault, device)),
     };
-    let mut to = match create(alloc, device, dims) {
+    let mut to = match create_as(alloc, device, dims, layout) {
         Ok(session) => session,
         Err(e) => return Err(e),
     };

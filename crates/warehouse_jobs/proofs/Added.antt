@@ -29,7 +29,7 @@ use Rattle.warehouse.specs.Comparing.{numbered}
 use Rattle.warehouse.specs.Found.{MayRepresent}
 use Rattle.warehouse.specs.Headline.{RestartedShows}
 use Rattle.warehouse.specs.Session.{IsAt, device_of, disk_of}
-use Rattle.warehouse.proofs.Preparing.{follows}
+use Rattle.warehouse.proofs.Preparing.{follows_admitted}
 use Rattle.warehouse_jobs.specs.Cutting.{AreCut}
 use Rattle.warehouse_jobs.specs.Lawful.{LoadAddsTheOthers, LoadHoldsItsBatches, LoadedIsEvaluated, CrashedLoadIsFound}
 use Rattle.warehouse_jobs.specs.Loading.{Done, DoesAll, Loads, MayHold, TakesIn, batches_of, session_after, taken_of}
@@ -102,7 +102,7 @@ is_held g w number rows old new taken takes =
     ⊎_elim
     (λ lt.
     let next : number ≡ suc (length w.batches) =
-    omega (arith, (follows w.rows w.batches number rows (takes.follows lt)).next) in
+    omega (arith, (follows_admitted w number rows (takes.follows lt)).next) in
     subst (λ (v : Warehouse). numbered v.batches number ≡ Some rows) (sym (with-added w number rows lt))
     (ap (numbered (w.batches ++ rows ∷ [])) next ∙ get_last w.batches rows))
     (λ le. subst (λ (v : Warehouse). numbered v.batches number ≡ Some rows) (sym (with-skipped w number rows le))

@@ -10,7 +10,7 @@ use Rattle.batch_loader.specs.Unread.{Unread}
 use Rattle.cube_model.specs.declared.fault.Fault.{Fault}
 use Rattle.cube_model.specs.declared.fault.Fault.TheVariants.{Memory}
 use Rattle.cube_model.specs.declared.rows.LineOrder.{LineOrder}
-use Rattle.cube_model.specs.Admission.{IsAdmissible}
+use Rattle.warehouse_objects.specs.Facts.{Admits}
 use Rattle.cube_model.specs.Limits.{most_batches}
 use Rattle.object_store.specs.Content.{Content}
 use Rattle.object_store.specs.Disk.{Leaves}
@@ -20,7 +20,7 @@ use Rattle.warehouse_objects.specs.Warehouse.{Warehouse, loaded}
 use Rattle.warehouse_objects.specs.Represents.{Represents}
 use Rattle.warehouse.specs.declared.session.Session.{Session}
 use Rattle.warehouse.specs.Session.{IsAt, disk_of}
-use Rattle.warehouse.proofs.Preparing.{follows}
+use Rattle.warehouse.proofs.Preparing.{follows_admitted}
 use Rattle.warehouse_jobs.specs.Loading.{Done, Ends, FailsInBatch, Loads, MayHold, batches_of, lines_in, session_after}
 use Rattle.warehouse_jobs.specs.Loading.{with_batch, with_batches}
 use Rattle.warehouse_jobs.specs.Printed.{count_line}
@@ -82,12 +82,12 @@ module _ {D : Type 0} (g : Ghosts D) (w : Warehouse) (first size : ℕ) (text : 
       let number = first + length trace in
       leaves_weaker
       (λ (c : Content). Represents c now
-      ⊎ (IsAdmissible now.rows now.batches number rows × Represents c (loaded now rows)))
+      ⊎ (Admits now number rows × Represents c (loaded now rows)))
       (λ (c : Content). Represents c now ⊎ Represents c (with_batch now number rows)) (disk_of g mid)
       (disk_of g new)
       (λ k c here. ⊎_elim (λ s. inl s)
       (λ s.
-      let next : number ≡ length now.batches + 1 = (follows now.rows now.batches number rows s.0).next in
+      let next : number ≡ length now.batches + 1 = (follows_admitted now number rows s.0).next in
       inr (subst (λ (v : Warehouse). Represents c v) (sym (with-added now number rows (omega (arith, next)))) s.1))
       here) refused.leaves
   failed_leaves new after rows fault (inr (is, takes, written)) = takes.leaves

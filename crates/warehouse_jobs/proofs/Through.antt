@@ -12,7 +12,7 @@ use Rattle.batch_loader.specs.Reading.{TakesBatch}
 use Rattle.batch_loader.specs.Tables.{lineorder_row}
 use Rattle.batch_loader.specs.Unread.{Unread}
 use Rattle.cube_model.specs.declared.rows.LineOrder.{LineOrder}
-use Rattle.cube_model.specs.Admission.{IsAdmissible}
+use Rattle.warehouse_objects.specs.Facts.{Admits}
 use Rattle.cube_model.specs.Limits.{most_batches}
 use Rattle.object_store.specs.Content.{Content}
 use Rattle.object_store.specs.Disk.{Leaves}
@@ -21,7 +21,7 @@ use Rattle.warehouse_objects.specs.Warehouse.{Warehouse}
 use Rattle.warehouse_objects.specs.Represents.{Represents}
 use Rattle.warehouse.specs.declared.session.Session.{Session}
 use Rattle.warehouse.specs.Session.{IsAt, disk_of}
-use Rattle.warehouse.proofs.Preparing.{follows}
+use Rattle.warehouse.proofs.Preparing.{follows_admitted}
 use Rattle.warehouse_jobs.specs.Cutting.{AreCutFrom, IsNextBatch}
 use Rattle.warehouse_jobs.specs.Loading.{Done, DoesAll, MayHold, TakesIn, batches_of, line_in, lines_in, session_after}
 use Rattle.warehouse_jobs.specs.Loading.{taken_of, with_batch, with_batches, written_after}
@@ -138,12 +138,12 @@ stay-on g w first size text trace mid new stay between place one is =
 
 -- a batch that was done has a number of the warehouse after it
 reaches : (w : Warehouse) (number : ℕ) (rows : List LineOrder)
-    → (length w.batches < number → IsAdmissible w.rows w.batches number rows)
+    → (length w.batches < number → Admits w number rows)
     → number ≤ length (with_batch w number rows).batches
 reaches w number rows may =
     ⊎_elim
     (λ lt.
-    let next : number ≡ length w.batches + 1 = (follows w.rows w.batches number rows (may lt)).next in
+    let next : number ≡ length w.batches + 1 = (follows_admitted w number rows (may lt)).next in
     let one_more : length (w.batches ++ rows ∷ []) ≡ length w.batches + 1 = length_push w.batches rows in
     subst (λ (v : Warehouse). number ≤ length v.batches) (sym (with-added w number rows lt))
     (omega (arith, next, one_more)))

@@ -11,7 +11,7 @@ use Rattle.sector_device.specs.Device.{Image, IsImage}
 use Rattle.cube_model.specs.declared.fault.Fault.{Fault}
 use Rattle.cube_model.specs.declared.fault.Fault.TheVariants.{Device}
 use Rattle.cube_model.specs.declared.rows.LineOrder.{LineOrder}
-use Rattle.cube_model.specs.Admission.{IsAdmissible}
+use Rattle.warehouse_objects.specs.Facts.{Admits}
 use Rattle.object_store.specs.Content.{Content}
 use Rattle.object_store.specs.Disk.{Leaves, ShowsSome}
 use Rattle.object_store.specs.Moments.{begins, leaves_weaker}
@@ -141,9 +141,9 @@ still g session w only at =
 -- what became of one batch
 
 module _ {D : Type 0} (g : Ghosts D) (w : Warehouse) (number : ℕ) (rows : List LineOrder) (old new : Session D g) where
-  pub takes-added : length w.batches < number → IsAdmissible w.rows w.batches number rows → IsAt g new (loaded w rows)
+  pub takes-added : length w.batches < number → Admits w number rows → IsAt g new (loaded w rows)
       → Leaves (disk_of g old) (disk_of g new)
-      (λ c. Represents c w ⊎ (IsAdmissible w.rows w.batches number rows × Represents c (loaded w rows)))
+      (λ c. Represents c w ⊎ (Admits w number rows × Represents c (loaded w rows)))
       → TakesIn g w number rows old new Added
   takes-added lt admissible at leaves = record {
     taken_is = sym (is_added w number lt);
@@ -151,7 +151,7 @@ module _ {D : Type 0} (g : Ghosts D) (w : Warehouse) (number : ℕ) (rows : List
     same = λ le. absurd (omega (arith, lt, le));
     at = subst (λ (v : Warehouse). IsAt g new v) (sym (with-added w number rows lt)) at;
     leaves = leaves_weaker
-        (λ (c : Content). Represents c w ⊎ (IsAdmissible w.rows w.batches number rows × Represents c (loaded w rows)))
+        (λ (c : Content). Represents c w ⊎ (Admits w number rows × Represents c (loaded w rows)))
         (λ (c : Content). Represents c w ⊎ Represents c (with_batch w number rows)) (disk_of g old) (disk_of g new)
         (λ k c here. ⊎_elim (λ s. inl s)
         (λ s. inr (subst (λ (v : Warehouse). Represents c v) (sym (with-added w number rows lt)) s.1)) here) leaves;
@@ -160,7 +160,7 @@ module _ {D : Type 0} (g : Ghosts D) (w : Warehouse) (number : ℕ) (rows : List
   pub refuses : (fault : Fault) → (fault ≡ Device → has_failed new ≡ true)
       → ((fault ≡ Device → ⊥) → BatchRefuses g old w number rows fault × IsAt g new w)
       → Leaves (disk_of g old) (disk_of g new)
-      (λ c. Represents c w ⊎ (IsAdmissible w.rows w.batches number rows × Represents c (loaded w rows)))
+      (λ c. Represents c w ⊎ (Admits w number rows × Represents c (loaded w rows)))
       → Refuses g w number rows old new fault
   refuses fault failed causes leaves = record {
     cause = ⊎_elim (λ e. inl (e, failed e)) (λ no. inr (causes no)) (device_or fault);
@@ -200,8 +200,8 @@ module _ {D : Type 0} (g : Ghosts D) (w : Warehouse) (number : ℕ) (rows : List
 
   pub only-read : Leaves (disk_of g old) (disk_of g new) (λ c. Represents c w)
       → Leaves (disk_of g old) (disk_of g new)
-      (λ c. Represents c w ⊎ (IsAdmissible w.rows w.batches number rows × Represents c (loaded w rows)))
+      (λ c. Represents c w ⊎ (Admits w number rows × Represents c (loaded w rows)))
   only-read leaves =
       leaves_weaker (λ (c : Content). Represents c w)
-      (λ (c : Content). Represents c w ⊎ (IsAdmissible w.rows w.batches number rows × Represents c (loaded w rows)))
+      (λ (c : Content). Represents c w ⊎ (Admits w number rows × Represents c (loaded w rows)))
       (disk_of g old) (disk_of g new) (λ k c here. inl here) leaves

@@ -19,12 +19,13 @@ use Rattle.object_store.specs.Content.{Content, bytes_of, look_up}
 use Rattle.column_segment.specs.Segment.{segment_of}
 use Rattle.lattice.specs.Views.{index_of}
 use Rattle.warehouse_root.specs.declared.cuboid.StoredCuboid.{StoredCuboid}
-use Rattle.warehouse_root.specs.declared.layout.Layout.TheVariants.{First}
-use Rattle.warehouse_root.specs.Objects.{object_ids, run_id, run_ids}
-use Rattle.warehouse_root.specs.Root.{PlainRoot}
-use Rattle.warehouse_objects.specs.Warehouse.{Cuboid, Warehouse, cuboid_at}
+use Rattle.warehouse_root.specs.declared.layout.Layout.{Layout}
+use Rattle.warehouse_root.specs.declared.layout.Layout.TheVariants.{First, Second}
+use Rattle.warehouse_root.specs.Layouts.{dimensions_of}
+use Rattle.warehouse_root.specs.Objects.{dimension_ids, object_ids, run_id, run_ids}
+use Rattle.warehouse_objects.specs.Warehouse.{Cuboid, Warehouse, cuboid_at, ship_modes_of}
 use Rattle.warehouse_objects.specs.Represents.{HasItsObjects, Represents, dimension_of, root_of, run_after, run_bytes}
-use Rattle.warehouse_objects.specs.Represents.{run_in, said_of}
+use Rattle.warehouse_objects.specs.Represents.{modes_object, run_in, said_of}
 use Rattle.warehouse_objects.proofs.Batches.{few_batches, get_within}
 use Rattle.warehouse_objects.proofs.Contents.{object_batch}
 use Rattle.warehouse_objects.proofs.OneWarehouse.{object_run}
@@ -135,34 +136,41 @@ once_distinct objects up =
     omega (arith, less, at_i, at_j, same))
 
 -- an id with an object is one of those
-module _ (a b c d : List ℕ) (seg : ℕ → List LineOrder → List ℕ) (batches : List (List LineOrder))
-    (cuboids : List Cuboid) where
+module _ (a b c d : List ℕ) (m : Option (List ℕ)) (seg : ℕ → List LineOrder → List ℕ) (batches : List (List LineOrder))
+    (cuboids : List Cuboid) (count : ℕ) (four : 4 ≤ count) (fifth : is_some m ≡ true → 5 ≤ count) where
   abbrev found : ℕ → Option (List ℕ)
   found id =
       if id == 1 then Some a
       else (if id == 2 then Some b
       else (if id == 3 then Some c
       else (if id == 4 then Some d
+      else (if id == 5 then m
       else (if nat_lt id 65537 then None
       else (if nat_lt id 131072 then option_map (seg (id - 65537 + 1)) (slice_get batches (id - 65537)) else run_after
-      (id - 131072) cuboids)))))
+      (id - 131072) cuboids))))))
 
   asked_for : (id : ℕ) → is_some (found id) ≡ true
-      → asks ((1 ∷ 2 ∷ 3 ∷ 4 ∷ [])
+      → asks (range_with_len 1 count
       ++ (range_with_len 65537 (length (map (λ (l : List LineOrder). length l) batches))
       ++ flat_map run_ids (map said_of cuboids))) id ≡ true
-  asked_for id some = by (cases_lt id 5)
+  asked_for id some = by (cases_lt id 6)
     where
-      by : (id < 5) ⊎ (5 ≤ id)
-          → asks ((1 ∷ 2 ∷ 3 ∷ 4 ∷ [])
+      by : (id < 6) ⊎ (6 ≤ id)
+          → asks (range_with_len 1 count
           ++ (range_with_len 65537 (length (map (λ (l : List LineOrder). length l) batches))
           ++ flat_map run_ids (map said_of cuboids))) id ≡ true
-      by (inl lt) = asks_both (1 ∷ 2 ∷ 3 ∷ 4 ∷ []) _ id (inl (low id lt some))
+      by (inl lt) = asks_both (range_with_len 1 count) _ id (inl (low id lt some))
         where
-          low : (id : ℕ) → id < 5 → is_some (found id) ≡ true → asks (1 ∷ 2 ∷ 3 ∷ 4 ∷ []) id ≡ true
+          low : (id : ℕ) → id < 6 → is_some (found id) ≡ true → asks (range_with_len 1 count) id ≡ true
           low zero lt some = absurd (cc some)
-          low (suc n) lt some = asks_range 1 4 (suc n) (omega arith) (omega (arith, lt))
-      by (inr le) = asks_both (1 ∷ 2 ∷ 3 ∷ 4 ∷ []) _ id (inr (high (cases_lt id 131072)))
+          low (suc n) lt some = last (cases_lt (suc n) 5)
+            where
+              last : (suc n < 5) ⊎ (5 ≤ suc n) → asks (range_with_len 1 count) (suc n) ≡ true
+              last (inl less) = asks_range 1 count (suc n) (omega arith) (omega (arith, less, four))
+              last (inr at) =
+                  let is : found (suc n) ≡ m = grind (arith, nat_tests, lt, at) in
+                  asks_range 1 count (suc n) (omega arith) (omega (arith, lt, fifth (ap is_some (sym is) ∙ some)))
+      by (inr le) = asks_both (range_with_len 1 count) _ id (inr (high (cases_lt id 131072)))
         where
           high : (id < 131072) ⊎ (131072 ≤ id)
               → asks (range_with_len 65537 (length (map (λ (l : List LineOrder). length l) batches))
@@ -195,12 +203,35 @@ module _ (c : Content) (w : Warehouse) (represents : Represents c w) where
   abbrev IsThere : ℕ → Type 0
   IsThere id = IsTrue (is_some (bytes_of c id))
 
-  dimensions : All IsThere (1 ∷ 2 ∷ 3 ∷ 4 ∷ [])
+  fifth_there : (layout : Layout) → w.layout ≡ layout → All IsThere (range_with_len 5 (dimensions_of layout - 4))
+  fifth_there First e = All-nil IsThere
+  fifth_there Second e =
+      All-cons IsThere 5 []
+      (ap is_some (represents.objects 5 ∙ ap (λ (l : Layout). modes_object l (ship_modes_of w)) e)) (All-nil IsThere)
+
+  in_two : (layout : Layout) → dimension_ids layout
+      ≡ (1 ∷ 2 ∷ 3 ∷ 4 ∷ []) ++ range_with_len 5 (dimensions_of layout - 4)
+  in_two First = refl
+  in_two Second = refl
+
+  dimensions : All IsThere (dimension_ids w.layout)
   dimensions =
-      All-cons IsThere 1 (2 ∷ 3 ∷ 4 ∷ []) (ap is_some (represents.objects 1))
+      subst (λ (l : List ℕ). All IsThere l) (sym (in_two w.layout))
+      (All-append IsThere (1 ∷ 2 ∷ 3 ∷ 4 ∷ []) (range_with_len 5 (dimensions_of w.layout - 4))
+      (All-cons IsThere 1 (2 ∷ 3 ∷ 4 ∷ []) (ap is_some (represents.objects 1))
       (All-cons IsThere 2 (3 ∷ 4 ∷ []) (ap is_some (represents.objects 2))
       (All-cons IsThere 3 (4 ∷ []) (ap is_some (represents.objects 3))
-      (All-cons IsThere 4 [] (ap is_some (represents.objects 4)) (All-nil IsThere))))
+      (All-cons IsThere 4 [] (ap is_some (represents.objects 4)) (All-nil IsThere)))))
+      (fifth_there w.layout refl))
+
+  four_dimensions : (layout : Layout) → 4 ≤ dimensions_of layout
+  four_dimensions First = omega arith
+  four_dimensions Second = omega arith
+
+  five_dimensions : (layout : Layout) (modes : List (List ℕ)) → is_some (modes_object layout modes) ≡ true
+      → 5 ≤ dimensions_of layout
+  five_dimensions First modes some = absurd (cc some)
+  five_dimensions Second modes some = omega arith
 
   segments : All IsThere (range_with_len 65537 (length (map length w.batches)))
   segments = all_range IsThere 65537 (length (map length w.batches)) (λ k lt.
@@ -231,25 +262,20 @@ module _ (c : Content) (w : Warehouse) (represents : Represents c w) where
 
   each_there : All IsThere (object_ids (root_of w))
   each_there =
-      subst (λ (root : PlainRoot). All IsThere (object_ids root)) of_first
-      (All-append IsThere (1 ∷ 2 ∷ 3 ∷ 4 ∷ [])
+      All-append IsThere (dimension_ids w.layout)
       (range_with_len 65537 (length (map length w.batches)) ++ flat_map run_ids (map said_of w.cuboids)) dimensions
       (All-append IsThere (range_with_len 65537 (length (map length w.batches)))
-      (flat_map run_ids (map said_of w.cuboids)) segments runs))
-    where
-      of_first : record (root_of w) { layout = First } ≡ root_of w
-      of_first = λ i. record (root_of w) { layout = sym represents.first i }
+      (flat_map run_ids (map said_of w.cuboids)) segments runs)
 
   few_there : length c.objects ≤ length (object_ids (root_of w))
   few_there =
       let most = length-le_from_is_member nat_eq_laws (map (λ (o : ℕ × List ℕ). o.0) c.objects)
-      (object_ids (record (root_of w) { layout = First })) (once_distinct c.objects represents.once) (λ id there.
+      (object_ids (root_of w)) (once_distinct c.objects represents.once) (λ id there.
       asked_for (dimension_of w.rows Customer) (dimension_of w.rows Supplier) (dimension_of w.rows Part)
-      (dimension_of w.rows Date) segment_of w.batches w.cuboids id
+      (dimension_of w.rows Date) (modes_object w.layout (ship_modes_of w)) segment_of w.batches w.cuboids
+      (dimensions_of w.layout) (four_dimensions w.layout) (five_dimensions w.layout (ship_modes_of w)) id
       (ap is_some (sym (represents.objects id)) ∙ sym (looked_up c.objects id) ∙ there)) in
-      let same : object_ids (record (root_of w) { layout = First }) ≡ object_ids (root_of w) =
-      λ i. object_ids (record (root_of w) { layout = sym represents.first i }) in
-      omega (arith, most, length-map c.objects (λ (o : ℕ × List ℕ). o.0), ap (λ (l : List ℕ). length l) same)
+      omega (arith, most, length-map c.objects (λ (o : ℕ × List ℕ). o.0))
 
   pub has_objects : HasItsObjects c (root_of w)
   has_objects = record { each = each_there; few = few_there }
@@ -269,20 +295,24 @@ module _ (c : Content) (w : Warehouse) (represents : Represents c w) where
         length-range_with_len (run_id cuboid.view 0) cuboid.runs,
       )
 
-  pub few_objects : length c.objects ≤ 4228
+  few_dimensions : (layout : Layout) → dimensions_of layout ≤ 5
+  few_dimensions First = omega arith
+  few_dimensions Second = omega arith
+
+  pub few_objects : length c.objects ≤ 4229
   few_objects =
       let runs_few =
       few_runs (map said_of w.cuboids) (λ k d within. (represents.root.proper.each k d within).most_runs) in
-      let first : length (object_ids (record (root_of w) { layout = First })) ≤ 4228 = omega (
+      omega (
         arith,
-        length-append (1 ∷ 2 ∷ 3 ∷ 4 ∷ [])
+        few_there,
+        few_dimensions w.layout,
+        length-range_with_len 1 (dimensions_of w.layout),
+        length-append (dimension_ids w.layout)
             (range_with_len 65537 (length (map length w.batches)) ++ flat_map run_ids (map said_of w.cuboids)),
         length-append (range_with_len 65537 (length (map length w.batches))) (flat_map run_ids (map said_of w.cuboids)),
         length-range_with_len 65537 (length (map length w.batches)),
         runs_few,
         represents.root.proper.most_batches,
         represents.root.proper.most_cuboids,
-      ) in
-      let same : object_ids (record (root_of w) { layout = First }) ≡ object_ids (root_of w) =
-      λ i. object_ids (record (root_of w) { layout = sym represents.first i }) in
-      omega (arith, few_there, first, ap (λ (l : List ℕ). length l) same)
+      )

@@ -7,7 +7,7 @@ use Rattle.std.proofs.lemmas.List.{length-map, length-take-le, take-append-le, t
 use Rattle.std.proofs.lemmas.List.Elements.{All-cons, All-map, All-nil}
 use Rattle.std.proofs.lemmas.Option.{slice_get-get_or, slice_get_within}
 use Rattle.cube_model.specs.Admission.{AreInRange, HaveKnownKeys, IsAdmissible, all_rows, is_long, long_field}
-use Rattle.cube_model.specs.Admission.{long_text}
+use Rattle.cube_model.specs.Admission.{early_refusal, long_text}
 use Rattle.cube_model.specs.Causes.{cause_if, first_cause}
 use Rattle.cube_model.specs.Limits.{longest_text, most_batch_rows, most_batches}
 use Rattle.cube_model.specs.declared.fault.Fault.{Fault}
@@ -32,12 +32,12 @@ use Rattle.warehouse_objects.specs.Warehouse.{AreInOrder, IsNext, Warehouse}
 
 -- ---- an admissible batch
 
-both : (cause : Option Fault) (causes : List (Option Fault)) → first_cause (cause ∷ causes) ≡ None
+pub both : (cause : Option Fault) (causes : List (Option Fault)) → first_cause (cause ∷ causes) ≡ None
     → (cause ≡ None) × (first_cause causes ≡ None)
 both None causes e = (refl, e)
 both (Some fault) causes e = absurd cc
 
-only : (cause : Option Fault) → first_cause (cause ∷ []) ≡ None → cause ≡ None
+pub only : (cause : Option Fault) → first_cause (cause ∷ []) ≡ None → cause ≡ None
 only None e = refl
 only (Some fault) e = e
 
@@ -84,7 +84,8 @@ module _ (rows : DimRows) (batches : List (List LineOrder)) (number : ℕ) (batc
 
   pub next_number : number ≡ length batches + 1
   next_number =
-      let first = both (cause_if (nat_le number (length batches)) Repeated) _ admissible in
+      let early = both (early_refusal rows batches number batch) _ admissible in
+      let first = both (cause_if (nat_le number (length batches)) Repeated) _ early.0 in
       let second = both (cause_if (nat_lt (length batches + 1) number) Gap) _ first.1 in
       let above : nat_le number (length batches) ≡ false = not_so _ Repeated first.0 in
       let within : nat_lt (length batches + 1) number ≡ false = not_so _ Gap second.0 in

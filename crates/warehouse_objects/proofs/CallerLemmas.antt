@@ -24,15 +24,29 @@ pub use Rattle.warehouse_objects.proofs.Chosen.{
 }
 pub use Rattle.warehouse_objects.proofs.Contents.{
   batch_is_put,
+  beginning_is_put,
   dimensions_are_puts,
   has_rows,
+  loading_is_put,
   object_batch,
   root_loaded,
   rows_one,
   represents_aimed,
   represents_created,
   represents_loaded,
+  segment_and_modes,
 }
 pub use Rattle.warehouse_objects.proofs.Lengths.{segment_least, segment_most}
-pub use Rattle.warehouse_objects.proofs.OneWarehouse.{laid_of, laid_one, object_run, one_warehouse, own_view}
+pub use Rattle.warehouse_objects.proofs.ModesRead.{modes_one, modes_still}
+pub use Rattle.warehouse_objects.proofs.OneWarehouse.{
+  laid_of,
+  laid_one,
+  object_run,
+  one_layout,
+  one_warehouse,
+  own_view,
+  plain_view,
+  plain_views,
+}
 pub use Rattle.warehouse_objects.proofs.Asked.{few_objects}
+pub use Rattle.warehouse_objects.proofs.KeptModes.{admissible_in, admitted_in_order, no_modes}

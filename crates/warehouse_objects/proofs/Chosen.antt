@@ -25,16 +25,17 @@ use Rattle.lattice.specs.declared.view.View.{View}
 use Rattle.lattice.specs.Views.{index_of, lattice}
 use Rattle.warehouse_root.specs.declared.cuboid.StoredCuboid.{StoredCuboid}
 use Rattle.warehouse_root.specs.declared.layout.Layout.{Layout}
+use Rattle.warehouse_root.specs.declared.layout.Layout.TheVariants.{First, Second}
 use Rattle.warehouse_root.specs.Layouts.{number_of, views_of}
 use Rattle.warehouse_root.specs.Limits.{most_cuboids}
 use Rattle.warehouse_root.specs.Objects.{run_id, run_ids}
 use Rattle.warehouse_root.specs.Root as roots
-use Rattle.warehouse_root.specs.Root.{AreAscending, IsProperCuboid}
+use Rattle.warehouse_root.specs.Root.{AreAscending, GroupNoModes, IsProperCuboid}
 use Rattle.warehouse_objects.specs.Warehouse.{Cuboid, Warehouse, cuboid_at, dropped_ids, in_order, is_among, kept_of}
-use Rattle.warehouse_objects.specs.Warehouse.{with_views}
+use Rattle.warehouse_objects.specs.Warehouse.{ship_modes_of, with_views}
 use Rattle.warehouse_objects.specs.Represents.{HoldsGroupings, Represents, dimension_of, numbers_among, object_of}
 use Rattle.warehouse_objects.specs.Represents.{root_of, run_after, run_bytes, run_in, said_below, said_of, said_or_new}
-use Rattle.warehouse_objects.specs.Represents.{said_with}
+use Rattle.warehouse_objects.specs.Represents.{modes_object, said_with}
 use Rattle.warehouse_objects.proofs.Asked.{asks, asks_range, nat_eq_laws}
 use Rattle.warehouse_objects.proofs.Batches.{AreProperCuboids, root_proper}
 use Rattle.warehouse_objects.proofs.Contents.{objects_high, objects_low}
@@ -559,8 +560,19 @@ module _ (c : Content) (w : Warehouse) (views : List View) (represents : Represe
   abbrev bytes : List ℕ
   bytes = roots.root_of (root_of (with_views w views))
 
-  first_views : views_of w.layout ≡ 256
-  first_views = ap views_of represents.first
+  enough_views : (layout : Layout) → 256 ≤ views_of layout
+  enough_views First = omega arith
+  enough_views Second = omega arith
+
+  -- as cuboids of the first layout
+  first_each : All (IsProperCuboid First (length (map length w.batches))) (map said_of w.cuboids)
+  first_each = λ k d within. let is = represents.root.proper.each k d within in record {
+    view = represents.plain k d within;
+    mark = is.mark;
+    no_run = is.no_run;
+    most_runs = is.most_runs;
+    most_cells = is.most_cells;
+  }
 
   abbrev Proper : StoredCuboid → Type 0
   Proper = IsProperCuboid w.layout (length (map length w.batches))
@@ -577,17 +589,23 @@ module _ (c : Content) (w : Warehouse) (views : List View) (represents : Represe
           ≡ object_of (with_views w views) id
       by (inl lt) = not_dropped views w.cuboids id (object_of w id) lt
           ∙ sym (objects_low (dimension_of w.rows Customer) (dimension_of w.rows Supplier) (dimension_of w.rows Part)
-          (dimension_of w.rows Date) segment_of (λ place. run_after place w.cuboids)
+          (dimension_of w.rows Date) (modes_object w.layout (ship_modes_of w)) segment_of
+          (λ place. run_after place w.cuboids)
           (λ place. run_after place (map (kept_at w.cuboids) (in_order views))) w.batches id (object_of w id) lt
           refl)
       by (inr le) =
           ap (without (dropped_ids w views) id)
           (objects_high (dimension_of w.rows Customer) (dimension_of w.rows Supplier) (dimension_of w.rows Part)
-          (dimension_of w.rows Date) segment_of (λ place. run_after place w.cuboids) w.batches id le)
+          (dimension_of w.rows Date) (modes_object w.layout (ship_modes_of w)) segment_of
+          (λ place. run_after place w.cuboids) w.batches id le)
           ∙ chooses w.cuboids views id (λ k d within. (proper_each k d within).most_runs)
-          (λ k d within. omega (arith, (proper_each k d within).view, first_views)) le
+          (λ k d within. omega (
+            arith,
+            ap (λ (s : StoredCuboid). s.view) (get_or-map said_of w.cuboids k d (said_of d) within),
+            represents.plain k (said_of d) (omega (arith, within, length-map w.cuboids said_of)),
+          )) le
           ∙ sym (objects_high (dimension_of w.rows Customer) (dimension_of w.rows Supplier) (dimension_of w.rows Part)
-          (dimension_of w.rows Date) segment_of
+          (dimension_of w.rows Date) (modes_object w.layout (ship_modes_of w)) segment_of
           (λ place. run_after place (map (kept_at w.cuboids) (in_order views))) w.batches id le)
 
   proper_chosen : AreProperCuboids (with_views w views)
@@ -598,10 +616,17 @@ module _ (c : Content) (w : Warehouse) (views : List View) (represents : Represe
             (said_few views (map said_of w.cuboids) few);
         each = subst (λ (l : List StoredCuboid). All Proper l) (sym same)
             (said_each views (map said_of w.cuboids) w.layout (length (map length w.batches))
-            (omega (arith, first_views)) represents.root.proper.each);
+            (enough_views w.layout) represents.root.proper.each);
         ascending =
             subst (λ (l : List StoredCuboid). AreAscending l) (sym same) (said_ascend views (map said_of w.cuboids));
       }
+
+  plain_chosen : GroupNoModes (root_of (with_views w views))
+  plain_chosen =
+      subst (λ (l : List StoredCuboid). All (λ (cuboid : StoredCuboid). cuboid.view < 256) l)
+      (sym (said_of_views views w.cuboids))
+      (λ k d within. (said_each views (map said_of w.cuboids) First (length (map length w.batches)) (omega arith)
+      first_each k d within).view)
 
   hold_chosen : All (HoldsGroupings (with_views w views)) (map (kept_at w.cuboids) (in_order views))
   hold_chosen = All-map (HoldsGroupings (with_views w views)) (kept_at w.cuboids) (in_order views)
@@ -636,7 +661,6 @@ module _ (c : Content) (w : Warehouse) (views : List View) (represents : Represe
         ∙ ap (without (dropped_ids w views) id) (represents.objects id) ∙ object_chosen id;
     once = once_after [] (dropped_ids w views) bytes (number_of w.layout) c represents.once;
     layout = layout_after [] (dropped_ids w views) bytes (number_of w.layout) c;
-    first = represents.first;
     root = record {
       spelled = root_after [] (dropped_ids w views) bytes (number_of w.layout) c;
       proper = root_proper (with_views w views) represents.batches (omega arith) represents.root.proper.additions
@@ -644,6 +668,8 @@ module _ (c : Content) (w : Warehouse) (views : List View) (represents : Represe
     };
     rows = represents.rows;
     batches = represents.batches;
+    modes = represents.modes;
+    plain = plain_chosen;
     cuboids = hold_chosen;
   }
 

@@ -1,30 +1,34 @@
 -- What contents represent.
 use Rattle.std.proofs.Common.{◌≡◌, ◌≢◌, ◌<◌, ◌≤◌, ◌+◌, ◌-◌, ◌==◌, ◌∙◌, suc, sym, ap, refl, subst, arith, drop, get_or}
-use Rattle.std.proofs.Common.{nat_lt, if◌then◌else◌, ℕ, true, false, List, [], ◌∷◌, ◌++◌, map, length, slice_get}
+use Rattle.std.proofs.Common.{nat_lt, if◌then◌else◌, ℕ, Bool, true, false, List, [], ◌∷◌, ◌++◌, map, length, slice_get}
 use Rattle.std.proofs.Common.{Option, Some, None, All, length-append}
 use Rattle.std.specs.List.{AllPairs}
 use Rattle.std.specs.Option.{option_map}
 use Rattle.std.proofs.lemmas.Bool.Decides.{nat_tests}
-use Rattle.std.proofs.lemmas.List.{get_or-map, length-map, map-append, take-append-le}
-use Rattle.std.proofs.lemmas.List.Elements.{All-cons, All-head, All-nil, All-tail}
+use Rattle.std.proofs.lemmas.List.{append-nil, get_or-map, length-map, map-append, take-append-le}
+use Rattle.std.proofs.lemmas.List.Elements.{All-append, All-cons, All-head, All-nil, All-tail}
 use Rattle.std.proofs.lemmas.List.Kept.{AllPairs-cons}
 use Rattle.cube_model.specs.declared.attr.Axis.TheVariants.{Customer, Supplier, Part, Date}
 use Rattle.cube_model.specs.declared.rows.DimRows.{DimRows}
 use Rattle.cube_model.specs.declared.rows.LineOrder.{LineOrder}
+use Rattle.batch_admission.proofs.CallerLemmas.{all_rows-last}
 use Rattle.batch_admission.specs.Totals.{totals_of}
 use Rattle.cube_model.specs.Admission.{IsAdmissible, all_rows}
 use Rattle.cube_model.specs.Lawful.{KeepAllRules, ValidRowsKeepTheRules}
-use Rattle.object_store.specs.Content.{Content}
-use Rattle.object_store.specs.Commit.{ArePuts, IsObject, committed, created}
+use Rattle.object_store.specs.Content.{Content, bytes_of}
+use Rattle.object_store.specs.Commit.{ArePuts, IsObject, among, committed, created}
 use Rattle.object_store.proofs.CallerLemmas.{bytes_after, bytes_created, layout_after, layout_created, once_after}
 use Rattle.object_store.proofs.CallerLemmas.{once_created, one_put, root_after, root_created}
-use Rattle.object_store.proofs.Lists.{AllPairs-nil}
+use Rattle.object_store.proofs.Lists.{AllPairs-head, AllPairs-nil, AllPairs-tail}
 use Rattle.column_segment.specs.Segment.{FitColumns, IsBatch, segment_of}
 use Rattle.dimensions.proofs.CallerLemmas.{good_customers, good_dates, good_parts, good_suppliers}
 use Rattle.dimensions.specs.Shown.{rows_on}
-use Rattle.warehouse_root.specs.declared.layout.Layout.TheVariants.{First}
+use Rattle.warehouse_root.specs.declared.layout.Layout.{Layout}
+use Rattle.warehouse_root.specs.declared.layout.Layout.TheVariants.{First, Second}
 use Rattle.warehouse_root.specs.Layouts.{number_of}
+use Rattle.warehouse_root.specs.Modes.{AreModes, kept_modes, modes_spelling}
 use Rattle.warehouse_root.specs.Objects.{segment_id}
+use Rattle.warehouse_root.proofs.ModesLaws.{modes_spelling-least, modes_spelling-most}
 use Rattle.warehouse_root.specs.Root as roots
 use Rattle.warehouse_root.specs.Root.{IsProper, IsProperCuboid}
 use Rattle.warehouse_root.specs.declared.cuboid.StoredCuboid.{StoredCuboid}
@@ -33,27 +37,34 @@ use Rattle.cuboid_cells.specs.Spelled.{IsSpan}
 use Rattle.cuboid_cells.specs.Steps.{cells_of}
 use Rattle.cuboid_upkeep.specs.Grouping.{RepresentRows}
 use Rattle.warehouse_objects.specs.Warehouse.{AreInOrder, AreStorable, Cuboid, IsNext, StoredRun, Warehouse, aimed}
-use Rattle.warehouse_objects.specs.Warehouse.{fresh, loaded, modes_of}
-use Rattle.warehouse_objects.specs.Represents.{Follow, HasRows, HoldsGroupings, Represents, dimension_of, object_of}
+use Rattle.warehouse_objects.specs.Facts.{Admits}
+use Rattle.warehouse_objects.specs.Warehouse.{fresh_in, loaded, modes_of, ship_modes_of}
+use Rattle.warehouse_objects.specs.Represents.{Follow, HasRows, HoldsGroupings, Represents, dimension_of, modes_object}
+use Rattle.warehouse_objects.specs.Represents.{object_of}
 use Rattle.warehouse_objects.specs.Represents.{root_of, rows_in, run_after, said_of, segment_after, stored}
-use Rattle.warehouse_objects.specs.Lawful.{batch_put, dimension_puts}
-use Rattle.warehouse_objects.proofs.Batches.{few_batches, in_order_more, in_order_none, next_number, root_proper}
+use Rattle.warehouse_objects.specs.Lawful.{batch_put, beginning_puts, dimension_puts, loading_puts, modes_put}
+use Rattle.warehouse_objects.specs.Lawful.{new_modes_put}
+use Rattle.warehouse_objects.proofs.Batches.{few_batches, in_order_more, in_order_none, is_batch, next_number}
+use Rattle.warehouse_objects.proofs.Batches.{root_proper}
 use Rattle.warehouse_objects.proofs.Batches.{slice_get_snoc, some_one}
 use Rattle.warehouse_objects.proofs.Lengths.{dimension_least, dimension_most, segment_least, segment_most}
 use Rattle.warehouse_objects.proofs.Rows.{same_rows}
+use Rattle.warehouse_objects.proofs.KeptModes.{admissible_in, modes_more, modes_none, modes_same}
+use Rattle.warehouse_objects.proofs.KeptModes.{nothing_kept}
 
 -- ---- objects, by their ids
 
-module _ (a b c d : List ℕ) (f : ℕ → List LineOrder → List ℕ) (g : ℕ → Option (List ℕ)) where
+module _ (a b c d : List ℕ) (m : Option (List ℕ)) (f : ℕ → List LineOrder → List ℕ) (g : ℕ → Option (List ℕ)) where
   abbrev objects_in : List (List LineOrder) → ℕ → Option (List ℕ)
   objects_in batches id =
       if id == 1 then Some a
       else (if id == 2 then Some b
       else (if id == 3 then Some c
       else (if id == 4 then Some d
+      else (if id == 5 then m
       else (if nat_lt id 65537 then None
       else (if nat_lt id 131072 then option_map (f (id - 65537 + 1)) (slice_get batches (id - 65537)) else g
-      (id - 131072))))))
+      (id - 131072)))))))
 
   one_more : (batches : List (List LineOrder)) (batch : List LineOrder) (number id : ℕ) → number ≡ length batches + 1
       → number ≤ 65535
@@ -86,9 +97,10 @@ module _ (a b c d : List ℕ) (f : ℕ → List LineOrder → List ℕ) (g : ℕ
       (if id == 2 then Some b else
       (if id == 3 then Some c else
       (if id == 4 then Some d else
+      (if id == 5 then m else
       (if nat_lt id 65537 then None else
       (if nat_lt id 131072 then option_map (f (id - 65537 + 1)) (slice_get batches (id - 65537)) else h
-      (id - 131072))))))) ≡ t
+      (id - 131072)))))))) ≡ t
   objects_low h batches id t low is = grind (arith, nat_tests, low, is)
 
   pub objects_high : (batches : List (List LineOrder)) (id : ℕ) → 131072 ≤ id → objects_in batches id ≡ g (id - 131072)
@@ -97,43 +109,84 @@ module _ (a b c d : List ℕ) (f : ℕ → List LineOrder → List ℕ) (g : ℕ
 four_objects : (a b c d : List ℕ) (f : ℕ → List LineOrder → List ℕ) (id : ℕ)
     → (if 4 == id then Some d else
     (if 3 == id then Some c else (if 2 == id then Some b else (if 1 == id then Some a else None))))
-    ≡ objects_in a b c d f (λ _. None) [] id
+    ≡ objects_in a b c d None f (λ _. None) [] id
 four_objects a b c d f id = grind (arith, nat_tests)
+
+-- the object of ship modes
+fifth_object : (a b c d e : List ℕ) (m : Option (List ℕ)) (f : ℕ → List LineOrder → List ℕ) (g : ℕ → Option (List ℕ))
+    (batches : List (List LineOrder)) (id : ℕ)
+    → (if 5 == id then Some e else objects_in a b c d m f g batches id) ≡ objects_in a b c d (Some e) f g batches id
+fifth_object a b c d e m f g batches id = grind (arith, nat_tests)
+
+-- the object of ship modes where it is put again, if there are more
+modes_again : (a b c d : List ℕ) (f : ℕ → List LineOrder → List ℕ) (g : ℕ → Option (List ℕ))
+    (batches : List (List LineOrder)) (layout : Layout) (old new : List (List ℕ)) (id : ℕ)
+    → (length new ≡ length old → new ≡ old)
+    → among (if length new == length old then [] else modes_put layout new) id
+    (objects_in a b c d (modes_object layout old) f g batches id)
+    ≡ objects_in a b c d (modes_object layout new) f g batches id
+modes_again a b c d f g batches layout old new id same =
+    (elim (length new == length old) as (λ (t : Bool). (length new == length old) ≡ t
+    → among (if t then [] else modes_put layout new) id (objects_in a b c d (modes_object layout old) f g batches id)
+    ≡ objects_in a b c d (modes_object layout new) f g batches id) [
+      | true ↦ λ e.
+          (let many : length new ≡ length old = grind (arith, nat_tests, e) in
+          ap (λ (l : List (List ℕ)). objects_in a b c d (modes_object layout l) f g batches id) (sym (same many)))
+      | false ↦ λ e. put layout
+    ]) refl
+  where
+    put : (l : Layout) → among (modes_put l new) id (objects_in a b c d (modes_object l old) f g batches id)
+        ≡ objects_in a b c d (modes_object l new) f g batches id
+    put First = refl
+    put Second = fifth_object a b c d (modes_spelling new) (Some (modes_spelling old)) f g batches id
 
 -- the object of a batch
 pub object_batch : (w : Warehouse) (before : ℕ) → before < 65535
     → object_of w (65537 + before) ≡ segment_after before w.batches
 object_batch w before low =
     object_after (dimension_of w.rows Customer) (dimension_of w.rows Supplier) (dimension_of w.rows Part)
-    (dimension_of w.rows Date) segment_of (λ place. run_after place w.cuboids) w.batches before low
+    (dimension_of w.rows Date) (modes_object w.layout (ship_modes_of w)) segment_of (λ place. run_after place w.cuboids)
+    w.batches before low
 
 -- ---- a content that was made
 
-abbrev first_bytes : List ℕ
-first_bytes = roots.root_of (roots.first_root First)
+abbrev first_bytes : Layout → List ℕ
+first_bytes layout = roots.root_of (roots.first_root layout)
 
-pub represents_created : (rows : DimRows) → AreStorable rows
-    → Represents (created (dimension_puts rows) first_bytes (number_of First)) (fresh rows)
-represents_created rows storable = record {
-  objects = λ id.
-      bytes_created (dimension_puts rows) first_bytes (number_of First) id
-      ∙ four_objects (dimension_of rows Customer) (dimension_of rows Supplier) (dimension_of rows Part)
-      (dimension_of rows Date) segment_of id;
-  once = once_created (dimension_puts rows) first_bytes (number_of First);
-  layout = layout_created (dimension_puts rows) first_bytes (number_of First);
-  first = refl;
-  root = record {
-    spelled = root_created (dimension_puts rows) first_bytes (number_of First);
-    proper = root_proper (fresh rows) (in_order_none rows) (omega arith) (omega arith) (record {
-      most = omega arith;
-      each = All-nil (IsProperCuboid First 0);
-      ascending = AllPairs-nil (λ (one : StoredCuboid) (other : StoredCuboid). one.view < other.view);
-    });
-  };
-  rows = storable;
-  batches = in_order_none rows;
-  cuboids = All-nil (HoldsGroupings (fresh rows));
-}
+-- the objects that a warehouse is made of
+objects_first : (rows : DimRows) (id : ℕ) (layout : Layout)
+    → among (beginning_puts layout rows) id None ≡ object_of (fresh_in layout rows) id
+objects_first rows id First =
+    four_objects (dimension_of rows Customer) (dimension_of rows Supplier) (dimension_of rows Part)
+    (dimension_of rows Date) segment_of id
+objects_first rows id Second =
+    ap (λ (o : Option (List ℕ)). if 5 == id then Some (modes_spelling []) else o)
+    (four_objects (dimension_of rows Customer) (dimension_of rows Supplier) (dimension_of rows Part)
+    (dimension_of rows Date) segment_of id)
+    ∙ fifth_object (dimension_of rows Customer) (dimension_of rows Supplier) (dimension_of rows Part)
+    (dimension_of rows Date) (modes_spelling []) None segment_of (λ _. None) [] id
+
+pub represents_created : (layout : Layout) (rows : DimRows) → AreStorable rows
+    → Represents (created (beginning_puts layout rows) (first_bytes layout) (number_of layout)) (fresh_in layout rows)
+represents_created layout rows storable =
+    let puts : List (ℕ × List ℕ) = beginning_puts layout rows in record {
+      objects = λ id. bytes_created puts (first_bytes layout) (number_of layout) id ∙ objects_first rows id layout;
+      once = once_created puts (first_bytes layout) (number_of layout);
+      layout = layout_created puts (first_bytes layout) (number_of layout);
+      root = record {
+        spelled = root_created puts (first_bytes layout) (number_of layout);
+        proper = root_proper (fresh_in layout rows) (in_order_none rows) (omega arith) (omega arith) (record {
+          most = omega arith;
+          each = All-nil (IsProperCuboid layout 0);
+          ascending = AllPairs-nil (λ (one : StoredCuboid) (other : StoredCuboid). one.view < other.view);
+        });
+      };
+      rows = storable;
+      batches = in_order_none rows;
+      modes = modes_none layout;
+      plain = All-nil (λ (cuboid : StoredCuboid). cuboid.view < 256);
+      cuboids = All-nil (HoldsGroupings (fresh_in layout rows));
+    }
 
 -- ---- one batch more
 
@@ -151,6 +204,11 @@ ends_within from mark (run ∷ runs) follow spans =
     let rest = ends_within run.span.to mark runs follow.1 (All-tail (λ r. IsSpan r.span) run runs spans) in
     let own = All-head (λ r. IsSpan r.span) run runs spans in
     (omega (arith, rest.0, own.some, follow.0), All-cons (λ r. r.span.to ≤ mark) run runs rest.0 rest.1)
+
+-- the ship modes with those of one batch more
+more_modes : (w : Warehouse) (batch : List LineOrder)
+    → ship_modes_of (loaded w batch) ≡ kept_modes w.layout (all_rows w.batches ++ batch)
+more_modes w batch = ap (kept_modes w.layout) (all_rows-last w.batches batch)
 
 -- a cuboid holds what it held where a batch is added
 groupings_more : (w : Warehouse) (batch : List LineOrder) (cuboid : Cuboid) → cuboid.mark ≤ length w.batches
@@ -174,7 +232,10 @@ mark_within w proper = λ k d within.
     omega (arith, said.mark, ap (λ (s : StoredCuboid). s.mark) same, length-map w.batches length)
 
 module _ (c : Content) (w : Warehouse) (number : ℕ) (batch : List LineOrder) (represents : Represents c w)
-    (admissible : IsAdmissible w.rows w.batches number batch) (fits : FitColumns batch) where
+    (admits : Admits w number batch) (fits : FitColumns batch) where
+  admissible : IsAdmissible w.rows w.batches number batch
+  admissible = admissible_in w.layout w.rows w.batches number batch admits
+
   abbrev bytes : List ℕ
   bytes = roots.root_of (root_of (loaded w batch))
 
@@ -212,21 +273,35 @@ module _ (c : Content) (w : Warehouse) (number : ℕ) (batch : List LineOrder) (
     most_cells = is.most_cells;
   }
 
-  pub represents_loaded : Represents (committed (batch_put number batch) [] bytes (number_of w.layout) c)
-      (loaded w batch)
+  abbrev puts : List (ℕ × List ℕ)
+  puts = loading_puts w number batch
+
+  same_modes : length (ship_modes_of (loaded w batch)) ≡ length (ship_modes_of w)
+      → ship_modes_of (loaded w batch) ≡ ship_modes_of w
+  same_modes many =
+      more_modes w batch
+      ∙ modes_same w.layout (all_rows w.batches) batch (sym (ap length (more_modes w batch)) ∙ many)
+
+  objects_loaded : (id : ℕ) → among puts id (bytes_of c id) ≡ object_of (loaded w batch) id
+  objects_loaded id =
+      ap (λ (o : Option (List ℕ)). among (new_modes_put w batch) id
+      (if 65536 + number == id then Some (segment_of number batch) else o))
+      (represents.objects id)
+      ∙ ap (among (new_modes_put w batch) id)
+      (one_more (dimension_of w.rows Customer) (dimension_of w.rows Supplier) (dimension_of w.rows Part)
+      (dimension_of w.rows Date) (modes_object w.layout (ship_modes_of w)) segment_of
+      (λ place. run_after place w.cuboids) w.batches batch number id is_next few)
+      ∙ modes_again (dimension_of w.rows Customer) (dimension_of w.rows Supplier) (dimension_of w.rows Part)
+      (dimension_of w.rows Date) segment_of (λ place. run_after place w.cuboids) (w.batches ++ batch ∷ [])
+      w.layout (ship_modes_of w) (ship_modes_of (loaded w batch)) id same_modes
+
+  pub represents_loaded : Represents (committed puts [] bytes (number_of w.layout) c) (loaded w batch)
   represents_loaded = record {
-    objects = λ id.
-        bytes_after (batch_put number batch) [] bytes (number_of w.layout) c id
-        ∙ ap (λ (o : Option (List ℕ)). if 65536 + number == id then Some (segment_of number batch) else o)
-        (represents.objects id)
-        ∙ one_more (dimension_of w.rows Customer) (dimension_of w.rows Supplier) (dimension_of w.rows Part)
-        (dimension_of w.rows Date) segment_of (λ place. run_after place w.cuboids) w.batches batch number id
-        is_next few;
-    once = once_after (batch_put number batch) [] bytes (number_of w.layout) c represents.once;
-    layout = layout_after (batch_put number batch) [] bytes (number_of w.layout) c;
-    first = represents.first;
+    objects = λ id. bytes_after puts [] bytes (number_of w.layout) c id ∙ objects_loaded id;
+    once = once_after puts [] bytes (number_of w.layout) c represents.once;
+    layout = layout_after puts [] bytes (number_of w.layout) c;
     root = record {
-      spelled = root_after (batch_put number batch) [] bytes (number_of w.layout) c;
+      spelled = root_after puts [] bytes (number_of w.layout) c;
       proper = root_proper (loaded w batch) in_order target represents.root.proper.additions (record {
         most = represents.root.proper.most_cuboids;
         each = λ k d within. proper_more (get_or (map said_of w.cuboids) k d) (represents.root.proper.each k d within);
@@ -235,6 +310,9 @@ module _ (c : Content) (w : Warehouse) (number : ℕ) (batch : List LineOrder) (
     };
     rows = represents.rows;
     batches = in_order;
+    modes = subst AreModes (sym (more_modes w batch))
+        (modes_more w.layout w.rows w.batches number batch represents.batches represents.modes admits);
+    plain = represents.plain;
     cuboids = λ k d within. groupings_more w batch (get_or w.cuboids k d) (marks k d within)
         (represents.cuboids k d within);
   }
@@ -248,7 +326,6 @@ represents_aimed c w represents =
       objects = λ id. bytes_after [] [] bytes (number_of w.layout) c id ∙ represents.objects id;
       once = once_after [] [] bytes (number_of w.layout) c represents.once;
       layout = layout_after [] [] bytes (number_of w.layout) c;
-      first = represents.first;
       root = record {
         spelled = root_after [] [] bytes (number_of w.layout) c;
         proper = root_proper (aimed w) represents.batches (omega arith) represents.root.proper.additions (record {
@@ -259,6 +336,8 @@ represents_aimed c w represents =
       };
       rows = represents.rows;
       batches = represents.batches;
+      modes = represents.modes;
+      plain = represents.plain;
       cuboids = λ k d within. let holds = represents.cuboids k d within in record {
         laid = record { follow = holds.laid.follow; spans = holds.laid.spans; proper = holds.laid.proper };
         groupings = holds.groupings;
@@ -348,6 +427,71 @@ module _ (law : ValidRowsKeepTheRules) (rows : DimRows) (storable : AreStorable 
 pub batch_is_put : (number : ℕ) (batch : List LineOrder) → IsBatch batch → ArePuts (batch_put number batch)
 batch_is_put number batch is = one_put (segment_id number) (segment_of number batch) (segment_least number batch)
     (segment_most number batch is)
+
+AllPairs-snoc : {A : Type 0} (R : A → A → Type 0) (xs : List A) (y : A) → AllPairs R xs → All (λ x. R x y) xs
+    → AllPairs R (xs ++ y ∷ [])
+AllPairs-snoc R [] y pairs all = AllPairs-cons R y [] (All-nil (R y)) (AllPairs-nil R)
+AllPairs-snoc {A} R (x ∷ xs) y pairs all =
+    AllPairs-cons R x (xs ++ y ∷ [])
+    (All-append (R x) xs (y ∷ []) (AllPairs-head R x xs pairs)
+    (All-cons (R x) y [] (All-head (λ (z : A). R z y) x xs all) (All-nil (R x))))
+    (AllPairs-snoc R xs y (AllPairs-tail R x xs pairs) (All-tail (λ (z : A). R z y) x xs all))
+
+modes_is_object : (modes : List (List ℕ)) → AreModes modes → IsObject (5, modes_spelling modes)
+modes_is_object modes are = record { least = modes_spelling-least modes; most = modes_spelling-most modes are }
+
+-- puts below 5, and the object of ship modes in a layout
+with_modes_put : (puts : List (ℕ × List ℕ)) (layout : Layout) (modes : List (List ℕ)) → AreModes modes → ArePuts puts
+    → All (λ (put : ℕ × List ℕ). put.0 ≢ 5) puts → ArePuts (puts ++ modes_put layout modes)
+with_modes_put puts First modes are those apart = subst ArePuts (sym (append-nil puts)) those
+with_modes_put puts Second modes are those apart = record {
+  each = All-append IsObject puts ((5, modes_spelling modes) ∷ []) those.each
+      (All-cons IsObject (5, modes_spelling modes) [] (modes_is_object modes are) (All-nil IsObject));
+  distinct = AllPairs-snoc (λ (a : ℕ × List ℕ) (b : ℕ × List ℕ). a.0 ≢ b.0) puts (5, modes_spelling modes)
+      those.distinct apart;
+}
+
+-- what a warehouse is made of can be put
+pub beginning_is_put : (rows : DimRows) → ArePuts (dimension_puts rows) → (layout : Layout)
+    → ArePuts (beginning_puts layout rows)
+beginning_is_put rows those layout =
+    with_modes_put (dimension_puts rows) layout [] (subst AreModes (nothing_kept layout) (modes_none layout)) those
+    (All-cons (λ (put : ℕ × List ℕ). put.0 ≢ 5) (1, dimension_of rows Customer)
+    ((2, dimension_of rows Supplier) ∷ (3, dimension_of rows Part) ∷ (4, dimension_of rows Date) ∷ [])
+    (λ e. omega (arith, e))
+    (All-cons (λ (put : ℕ × List ℕ). put.0 ≢ 5) (2, dimension_of rows Supplier)
+    ((3, dimension_of rows Part) ∷ (4, dimension_of rows Date) ∷ []) (λ e. omega (arith, e))
+    (All-cons (λ (put : ℕ × List ℕ). put.0 ≢ 5) (3, dimension_of rows Part)
+    ((4, dimension_of rows Date) ∷ []) (λ e. omega (arith, e))
+    (All-cons (λ (put : ℕ × List ℕ). put.0 ≢ 5) (4, dimension_of rows Date) [] (λ e. omega (arith, e))
+    (All-nil (λ (put : ℕ × List ℕ). put.0 ≢ 5))))))
+
+-- a segment and ship modes are puts
+pub segment_and_modes : (number : ℕ) (batch : List LineOrder) (modes : List (List ℕ)) → IsBatch batch → AreModes modes
+    → ArePuts ((segment_id number, segment_of number batch) ∷ (5, modes_spelling modes) ∷ [])
+segment_and_modes number batch modes is are =
+    with_modes_put (batch_put number batch) Second modes are (batch_is_put number batch is)
+    (All-cons (λ (put : ℕ × List ℕ). put.0 ≢ 5) (segment_id number, segment_of number batch) []
+    (λ e. omega (arith, e)) (All-nil (λ (put : ℕ × List ℕ). put.0 ≢ 5)))
+
+-- and what a submit puts
+pub loading_is_put : (c : Content) (w : Warehouse) (number : ℕ) (batch : List LineOrder) → Represents c w
+    → Admits w number batch → ArePuts (loading_puts w number batch)
+loading_is_put c w number batch represents admits =
+    (elim (length (ship_modes_of (loaded w batch)) == length (ship_modes_of w)) as
+    (λ (t : Bool). ArePuts
+    (batch_put number batch ++ (if t then [] else modes_put w.layout (ship_modes_of (loaded w batch))))) [
+      | true ↦ subst ArePuts (sym (append-nil (batch_put number batch))) one
+      | false ↦ with_modes_put (batch_put number batch) w.layout (ship_modes_of (loaded w batch))
+          (subst AreModes (sym (more_modes w batch))
+          (modes_more w.layout w.rows w.batches number batch represents.batches represents.modes admits)) one
+          (All-cons (λ (put : ℕ × List ℕ). put.0 ≢ 5) (segment_id number, segment_of number batch) []
+          (λ e. omega (arith, e)) (All-nil (λ (put : ℕ × List ℕ). put.0 ≢ 5)))
+    ])
+  where
+    one : ArePuts (batch_put number batch)
+    one = batch_is_put number batch
+        (is_batch w.rows w.batches number batch (admissible_in w.layout w.rows w.batches number batch admits))
 
 -- ---- what a content says
 

@@ -21,10 +21,10 @@ use Rattle.warehouse_root.specs.declared.cuboid.StoredCuboid.{StoredCuboid}
 use Rattle.warehouse_root.specs.Layouts.{number_of, views_of}
 use Rattle.warehouse_root.specs.Objects.{run_id}
 use Rattle.warehouse_root.specs.Root as roots
-use Rattle.warehouse_root.specs.Root.{AreAscending, IsProperCuboid}
-use Rattle.warehouse_objects.specs.Warehouse.{Cuboid, StoredRun, Warehouse, cuboid_at, kept, put_cuboid}
+use Rattle.warehouse_root.specs.Root.{AreAscending, GroupNoModes, IsProperCuboid}
+use Rattle.warehouse_objects.specs.Warehouse.{Cuboid, StoredRun, Warehouse, cuboid_at, kept, ship_modes_of, put_cuboid}
 use Rattle.warehouse_objects.specs.Represents.{Follow, HoldsGroupings, Represents, dimension_of, object_of, root_of}
-use Rattle.warehouse_objects.specs.Represents.{run_after, run_bytes, run_in, said_of}
+use Rattle.warehouse_objects.specs.Represents.{modes_object, run_after, run_bytes, run_in, said_of}
 use Rattle.warehouse_objects.specs.Lawful.{MayReplace, later_runs, run_put}
 use Rattle.warehouse_objects.proofs.Batches.{AreProperCuboids, root_proper, slice_get_snoc}
 use Rattle.warehouse_objects.proofs.Contents.{objects_high, objects_low}
@@ -353,6 +353,19 @@ module _ (c : Content) (w : Warehouse) (old new : Cuboid) (represents : Represen
           omega (arith, up, at_i, at_j);
     }
 
+    plain_after : GroupNoModes (root_of (kept w new))
+    plain_after = λ k d within.
+        let many : length (map said_of (put_cuboid new w.cuboids)) ≡ length (put_cuboid new w.cuboids) =
+        length-map (put_cuboid new w.cuboids) said_of in
+        let same : length (put_cuboid new w.cuboids) ≡ length w.cuboids =
+        length-map w.cuboids (λ other. if index_of other.view == index_of new.view then new else other) in
+        let inside : k < length (put_cuboid new w.cuboids) = omega (arith, within, many) in
+        let was : k < length w.cuboids = omega (arith, inside, same) in
+        let at_k = ap (λ (s : StoredCuboid). s.view) (get_or-map said_of (put_cuboid new w.cuboids) k new d inside)
+        ∙ view_put new w.cuboids k new
+        ∙ ap (λ (s : StoredCuboid). s.view) (sym (get_or-map said_of w.cuboids k new d was)) in
+        omega (arith, at_k, represents.plain k d (omega (arith, was, length-map w.cuboids said_of)))
+
     hold_after : All (HoldsGroupings (kept w new)) (put_cuboid new w.cuboids)
     hold_after =
         one_of (HoldsGroupings (kept w new)) new w.cuboids (still new may.holds)
@@ -373,7 +386,6 @@ module _ (c : Content) (w : Warehouse) (old new : Cuboid) (represents : Represen
           ∙ ap (λ (o : Option (List ℕ)). among puts id (without drops id o)) (represents.objects id) ∙ objects id;
       once = once_after puts drops root_bytes (number_of w.layout) c represents.once;
       layout = layout_after puts drops root_bytes (number_of w.layout) c;
-      first = represents.first;
       root = record {
         spelled = root_after puts drops root_bytes (number_of w.layout) c;
         proper = root_proper (kept w new) represents.batches
@@ -382,6 +394,8 @@ module _ (c : Content) (w : Warehouse) (old new : Cuboid) (represents : Represen
       };
       rows = represents.rows;
       batches = represents.batches;
+      modes = represents.modes;
+      plain = plain_after;
       cuboids = hold_after;
     }
 
@@ -397,16 +411,18 @@ module _ (c : Content) (w : Warehouse) (old new : Cuboid) (represents : Represen
             ≡ object_of (kept w new) id
         by (inl lt) = before id (object_of w id) lt
             ∙ sym (objects_low (dimension_of w.rows Customer) (dimension_of w.rows Supplier) (dimension_of w.rows Part)
-            (dimension_of w.rows Date) segment_of (λ place. run_after place w.cuboids)
-            (λ place. run_after place (put_cuboid new w.cuboids)) w.batches id (object_of w id) lt refl)
+            (dimension_of w.rows Date) (modes_object w.layout (ship_modes_of w)) segment_of
+            (λ place. run_after place w.cuboids) (λ place. run_after place (put_cuboid new w.cuboids)) w.batches id
+            (object_of w id) lt refl)
         by (inr le) =
             ap (λ (o : Option (List ℕ)). among puts id (without drops id o))
             (objects_high (dimension_of w.rows Customer) (dimension_of w.rows Supplier) (dimension_of w.rows Part)
-            (dimension_of w.rows Date) segment_of (λ place. run_after place w.cuboids) w.batches id le)
+            (dimension_of w.rows Date) (modes_object w.layout (ship_modes_of w)) segment_of
+            (λ place. run_after place w.cuboids) w.batches id le)
             ∙ after id le
             ∙ sym (objects_high (dimension_of w.rows Customer) (dimension_of w.rows Supplier) (dimension_of w.rows Part)
-            (dimension_of w.rows Date) segment_of (λ place. run_after place (put_cuboid new w.cuboids)) w.batches id
-            le)
+            (dimension_of w.rows Date) (modes_object w.layout (ship_modes_of w)) segment_of
+            (λ place. run_after place (put_cuboid new w.cuboids)) w.batches id le)
 
     old_few : length old.runs ≤ 8
     old_few = omega (arith, (found w.cuboids proper_old may.stored).most_runs)

@@ -8,7 +8,9 @@ pub mod Contents
 pub mod Dimensions
 pub mod Folded
 pub mod Lengths
+pub mod ModesRead
 pub mod Numbers
 pub mod OneMoreRead
 pub mod Roots
 pub mod Rows
+pub mod KeptModes

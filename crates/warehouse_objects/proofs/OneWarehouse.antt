@@ -1,11 +1,12 @@
 -- A content represents one warehouse.
 use Rattle.std.proofs.Common.{◌≡◌, ◌<◌, ◌≤◌, ◌+◌, ◌-◌, ◌*◌, ◌/◌, ◌%◌, ◌==◌, ◌∙◌, zero, suc, sym, ap, refl, arith}
 use Rattle.std.proofs.Common.{if◌then◌else◌, ℕ, Bool, true, false, List, [], ◌∷◌, map, length, get_or, slice_get}
-use Rattle.std.proofs.Common.{Option, Some}
+use Rattle.std.proofs.Common.{All, Option, Some, subst}
 use Rattle.std.specs.Option.{option_map}
 use Rattle.std.proofs.Math.Nat.{div-add-mod, mod-lt}
 use Rattle.std.proofs.lemmas.Bool.Decides.{nat_tests}
 use Rattle.std.proofs.lemmas.List.{get_or-map, length-map}
+use Rattle.std.proofs.lemmas.List.Elements.{All-head, All-tail}
 use Rattle.std.proofs.lemmas.Option.{slice_get-get_or, slice_get_within}
 use Rattle.cube_model.specs.declared.attr.Axis.TheVariants.{Customer, Supplier, Part, Date}
 use Rattle.cube_model.specs.declared.rows.LineOrder.{LineOrder}
@@ -25,9 +26,9 @@ use Rattle.warehouse_root.specs.Layouts.{number_of}
 use Rattle.warehouse_root.specs.Objects.{run_id}
 use Rattle.warehouse_root.specs.Root.{AreAscending}
 use Rattle.warehouse_root.proofs.CallerLemmas.{root_fits, root_of-one}
-use Rattle.warehouse_objects.specs.Warehouse.{Cuboid, Warehouse, cuboid_at}
+use Rattle.warehouse_objects.specs.Warehouse.{Cuboid, Warehouse, cuboid_at, ship_modes_of}
 use Rattle.warehouse_objects.specs.Represents.{IsLaid, Represents, RepresentsWith, dimension_of, object_of, root_of}
-use Rattle.warehouse_objects.specs.Represents.{run_after, run_bytes, run_in, said_of}
+use Rattle.warehouse_objects.specs.Represents.{modes_object, run_after, run_bytes, run_in, said_of}
 use Rattle.warehouse_objects.proofs.Batches.{few_batches, segment_at, some_one}
 use Rattle.warehouse_objects.proofs.Contents.{object_batch, objects_high, rows_one}
 
@@ -70,7 +71,8 @@ object_run w k r d up within few =
     let at = place_is v r few in
     let back : run_id v r - 131072 ≡ 16 * v + r = omega arith in
     objects_high (dimension_of w.rows Customer) (dimension_of w.rows Supplier) (dimension_of w.rows Part)
-    (dimension_of w.rows Date) segment_of (λ place. run_after place w.cuboids) w.batches (run_id v r) (omega arith)
+    (dimension_of w.rows Date) (modes_object w.layout (ship_modes_of w)) segment_of (λ place. run_after place w.cuboids)
+    w.batches (run_id v r) (omega arith)
     ∙ ap (λ (p : ℕ). run_after p w.cuboids) back
     ∙ ap (λ (q : ℕ). run_in (cuboid_at q w.cuboids) ((16 * v + r) % 16)) at.0
     ∙ ap (λ (m : ℕ). run_in (cuboid_at v w.cuboids) m) at.1
@@ -95,7 +97,7 @@ batches_same (x ∷ xs) [] many same = absurd (omega (arith, many))
 batches_same (x ∷ xs) (y ∷ ys) many same =
     λ i. same 0 x y refl refl i ∷ batches_same xs ys (omega (arith, many)) (λ k. same (suc k)) i
 
-one_layout : (a b : Layout) → number_of a ≡ number_of b → a ≡ b
+pub one_layout : (a b : Layout) → number_of a ≡ number_of b → a ≡ b
 one_layout First First same = refl
 one_layout First Second same = absurd (omega (arith, same))
 one_layout Second First same = absurd (omega (arith, same))
@@ -200,16 +202,43 @@ module _ (law : ValidRowsKeepTheRules) (c : Content) (w v : Warehouse) (is : Rep
         cuboids = cuboids i;
       }
 
+-- no stored cuboid groups by ship mode
+module _ {Keeps : Warehouse → Cuboid → Type 0} (c : Content) (w : Warehouse) (represents : RepresentsWith Keeps c w)
+  where
+    pub plain_views : All (λ cuboid. index_of cuboid.view < 256) w.cuboids
+    plain_views = λ k d within.
+        omega (
+          arith,
+          ap (λ (s : StoredCuboid). s.view) (get_or-map said_of w.cuboids k d (said_of d) within),
+          represents.plain k (said_of d) (omega (arith, within, length-map w.cuboids said_of)),
+        )
+
+    found_in : (cuboids : List Cuboid) (n : ℕ) (found : Cuboid) → All (λ cuboid. index_of cuboid.view < 256) cuboids
+        → cuboid_at n cuboids ≡ Some found → index_of found.view < 256
+    found_in [] n found all is = absurd (cc is)
+    found_in (x ∷ xs) n found all is =
+        (elim (index_of x.view == n) as
+        (λ (t : Bool). (if t then Some x else cuboid_at n xs) ≡ Some found → index_of found.view < 256) [
+          | true ↦ λ e.
+              (let same : x ≡ found = cc e in subst (λ (y : Cuboid). index_of y.view < 256) same
+              (All-head (λ (cuboid : Cuboid). index_of cuboid.view < 256) x xs all))
+          | false ↦ λ e. found_in xs n found (All-tail (λ (cuboid : Cuboid). index_of cuboid.view < 256) x xs all) e
+        ]) is
+
+    pub plain_view : (n : ℕ) (found : Cuboid) → cuboid_at n w.cuboids ≡ Some found → index_of found.view < 256
+    plain_view n found is = found_in w.cuboids n found plain_views is
+
 -- a warehouse that is represented is laid out
 pub laid_of : (c : Content) (w : Warehouse) → Represents c w → RepresentsWith IsLaid c w
 laid_of c w represents = record {
   objects = represents.objects;
   once = represents.once;
   layout = represents.layout;
-  first = represents.first;
   root = represents.root;
   rows = represents.rows;
   batches = represents.batches;
+  modes = represents.modes;
+  plain = represents.plain;
   cuboids = λ k d within. (represents.cuboids k d within).laid;
 }
 

@@ -1,24 +1,26 @@
 -- What the definitions mean. Each is proved as the contract of a function of its name.
-use Rattle.std.specs.Prelude.{◌≡◌, ◌≤◌, ℕ, ◌-◌, Some, List, [], ◌∷◌, ◌++◌, length}
+use Rattle.std.specs.Prelude.{◌≡◌, ◌≤◌, ℕ, ◌-◌, ◌==◌, if◌then◌else◌, Some, List, [], ◌∷◌, ◌++◌, length}
 use Rattle.std.specs.List.{range_with_len}
 use Rattle.cube_model.specs.declared.attr.Axis.TheVariants.{Customer, Supplier, Part, Date}
 use Rattle.cube_model.specs.declared.rows.DimRows.{DimRows}
 use Rattle.cube_model.specs.declared.rows.LineOrder.{LineOrder}
-use Rattle.cube_model.specs.Admission.{IsAdmissible}
 use Rattle.object_store.specs.Content.{Content}
 use Rattle.object_store.specs.Commit.{ArePuts, committed, created}
 use Rattle.column_segment.specs.Segment.{FitColumns, segment_of}
-use Rattle.warehouse_root.specs.declared.layout.Layout.TheVariants.{First}
+use Rattle.warehouse_root.specs.declared.layout.Layout.{Layout}
+use Rattle.warehouse_root.specs.declared.layout.Layout.TheVariants.{First, Second}
 use Rattle.lattice.specs.declared.view.View.{View}
 use Rattle.lattice.specs.Views.{index_of}
 use Rattle.warehouse_root.specs.Limits.{most_cells, most_cuboids, most_runs}
 use Rattle.warehouse_root.specs.Layouts.{number_of}
+use Rattle.warehouse_root.specs.Modes.{AreModes, modes_id, modes_spelling}
 use Rattle.warehouse_root.specs.Objects.{run_id, segment_id}
 use Rattle.warehouse_root.specs.Root as roots
 use Rattle.warehouse_objects.specs.Facts.{Admits}
 use Rattle.warehouse_objects.specs.Warehouse.{Warehouse, AreStorable, Cuboid, StoredRun, aimed, cells_in, cuboid_at}
-use Rattle.warehouse_objects.specs.Warehouse.{dropped_ids, fresh, kept, loaded, with_views}
-use Rattle.warehouse_objects.specs.Represents.{HasRows, HoldsGroupings, Represents, dimension_of, root_of, run_bytes}
+use Rattle.warehouse_objects.specs.Warehouse.{dropped_ids, fresh_in, kept, loaded, ship_modes_of, with_views}
+use Rattle.warehouse_objects.specs.Represents.{HasModes, HasRows, HoldsGroupings, Represents, dimension_of, root_of}
+use Rattle.warehouse_objects.specs.Represents.{run_bytes}
 
 -- the four objects of dimensions, in the order in which a warehouse is made of them
 abbrev pub dimension_puts : DimRows → List (ℕ × List ℕ)
@@ -30,14 +32,31 @@ dimension_puts rows =
 abbrev pub batch_put : ℕ → List LineOrder → List (ℕ × List ℕ)
 batch_put number batch = (segment_id number, segment_of number batch) ∷ []
 
+-- the object of ship modes, as it is put in a layout
+abbrev pub modes_put : Layout → List (List ℕ) → List (ℕ × List ℕ)
+modes_put First modes = []
+modes_put Second modes = (modes_id, modes_spelling modes) ∷ []
+
+-- all that a warehouse of no batch is made of
+abbrev pub beginning_puts : Layout → DimRows → List (ℕ × List ℕ)
+beginning_puts layout rows = dimension_puts rows ++ modes_put layout []
+
+-- the object of ship modes, where a batch has some that are new
+abbrev pub new_modes_put : Warehouse → List LineOrder → List (ℕ × List ℕ)
+new_modes_put w batch =
+    if length (ship_modes_of (loaded w batch)) == length (ship_modes_of w) then []
+    else modes_put w.layout (ship_modes_of (loaded w batch))
+
 -- all that a submit of a batch puts
 abbrev pub loading_puts : Warehouse → ℕ → List LineOrder → List (ℕ × List ℕ)
-loading_puts w number batch = batch_put number batch
+loading_puts w number batch = batch_put number batch ++ new_modes_put w batch
 
 -- a content that was made of storable rows and the first root represents the warehouse of no batch
 abbrev pub CreatingRepresents : Type 0
-CreatingRepresents = (rows : DimRows) → AreStorable rows
-    → Represents (created (dimension_puts rows) (roots.root_of (roots.first_root First)) (number_of First)) (fresh rows)
+CreatingRepresents = (layout : Layout) (rows : DimRows) → AreStorable rows
+    → Represents
+    (created (beginning_puts layout rows) (roots.root_of (roots.first_root layout)) (number_of layout))
+    (fresh_in layout rows)
 
 -- a commit of an admissible batch and of the root with it makes a content that represents one batch more
 abbrev pub LoadingRepresents : Type 0
@@ -95,16 +114,22 @@ ChoosingRepresents = (c : Content) (w : Warehouse) (views : List View) → Repre
     (committed [] (dropped_ids w views) (roots.root_of (root_of (with_views w views))) (number_of w.layout) c)
     (with_views w views)
 
--- the objects of storable rows, and that of an admissible batch, are such as a store takes
+-- the objects of storable rows, and those of an admissible batch, are such as a store takes
 abbrev pub ObjectsAreStorable : Type 0
-ObjectsAreStorable = ((rows : DimRows) → AreStorable rows → ArePuts (dimension_puts rows))
-    × ((rows : DimRows) (batches : List (List LineOrder)) (number : ℕ) (batch : List LineOrder)
-    → IsAdmissible rows batches number batch → ArePuts (batch_put number batch))
+ObjectsAreStorable = ((rows : DimRows) → AreStorable rows
+    → ArePuts (dimension_puts rows) × ((layout : Layout) → ArePuts (beginning_puts layout rows)))
+    × ((c : Content) (w : Warehouse) (number : ℕ) (batch : List LineOrder) → Represents c w → Admits w number batch
+    → ArePuts (loading_puts w number batch))
 
 -- objects 1 to 4 are the dimensions of one list of rows at most
 abbrev pub RowsAreOne : Type 0
 RowsAreOne = (c : Content) (rows others : DimRows) → AreStorable rows → AreStorable others → HasRows c rows
     → HasRows c others → rows ≡ others
+
+-- object 5 has the ship modes of the warehouse that a content represents
+abbrev pub ModesAreOne : Type 0
+ModesAreOne = (c : Content) (w : Warehouse) (modes : List (List ℕ)) → Represents c w → HasModes c w.layout modes
+    → AreModes modes → modes ≡ ship_modes_of w
 
 -- a content represents one warehouse at most
 abbrev pub ContentIsOneWarehouse : Type 0

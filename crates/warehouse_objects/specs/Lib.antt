@@ -1,5 +1,6 @@
 pub mod Counted
 pub mod Warehouse
+pub mod Migration
 pub mod Facts
 pub mod Represents
 pub mod Reads

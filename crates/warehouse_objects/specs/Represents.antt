@@ -22,13 +22,15 @@ use Rattle.cuboid_cells.specs.Spelled.{IsSpan, run_of}
 use Rattle.cuboid_cells.specs.Steps.{cells_of}
 use Rattle.cuboid_upkeep.specs.Grouping.{RepresentRows}
 use Rattle.warehouse_root.specs.declared.cuboid.StoredCuboid.{StoredCuboid}
-use Rattle.warehouse_root.specs.declared.layout.Layout.TheVariants.{First}
+use Rattle.warehouse_root.specs.declared.layout.Layout.{Layout}
+use Rattle.warehouse_root.specs.declared.layout.Layout.TheVariants.{First, Second}
 use Rattle.warehouse_root.specs.declared.totals.StoredTotals.{StoredTotals}
 use Rattle.warehouse_root.specs.Layouts.{number_of}
+use Rattle.warehouse_root.specs.Modes.{AreModes, modes_id, modes_spelling}
 use Rattle.warehouse_root.specs.Objects.{object_ids, run_id, segment_id}
-use Rattle.warehouse_root.specs.Root.{IsRoot, PlainRoot}
+use Rattle.warehouse_root.specs.Root.{GroupNoModes, IsRoot, PlainRoot}
 use Rattle.warehouse_objects.specs.Warehouse.{Warehouse, AreInOrder, AreStorable, Cuboid, StoredRun, cells_in}
-use Rattle.warehouse_objects.specs.Warehouse.{cuboid_at, is_among, modes_of}
+use Rattle.warehouse_objects.specs.Warehouse.{cuboid_at, is_among, modes_of, ship_modes_of}
 
 -- the bytes of the rows of a dimension
 abbrev pub dimension_of : DimRows → Axis → List ℕ
@@ -51,17 +53,23 @@ run_in (Some cuboid) run = option_map (run_bytes cuboid) (slice_get cuboid.runs 
 abbrev pub run_after : ℕ → List Cuboid → Option (List ℕ)
 run_after place cuboids = run_in (cuboid_at (place / 16) cuboids) (place % 16)
 
--- The object that a warehouse has at an id: 1 to 4 are the dimensions, 65,536 + b is the segment of batch b, and
--- 131,072 + 16 v + r run r of the cuboid of view v.
+-- the object of ship modes, which the first layout lacks
+abbrev pub modes_object : Layout → List (List ℕ) → Option (List ℕ)
+modes_object First modes = None
+modes_object Second modes = Some (modes_spelling modes)
+
+-- The object that a warehouse has at an id: 1 to 4 are the dimensions, 5 the ship modes, 65,536 + b is the segment of
+-- batch b, and 131,072 + 16 v + r run r of the cuboid of view v.
 abbrev pub object_of : Warehouse → ℕ → Option (List ℕ)
 object_of w id =
     if id == 1 then Some (dimension_of w.rows Customer)
     else (if id == 2 then Some (dimension_of w.rows Supplier)
     else (if id == 3 then Some (dimension_of w.rows Part)
     else (if id == 4 then Some (dimension_of w.rows Date)
+    else (if id == modes_id then modes_object w.layout (ship_modes_of w)
     else (if nat_lt id (segment_id 1) then None
     else (if nat_lt id (run_id 0 0) then segment_after (id - segment_id 1) w.batches else run_after (id - run_id 0 0)
-    w.cuboids)))))
+    w.cuboids))))))
 
 -- totals, as they are stored
 abbrev pub stored : Totals → StoredTotals
@@ -137,12 +145,13 @@ pub record RepresentsWith (Keeps : Warehouse → Cuboid → Type 0) (c : Content
   -- and none is there twice
   pub once : AllPairs (λ one other. one.0 < other.0) c.objects
   pub layout : c.layout ≡ number_of w.layout
-  -- no warehouse is of the second layout yet
-  pub first : w.layout ≡ First
   -- the root says what the warehouse is, and keeps the rules of roots
   pub root : IsRoot c.root (root_of w)
   pub rows : AreStorable w.rows
   pub batches : AreInOrder w.rows w.batches
+  pub modes : AreModes (ship_modes_of w)
+  -- no cuboid groups by ship mode yet
+  pub plain : GroupNoModes (root_of w)
   pub cuboids : All (Keeps w) w.cuboids
 
 -- the content represents the warehouse
@@ -159,6 +168,11 @@ pub record HasRows (c : Content) (rows : DimRows) : Type 0 where
   pub suppliers : bytes_of c 2 ≡ Some (dimension_of rows Supplier)
   pub parts : bytes_of c 3 ≡ Some (dimension_of rows Part)
   pub dates : bytes_of c 4 ≡ Some (dimension_of rows Date)
+
+-- the object of ship modes of a content in a layout
+abbrev pub HasModes : Content → Layout → List (List ℕ) → Type 0
+HasModes c First modes = modes ≡ []
+HasModes c Second modes = bytes_of c modes_id ≡ Some (modes_spelling modes)
 
 -- the content has just the objects that a root asks for: each of them, and no more than these
 pub record HasItsObjects (c : Content) (root : PlainRoot) : Type 0 where

@@ -5,7 +5,7 @@ use Rattle.std.specs.List.{AllByRecursion, filter, find, flat_map, list_any, ran
 use Rattle.cube_model.specs.declared.attr.Axis.{Axis}
 use Rattle.cube_model.specs.declared.rows.DimRows.{DimRows}
 use Rattle.cube_model.specs.declared.rows.LineOrder.{LineOrder}
-use Rattle.cube_model.specs.Admission.{IsAdmissible}
+use Rattle.cube_model.specs.Admission.{IsAdmissible, all_rows}
 use Rattle.cube_model.specs.Validity.{HaveShortTexts, IsValid}
 use Rattle.column_segment.specs.Columns.{FitsColumn, number_columns}
 use Rattle.column_segment.specs.Segment.{FitColumns}
@@ -16,7 +16,8 @@ use Rattle.lattice.specs.Views.{index_of, lattice}
 use Rattle.cuboid_cells.specs.declared.cell.Cell.{Cell}
 use Rattle.cuboid_cells.specs.declared.span.Span.{Span}
 use Rattle.warehouse_root.specs.declared.layout.Layout.{Layout}
-use Rattle.warehouse_root.specs.declared.layout.Layout.TheVariants.{First}
+use Rattle.warehouse_root.specs.declared.layout.Layout.TheVariants.{First, Second}
+use Rattle.warehouse_root.specs.Modes.{kept_modes}
 use Rattle.warehouse_root.specs.Objects.{run_id}
 
 -- a run of cells of a stored cuboid, over some batches one after the other
@@ -44,7 +45,11 @@ pub record Warehouse : Type 0 where
   -- by ascending view
   pub cuboids : List Cuboid
 
--- the ship modes whose places are the fifth codes of cells: none in the first layout
+-- the ship modes that a warehouse keeps: from the second layout on those of its batches, in the order of first use
+abbrev pub ship_modes_of : Warehouse → List (List ℕ)
+ship_modes_of w = kept_modes w.layout (all_rows w.batches)
+
+-- the ship modes whose places are the fifth codes of cells: none, as no stored cuboid groups by ship mode yet
 abbrev pub modes_of : Warehouse → List (List ℕ)
 modes_of w = []
 
@@ -52,13 +57,22 @@ modes_of w = []
 abbrev pub cells_in : List StoredRun → ℕ
 cells_in runs = sum_by (λ run. length run.cells) runs
 
--- a warehouse of no batch
+-- a warehouse of no batch in a layout
+abbrev pub fresh_in : Layout → DimRows → Warehouse
+fresh_in layout rows =
+    record { layout = layout; rows = rows; batches = []; target = 0; additions = 0; cuboids = [] }
+
+-- the same in the first layout
 abbrev pub fresh : DimRows → Warehouse
-fresh rows = record { layout = First; rows = rows; batches = []; target = 0; additions = 0; cuboids = [] }
+fresh rows = fresh_in First rows
 
 -- with one batch more
 abbrev pub loaded : Warehouse → List LineOrder → Warehouse
 loaded w batch = record w { batches = w.batches ++ batch ∷ [] }
+
+-- in the second layout
+abbrev pub migrated : Warehouse → Warehouse
+migrated w = record w { layout = Second }
 
 -- each stored cuboid is to hold all batches
 abbrev pub aimed : Warehouse → Warehouse

@@ -1,11 +1,12 @@
 //! Laws of the definitions: each function proves the statement that its contract names, and does nothing.
 ghost use Rattle.warehouse_objects.specs.Lawful.{AimingRepresents, AppendingRepresents, ChoosingRepresents};
 ghost use Rattle.warehouse_objects.specs.Lawful.{ContentIsOneWarehouse, CreatingRepresents, LoadingRepresents};
-ghost use Rattle.warehouse_objects.specs.Lawful.{MergingRepresents, ObjectsAreStorable, RowsAreOne};
+ghost use Rattle.warehouse_objects.specs.Lawful.{MergingRepresents, ModesAreOne, ObjectsAreStorable, RowsAreOne};
 
 use cube_model::valid_rows_keep_the_rules;
 
-/// A content that is made of storable dimension rows and the first root represents the warehouse of no batch.
+/// A content that is made of storable dimension rows and the first root of a layout represents the warehouse of no
+/// batch.
 pub fn creating_represents()
     ensures { CreatingRepresents }
 {}
@@ -28,6 +29,11 @@ pub fn rows_are_one()
 {
     valid_rows_keep_the_rules();
 }
+
+/// Object 5 has the ship modes of the warehouse that a content represents.
+pub fn modes_are_one()
+    ensures { ModesAreOne }
+{}
 
 /// A content represents one warehouse at most: one list of dimension rows, and one list of batches.
 pub fn content_is_one_warehouse()

@@ -5,36 +5,77 @@ ghost use Rattle.cube_model.specs.declared.attr.Axis.TheVariants.{Customer, Supp
 ghost use Rattle.cube_model.specs.declared.rows.DimRows.{DimRows};
 ghost use Rattle.object_store.specs.Content.{bytes_of};
 ghost use Rattle.object_store.specs.Store.{content_of, device_of, has_failed};
-ghost use Rattle.warehouse_root.specs.declared.layout.Layout.TheVariants.{First};
 ghost use Rattle.warehouse_root.specs.Layouts.{number_of};
-ghost use Rattle.warehouse_root.specs.Root.{IsRootOf};
+ghost use Rattle.warehouse_root.specs.Modes.{AreModes};
+ghost use Rattle.warehouse_root.specs.Root.{IsRoot, IsRootOf};
 ghost use Rattle.warehouse_objects.specs.Warehouse.{AreStorable, Warehouse};
 ghost use Rattle.warehouse_objects.specs.Reads.{ReadsOnly};
-ghost use Rattle.warehouse_objects.specs.Represents.{HasRows, Represents, dimension_of, root_of};
+ghost use Rattle.warehouse_objects.specs.Represents.{HasModes, HasRows, Represents, dimension_of, root_of};
 
 use crate::laws::rows_are_one;
+use crate::ship_modes::ShipModes;
 use cube_model::Fault;
 use dimension_objects::decode;
 use dimensions::Dims;
 use object_store::Store;
 use sector_device::Sectors;
 use std::alloc::Global;
-use warehouse_root::{Layout, Root};
+use warehouse_root::{Layout, MODES_ID, Root};
 
 /// The root of the warehouse that the content of a store represents. `BadLayout` where it represents none, as far as
 /// the root and the layout show it.
 pub fn read_root<D: Sectors>(alloc: Global, store: &Store<D>) -> Result<Root, Fault>
-    ensures ok { IfOk result (IsRootOf First (content_of D.Sectors store.now).root) }
-    ensures layout { OnOk result ((content_of D.Sectors store.now).layout ≡ number_of First) }
+    ensures ok { IfOk result (IsRoot (content_of D.Sectors store.now).root) }
+    ensures layout { IfOk result (λ root. (content_of D.Sectors store.now).layout ≡ number_of root.layout) }
     ensures found { IfOk result (λ root. (w : Warehouse) → Represents (content_of D.Sectors store.now) w
         → root ≡ root_of w) }
     ensures refused { IfErr result (λ fault. (fault ≡ Memory)
         ⊎ ((fault ≡ BadLayout) × ((w : Warehouse) → ¬ Represents (content_of D.Sectors store.now) w))) }
 {
-    if store.layout() != Layout::First.number() {
+    let Some(layout) = Layout::of_number(store.layout()) else {
         return Err(Fault::BadLayout);
+    };
+    read_root_in(alloc, store, layout)
+}
+
+// The root of a store of a layout.
+fn read_root_in<D: Sectors>(alloc: Global, store: &Store<D>, layout: Layout) -> Result<Root, Fault>
+    requires layout { (content_of D.Sectors store.now).layout ≡ number_of layout }
+    ensures ok { IfOk result (IsRootOf layout (content_of D.Sectors store.now).root) }
+    ensures found { IfOk result (λ root. (w : Warehouse) → Represents (content_of D.Sectors store.now) w
+        → root ≡ root_of w) }
+    ensures refused { IfErr result (λ fault. (fault ≡ Memory)
+        ⊎ ((fault ≡ BadLayout) × ((w : Warehouse) → ¬ Represents (content_of D.Sectors store.now) w))) }
+{
+    Root::decode(alloc, layout, store.root())
+}
+
+/// The ship modes of the warehouse of a layout that the content of a store represents: none in the first layout, where
+/// nothing is read. `BadLayout` where it represents none, as far as object 5 shows it.
+pub fn read_modes<D: Sectors>(
+    alloc: Global,
+    store: &mut Store<D>,
+    layout: Layout,
+) -> Result<ShipModes, Fault>
+    requires fine { has_failed store.old ≡ false }
+    ensures ok { IfOk result (λ modes. D.keeps_word (device_of store.new)
+        → HasModes (content_of D.Sectors store.old) layout modes) }
+    ensures are { IfOk result AreModes }
+    ensures refused { IsErrOf result BadLayout → D.keeps_word (device_of store.new) → (w : Warehouse)
+        → w.layout ≡ layout → ¬ Represents (content_of D.Sectors store.old) w }
+
+    // The content stays, at each moment.
+    ensures reads { ReadsOnly D.Sectors store.old store.new result }
+    ensures causes { IfErr result (λ fault. (fault ≡ Memory) ⊎ ((fault ≡ Device) ⊎ (fault ≡ BadLayout))) }
+{
+    let _usable = store.is_broken();
+    match layout {
+        Layout::First => Ok(ShipModes::none(alloc)),
+        Layout::Second => {
+            let bytes = read_object(alloc, store, MODES_ID)?;
+            ShipModes::decode(alloc, &bytes)
+        }
     }
-    Root::decode(alloc, Layout::First, store.root())
 }
 
 /// The dimensions of the warehouse that the content of a store represents. `BadLayout` where it represents none, as

@@ -3,6 +3,7 @@ use Rattle.std.specs.Prelude.{◌≡◌, ℕ, ◌<◌, ◌≤◌, List, length}
 use Rattle.std.specs.List.{AllPairs}
 use Rattle.wire.specs.Limits.{most_root_bytes}
 use Rattle.warehouse_root.specs.declared.layout.Layout.{Layout}
+use Rattle.warehouse_root.specs.Modes.{SpellModes}
 use Rattle.warehouse_root.specs.Objects.{object_ids}
 use Rattle.warehouse_root.specs.Root.{IsProper, IsRoot, IsRootOf, PlainRoot}
 
@@ -18,3 +19,7 @@ ObjectsAreApart = (root : PlainRoot) → IsProper root → AllPairs (λ one othe
 -- a root is no longer than a store takes
 abbrev pub RootsAreShort : Type 0
 RootsAreShort = (bytes : List ℕ) (root : PlainRoot) → IsRoot bytes root → length bytes ≤ most_root_bytes
+
+-- bytes are one list of ship modes at most
+abbrev pub BytesAreOneListOfModes : Type 0
+BytesAreOneListOfModes = (bytes : List ℕ) (a b : List (List ℕ)) → SpellModes bytes a → SpellModes bytes b → a ≡ b

@@ -7,6 +7,7 @@ use Rattle.warehouse_root.specs.declared.cuboid.StoredCuboid.{StoredCuboid}
 use Rattle.warehouse_root.specs.declared.layout.Layout.{Layout}
 use Rattle.warehouse_root.specs.declared.totals.StoredTotals.{StoredTotals}
 use Rattle.warehouse_root.specs.Layouts.{views_of}
+use Rattle.warehouse_root.specs.declared.layout.Layout.TheVariants.{First, Second}
 use Rattle.warehouse_root.specs.Limits.{greatest_total, most_additions, most_cells, most_cuboids, most_runs}
 
 -- what a root says, wherever it lies in memory
@@ -87,6 +88,10 @@ pub record IsRootOf (layout : Layout) (bytes : List ℕ) (root : PlainRoot) : Ty
   pub of_layout : root.layout ≡ layout
   pub is_root : IsRoot bytes root
 
+-- no cuboid of a root groups by ship mode: the views that do come after the 256 others
+abbrev pub GroupNoModes : PlainRoot → Type 0
+GroupNoModes root = All (λ cuboid. cuboid.view < views_of First) root.cuboids
+
 -- the root of a warehouse of no batch
 abbrev pub first_root : Layout → PlainRoot
 first_root layout = record {
@@ -109,6 +114,10 @@ with_target target root = record root { target = target }
 -- the root where rows were added to dimensions once more
 abbrev pub with_addition : PlainRoot → PlainRoot
 with_addition root = record root { additions = root.additions + 1 }
+
+-- the root of the same batches and cuboids in the second layout
+abbrev pub in_second : PlainRoot → PlainRoot
+in_second root = record root { layout = Second }
 
 -- a cuboid in the place of that of its view
 abbrev pub put_cuboid : StoredCuboid → List StoredCuboid → List StoredCuboid

@@ -1,5 +1,5 @@
 //! Laws of the definitions: each function proves the statement that its contract names, and does nothing.
-ghost use Rattle.warehouse_root.specs.Lawful.{BytesAreOneRoot, ObjectsAreApart, RootsAreShort};
+ghost use Rattle.warehouse_root.specs.Lawful.{BytesAreOneListOfModes, BytesAreOneRoot, ObjectsAreApart, RootsAreShort};
 
 /// Bytes are at most one root of a layout.
 pub fn bytes_are_one_root()
@@ -14,4 +14,9 @@ pub fn objects_are_apart()
 /// A root is no longer than a store takes.
 pub fn roots_are_short()
     ensures { RootsAreShort }
+{}
+
+/// Bytes are one list of ship modes at most.
+pub fn bytes_are_one_list_of_modes()
+    ensures { BytesAreOneListOfModes }
 {}

@@ -7,6 +7,7 @@ mod encoding;
 pub mod laws;
 mod layout;
 pub mod limits;
+mod modes;
 mod objects;
 mod reading;
 mod root;
@@ -14,6 +15,7 @@ mod totals;
 
 pub use cuboid::StoredCuboid;
 pub use layout::Layout;
+pub use modes::{MODES_ID, decode_modes, encode_modes};
 pub use objects::{push_run_ids, run_id, segment_id};
 pub use root::Root;
 pub use totals::StoredTotals;

@@ -7,7 +7,8 @@ ghost use Rattle.cube_model.specs.Limits.{most_batch_rows, most_batches};
 ghost use Rattle.warehouse_root.specs.Limits.{most_additions, most_cuboids};
 ghost use Rattle.warehouse_root.specs.Objects.{object_ids};
 ghost use Rattle.warehouse_root.specs.Root.{AreAscending, AreProperTotals, IsProper, IsProperCuboid, IsRoot, IsRootOf};
-ghost use Rattle.warehouse_root.specs.Root.{PlainRoot, first_root, put_cuboid, root_of, with_addition, with_batch};
+ghost use Rattle.warehouse_root.specs.Root.{PlainRoot, first_root, in_second, put_cuboid, root_of, with_addition};
+ghost use Rattle.warehouse_root.specs.Root.{with_batch};
 ghost use Rattle.warehouse_root.specs.Root.{with_cuboid, with_cuboids, with_target};
 
 use crate::cuboid::StoredCuboid;
@@ -130,6 +131,23 @@ impl Root {
             batches,
             target: self.target,
             additions: self.additions + 1,
+            totals: self.totals,
+            cuboids,
+        })
+    }
+
+    /// The root of the same batches and cuboids in the second layout.
+    pub fn in_second_layout(&self, alloc: Global) -> Result<Root, Fault>
+        ensures ok { IfOk result (λ root. root ≡ in_second self.now) }
+        ensures memory { IfErr result (λ fault. fault ≡ Fault.Memory) }
+    {
+        let batches = Vec::from_slice(alloc, &self.batches)?;
+        let cuboids = Vec::from_slice(alloc, &self.cuboids)?;
+        Ok(Root {
+            layout: Layout::Second,
+            batches,
+            target: self.target,
+            additions: self.additions,
             totals: self.totals,
             cuboids,
         })

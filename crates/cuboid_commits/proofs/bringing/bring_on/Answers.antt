@@ -1,4 +1,4 @@
-use Rattle.std.proofs.Common.{◌≡◌, ⊎_elim, Some, Err, [], ◌∷◌, slice_get, sym, ap, subst, arith}
+use Rattle.std.proofs.Common.{◌≡◌, ◌∙◌, true, false, ⊎_elim, Some, Err, [], ◌∷◌, slice_get, sym, ap, subst, arith}
 use Rattle.cube_model.specs.declared.fault.Fault.{Fault}
 use Rattle.cube_model.specs.declared.fault.Fault.TheVariants.{BadLayout, Device, Failed}
 use Rattle.cube_model.specs.FaultNumbers.{number_of}
@@ -8,11 +8,12 @@ use Rattle.warehouse_root.specs.Root.{PlainRoot}
 use Rattle.cuboid_commits.specs.Keeping.{StoreAt}
 use Rattle.cuboid_commits.specs.Nexts.{RefusesNext}
 use Rattle.cuboid_commits.proofs.Brought.{far_enough}
+use Rattle.warehouse_objects.specs.Loaded.{IsLoaded}
 use Rattle.warehouse_objects.proofs.Folded.{err_fault}
 use Rattle.cuboid_commits.proofs.OneMore.{bad_not_device, bring_leaves, bring_reached, bring_stays, ends_refused}
 use Rattle.cuboid_commits.proofs.OneMore.{ends_unread, many_by_number, never_failed, none_left, not_device, passed_over}
 use Rattle.cuboid_commits.proofs.OneMore.{read_leaves, refused_next, stored_at}
-use Rattle.cuboid_commits.proofs.Reading.{at_before, at_still}
+use Rattle.cuboid_commits.proofs.Reading.{at_before, at_still, loaded_before, loaded_still}
 use Rattle.cuboid_commits.proofs.Turns.{same}
 use Rattle.cuboid_commits.proofs.bringing.bring_on.Goals as goal
 
@@ -172,3 +173,21 @@ returns-in-Err-2-clause-reason g c no_device no_memory k w at rows =
     (λ bad. c.in-Err.ensures.refused (ap (λ (f : Fault). Err f) bad) k w found.0 (at.represents k0) found.2 (rows k0))
     (λ many. let large = c.is_too_large.ensures.1 (ap number_of many) in cc (large, c.if-is_too_large.false))
     c.in-Err.ensures.causes)
+
+pub returns-in-Ok-put_next-clause-loaded : goal.returns-in-Ok-put_next-clause-loaded
+returns-in-Ok-put_next-clause-loaded g c fine k rows modes is =
+    c.in-Ok-put_next.ensures.loaded k rows modes
+    (loaded_still g.D.Sectors c.args.store.now c.next_of.new.store (c.in-Ok.ensures.reads.stays (λ e. cc))
+    (c.put_next.ensures.word k) rows modes c.args.root.now is)
+    (ap (λ (r : PlainRoot). r.layout) c.in-Ok.ensures.ok.root_is)
+
+pub returns-in-Err-put_next-clause-loaded : goal.returns-in-Err-put_next-clause-loaded
+returns-in-Err-put_next-clause-loaded g c fine k rows modes is =
+    subst (λ (r : PlainRoot). IsLoaded (content_of g.D.Sectors c.put_next.new.store) rows modes r)
+    (sym c.in-Err-put_next.ensures.unchanged)
+    (loaded_before g.D.Sectors c.next_of.new.store c.put_next.new.store
+    (c.in-Err-put_next.ensures.refused (λ e.
+    let both : true ≡ false = sym (c.in-Err-put_next.ensures.device (ap (λ f. Err f) e)).failed ∙ fine in absurd cc))
+    rows modes c.args.root.now
+    (loaded_still g.D.Sectors c.args.store.now c.next_of.new.store (c.in-Ok.ensures.reads.stays (λ e. cc))
+    (c.put_next.ensures.word k) rows modes c.args.root.now is))

@@ -49,4 +49,4 @@ returns-in-Ok-clause-ok g c w v at by =
     }
 
 pub returns-in-Ok-clause-loaded : goal.returns-in-Ok-clause-loaded
-returns-in-Ok-clause-loaded g c k rows is first = c.in-Ok.ensures.loaded k rows c.args.root.now is first
+returns-in-Ok-clause-loaded g c k rows modes is same = c.in-Ok.ensures.loaded k rows modes c.args.root.now is same

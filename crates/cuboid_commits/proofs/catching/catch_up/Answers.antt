@@ -19,7 +19,7 @@ loop-place-init g c =
       failures = refl;
       many = ap (λ (l : List _). length l) (sym c.cuboids-count.ensures);
       word = λ k. k;
-      loaded = λ k rows is. is;
+      loaded = λ k rows modes is. is;
       at = λ w at dims. (w, same w, at, λ k. none_yet w);
       leaves = λ w at dims.
           leaves_first w (stores.disk_of g.D.Sectors s) (stores.disk_of g.D.Sectors s)
@@ -45,8 +45,8 @@ loop-place-preserved g c =
       failures = c.in-Ok.ensures.failures ∙ so_far.failures;
       many = c.bring_on.ensures.many ∙ so_far.many;
       word = λ k. so_far.word (c.bring_on.ensures.word k);
-      loaded = λ k rows is. c.bring_on.ensures.loaded c.in-Ok.ensures.fine k rows
-          (so_far.loaded (c.bring_on.ensures.word k) rows is);
+      loaded = λ k rows modes is. c.bring_on.ensures.loaded c.in-Ok.ensures.fine k rows modes
+          (so_far.loaded (c.bring_on.ensures.word k) rows modes is);
       at = λ w at dims.
           let was = so_far.at w at dims in
           let known : g.D.Sectors.keeps_word (stores.device_of c.loop-place.store) → c.args.dims.now ≡ was.0.rows =
@@ -116,9 +116,9 @@ returns-in-Err-clause-readable g c is k w at dims =
     c.in-Err.ensures.readable is k was.0 was.2 (λ k. dims (so_far.word k) ∙ sym (rows_kept w was.0 was.1.kept))
 
 pub returns-in-Err-clause-loaded : goal.returns-in-Err-clause-loaded
-returns-in-Err-clause-loaded g c fine k rows is =
+returns-in-Err-clause-loaded g c fine k rows modes is =
     let so_far = c.loop-place.invariant in
-    c.bring_on.ensures.loaded fine k rows (so_far.loaded (c.bring_on.ensures.word k) rows is)
+    c.bring_on.ensures.loaded fine k rows modes (so_far.loaded (c.bring_on.ensures.word k) rows modes is)
 
 pub returns-clause-stays : goal.returns-clause-stays
 returns-clause-stays g c other w at dims = let now = c.loop-place.invariant.at w at dims in (now.0, now.1, now.2)

@@ -1,4 +1,4 @@
-use Rattle.std.proofs.Common.{◌≡◌, false, length}
+use Rattle.std.proofs.Common.{◌≡◌, false, length, List, ℕ}
 use Rattle.cube_model.specs.declared.rows.DimRows.{DimRows}
 use Rattle.object_store.specs.Disk.{Leaves}
 use Rattle.object_store.specs.Store.{content_of, device_of, disk_of, has_failed}
@@ -18,9 +18,9 @@ invariant-loop-place g l =
       failures : (disk_of g.D.Sectors l.store).failures ≡ (disk_of g.D.Sectors start).failures;
       many : length l.root.cuboids ≡ l.count;
       word : keeps (device_of l.store) → keeps (device_of start);
-      loaded : keeps (device_of l.store) → (rows : DimRows)
-          → IsLoaded (content_of g.D.Sectors start) rows l.initial.root
-          → IsLoaded (content_of g.D.Sectors l.store) rows l.root;
+      loaded : keeps (device_of l.store) → (rows : DimRows) (modes : List (List ℕ))
+          → IsLoaded (content_of g.D.Sectors start) rows modes l.initial.root
+          → IsLoaded (content_of g.D.Sectors l.store) rows modes l.root;
       at :
           (w : Warehouse) → StoreAt g.D.Sectors start l.initial.root w → (keeps (device_of start) → dims ≡ w.rows)
           → (v : Warehouse) × IsCaughtUp w v × StoreAt g.D.Sectors l.store l.root v

@@ -3,6 +3,7 @@ use Rattle.cube_model.specs.declared.fault.Fault.{Fault}
 use Rattle.wire.specs.Limits.{most_root_bytes}
 use Rattle.object_store.specs.Content.{Content}
 use Rattle.object_store.specs.Store as stores
+use Rattle.warehouse_root.specs.Layouts.{number_of}
 use Rattle.warehouse_root.proofs.CallerLemmas.{root_is_short}
 use Rattle.warehouse_objects.specs.Represents.{Represents}
 use Rattle.warehouse_objects.specs.Warehouse.{kept}
@@ -25,7 +26,8 @@ pub returns-in-Ok-clause-leaves : goal.returns-in-Ok-clause-leaves
 returns-in-Ok-clause-leaves g c w root old new run at brings =
     next_leaves (stores.content_of g.D.Sectors c.args.store.now) w old new run c.args.next.now c.as_slice.result.now
     c.as_slice-2.result.now c.as_slice-3.result.now c.number.result
-    c.as_slice.ensures.value c.as_slice-2.ensures.value c.as_slice-3.ensures.value c.number.ensures
+    c.as_slice.ensures.value c.as_slice-2.ensures.value c.as_slice-3.ensures.value
+    (c.number.ensures ∙ ap number_of c.layout.ensures.value)
     (stores.disk_of g.D.Sectors c.args.store.now) (stores.disk_of g.D.Sectors c.commit.new.self) at.represents brings
     (c.commit.ensures.leaves at.fine)
 
@@ -33,7 +35,8 @@ pub returns-in-Err-clause-leaves : goal.returns-in-Err-clause-leaves
 returns-in-Err-clause-leaves g c w root old new run at brings =
     next_leaves (stores.content_of g.D.Sectors c.args.store.now) w old new run c.args.next.now c.as_slice.result.now
     c.as_slice-2.result.now c.as_slice-3.result.now c.number.result
-    c.as_slice.ensures.value c.as_slice-2.ensures.value c.as_slice-3.ensures.value c.number.ensures
+    c.as_slice.ensures.value c.as_slice-2.ensures.value c.as_slice-3.ensures.value
+    (c.number.ensures ∙ ap number_of c.layout.ensures.value)
     (stores.disk_of g.D.Sectors c.args.store.now) (stores.disk_of g.D.Sectors c.commit.new.self) at.represents brings
     (c.commit.ensures.leaves at.fine)
 
@@ -44,20 +47,22 @@ returns-in-Ok-clause-ok g c w root old new run at brings =
       represents = λ k. subst (λ (x : Content). Represents x (kept w new)) (sym (c.in-Ok.ensures.ok k))
           (after (stores.content_of g.D.Sectors c.args.store.now) w old new run c.args.next.now c.as_slice.result.now
           c.as_slice-2.result.now c.as_slice-3.result.now c.number.result
-          c.as_slice.ensures.value c.as_slice-2.ensures.value c.as_slice-3.ensures.value c.number.ensures
+          c.as_slice.ensures.value c.as_slice-2.ensures.value c.as_slice-3.ensures.value
+          (c.number.ensures ∙ ap number_of c.layout.ensures.value)
           (at.represents (word k)) brings);
       root_is = λ k. sym brings.root;
     }
 
 pub returns-in-Ok-clause-loaded : goal.returns-in-Ok-clause-loaded
-returns-in-Ok-clause-loaded g c k rows root is first =
+returns-in-Ok-clause-loaded g c k rows modes root is same =
     let next = c.args.next.now in
     let drops_are : c.as_slice-2.result.now ≡ next.drops.items = c.as_slice-2.ensures.value in
-    subst (λ (x : Content). IsLoaded x rows next.root) (sym (c.in-Ok.ensures.ok k))
+    subst (λ (x : Content). IsLoaded x rows modes next.root) (sym (c.in-Ok.ensures.ok k))
     (loaded_next (stores.content_of g.D.Sectors c.args.store.now) next.id c.as_slice.result.now c.as_slice-2.result.now
     c.as_slice-3.result.now c.number.result
-    (subst (λ (d : List ℕ). All (λ i. first_run ≤ i) (next.id ∷ d)) (sym drops_are) c.requires.runs) c.number.ensures
-    next.root (c.as_slice-3.ensures.value ∙ c.requires.root.spelled) first rows root is)
+    (subst (λ (d : List ℕ). All (λ i. first_run ≤ i) (next.id ∷ d)) (sym drops_are) c.requires.runs)
+    next.root (c.number.ensures ∙ ap number_of c.layout.ensures.value)
+    (c.as_slice-3.ensures.value ∙ c.requires.root.spelled) rows modes root same is)
 
 pub returns-in-Err-clause-causes : goal.returns-in-Err-clause-causes
 returns-in-Err-clause-causes g c device =

@@ -79,8 +79,7 @@ returns-in-Err-clause-large g c is k w stored represents has rows =
     let view : c.args.view ≡ stored.view =
     one_view c.args.view stored.view (c.requires.view ∙ ap (λ (s : StoredCuboid). s.view) (sym has.said_is)) in
     let target : c.target.result ≡ w.target = c.target.ensures ∙ ap (λ (r : PlainRoot). r.target) has.root_is in
-    let mode = first_view content c.args.root.now c.args.cuboid w stored c.args.view represents has c.requires.proper
-    c.requires.view in
+    let mode = first_view content c.args.root.now c.args.cuboid w stored c.args.view represents has c.requires.view in
     let some : span.from ≤ span.to = omega (arith, c.requires.after, c.target.ensures) in
     let tail : HaveTooMany w.rows (modes_of w) c.args.view (rows_in w.batches span) =
     c.in-Err.ensures.large (ap (λ (f : Fault). Err f) (err_fault c.in-Err.fault _ is)) k w
@@ -96,5 +95,4 @@ returns-in-Err-clause-refused g c is k w stored represents has rows =
     let content : Content = content_of g.D.Sectors c.args.store.now in
     c.in-Err.ensures.refused (ap (λ (f : Fault). Err f) (err_fault c.in-Err.fault _ is)) k w
     (laid_of content w represents) has.root_is rows
-    (first_view content c.args.root.now c.args.cuboid w stored c.args.view represents has c.requires.proper
-    c.requires.view)
+    (first_view content c.args.root.now c.args.cuboid w stored c.args.view represents has c.requires.view)

@@ -102,3 +102,13 @@ returns-in-Err-catch_up-clause-refused g c cause w at dims =
     (λ other. let now = c.in-Err-catch_up.ensures.reason cause other (aimed w) mid (λ k. dims (c.aim.ensures.word k)) in
     (now.0, from_aimed w now.0 now.1, now.2, λ k. inr (inr (now.3 k))))
     (memory_or c.in-Err-catch_up.fault)
+
+pub returns-in-Ok-clause-loaded : goal.returns-in-Ok-clause-loaded
+returns-in-Ok-clause-loaded g c fine k rows modes is =
+    c.catch_up.ensures.loaded fine k rows modes
+    (c.aim.ensures.loaded c.in_default.ensures.fine (c.catch_up.ensures.word k) rows modes is)
+
+pub returns-in-Err-catch_up-clause-loaded : goal.returns-in-Err-catch_up-clause-loaded
+returns-in-Err-catch_up-clause-loaded g c fine k rows modes is =
+    c.catch_up.ensures.loaded fine k rows modes
+    (c.aim.ensures.loaded c.in_default.ensures.fine (c.catch_up.ensures.word k) rows modes is)

@@ -14,7 +14,7 @@ returns-in-Ok-clause-creates g c =
       c.into_calls.ensures.within,
       creates c.prefix_is_left.ensures image before after c.into_calls.result.items c.in-Some.ensures.none_yet
           (c.into_calls.ensures.calls ∙ ap calls_of c.close.ensures) c.args.dims
-          c.in-Ok.ensures.ok.all (λ blank. (c.in-Ok.ensures.leaves blank).moments tt),
+          c.in-Ok.ensures.ok.at.all (λ blank. (c.in-Ok.ensures.ok.leaves blank).moments tt),
     )
 
 pub returns-clause-refused : goal.returns-clause-refused
@@ -22,5 +22,5 @@ returns-clause-refused g c =
     let image = g.O.Origin.image in
     let before = calls_of c.in-Some.device in
     subst (λ (f : Fault). CreateRefuses image c.args.dims f) (sym c.named.ensures)
-    (not_created image c.args.dims before c.in-Err.fault c.in-Some.ensures.none_yet c.in-Err.ensures.causes
-    (c.in-Err.ensures.not_already tt) c.in-Err.ensures.size c.in-Err.ensures.full)
+    (not_created image c.args.dims before c.in-Err.fault c.in-Some.ensures.none_yet c.in-Err.ensures.refused.causes
+    (c.in-Err.ensures.refused.not_already tt) c.in-Err.ensures.refused.size c.in-Err.ensures.refused.full)

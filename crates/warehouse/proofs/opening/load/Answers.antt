@@ -7,7 +7,7 @@ use Rattle.warehouse.proofs.opening.load.Goals as goal
 
 pub invariant_of-result : goal.invariant_of-result
 invariant_of-result g c = record {
-  loaded = λ fine k. subst (λ (x : Content). IsLoaded x c.in-Ok.dims.value c.in-Ok.root)
+  loaded = λ fine k. subst (λ (x : Content). IsLoaded x c.in-Ok.kept.dims.value c.in-Ok.kept.modes c.in-Ok.kept.root)
       (sym (c.in-Ok.ensures.stays.content k)) (c.in-Ok.ensures.loaded k);
 }
 

@@ -1,8 +1,8 @@
-use Rattle.std.proofs.Common.{subst}
-use Rattle.warehouse_root.specs.declared.layout.Layout.TheVariants.{First}
+use Rattle.std.proofs.Common.{refl, subst, sym, ◌∙◌}
 use Rattle.warehouse_root.proofs.CallerLemmas.{IsRootOf-one}
 use Rattle.warehouse_objects.specs.Represents.{root_of}
 use Rattle.warehouse_objects.specs.Warehouse.{AreStorable}
+use Rattle.warehouse_objects.proofs.CallerLemmas.{one_layout}
 use Rattle.warehouse.proofs.prepared.kept_is_represented.Goals as goal
 
 pub returns-clause-dims : goal.returns-clause-dims
@@ -10,11 +10,11 @@ returns-clause-dims c = subst AreStorable c.deref.ensures c.rows_are_storable.en
 
 pub returns-clause-puts : goal.returns-clause-puts
 returns-clause-puts c =
-    c.objects_are_storable.ensures.0 c.args.dims.now.value
-    (subst AreStorable c.deref.ensures c.rows_are_storable.ensures)
+    (c.objects_are_storable.ensures.0 c.args.dims.now.value
+    (subst AreStorable c.deref.ensures c.rows_are_storable.ensures)).1
 
 pub returns-clause-agrees : goal.returns-clause-agrees
-returns-clause-agrees c content w is represents = record {
+returns-clause-agrees c content w modes is represents = record {
   rows_are = c.rows_are_one.ensures content w.rows c.args.dims.now.value represents.rows
       (subst AreStorable c.deref.ensures c.rows_are_storable.ensures)
       (record {
@@ -23,10 +23,13 @@ returns-clause-agrees c content w is represents = record {
         parts = represents.objects 3;
         dates = represents.objects 4;
       }) is.has_rows;
-  root_is = IsRootOf-one First content.root (root_of w) c.args.root.now
-      (record { of_layout = represents.first; is_root = represents.root })
+  root_is = IsRootOf-one c.args.root.now.layout content.root (root_of w) c.args.root.now
       (record {
-        of_layout = is.of_layout;
+        of_layout = one_layout w.layout c.args.root.now.layout (sym represents.layout ∙ is.layout);
+        is_root = represents.root;
+      })
+      (record {
+        of_layout = refl;
         is_root = record {
           spelled = is.root_bytes;
           proper = c.layout-layout.ensures.proper;
@@ -35,7 +38,7 @@ returns-clause-agrees c content w is represents = record {
 }
 
 pub returns-clause-laid : goal.returns-clause-laid
-returns-clause-laid c content w is represents = record {
+returns-clause-laid c content w modes is represents = record {
   rows_are = c.rows_are_one.ensures content w.rows c.args.dims.now.value represents.rows
       (subst AreStorable c.deref.ensures c.rows_are_storable.ensures)
       (record {
@@ -44,10 +47,13 @@ returns-clause-laid c content w is represents = record {
         parts = represents.objects 3;
         dates = represents.objects 4;
       }) is.has_rows;
-  root_is = IsRootOf-one First content.root (root_of w) c.args.root.now
-      (record { of_layout = represents.first; is_root = represents.root })
+  root_is = IsRootOf-one c.args.root.now.layout content.root (root_of w) c.args.root.now
       (record {
-        of_layout = is.of_layout;
+        of_layout = one_layout w.layout c.args.root.now.layout (sym represents.layout ∙ is.layout);
+        is_root = represents.root;
+      })
+      (record {
+        of_layout = refl;
         is_root = record {
           spelled = is.root_bytes;
           proper = c.layout-layout.ensures.proper;

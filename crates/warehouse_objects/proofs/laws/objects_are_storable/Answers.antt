@@ -1,9 +1,10 @@
-use Rattle.warehouse_objects.proofs.Batches.{is_batch}
-use Rattle.warehouse_objects.proofs.Contents.{batch_is_put, dimensions_are_puts}
+use Rattle.warehouse_objects.proofs.Contents.{beginning_is_put, dimensions_are_puts, loading_is_put}
 use Rattle.warehouse_objects.proofs.laws.objects_are_storable.Goals as goal
 
 pub returns : goal.returns
 returns c = (
-  dimensions_are_puts c.valid_rows_keep_the_rules.ensures,
-  λ rows batches number batch admissible. batch_is_put number batch (is_batch rows batches number batch admissible),
+  λ rows storable.
+      let those = dimensions_are_puts c.valid_rows_keep_the_rules.ensures rows storable in
+      (those, beginning_is_put rows those),
+  loading_is_put,
 )

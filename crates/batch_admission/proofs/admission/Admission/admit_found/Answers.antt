@@ -1,6 +1,6 @@
 use Rattle.std.proofs.Common.{◌≤◌, ap, arith, length}
 use Rattle.cube_model.specs.Limits.{most_batch_rows}
-use Rattle.batch_admission.proofs.AcceptedLaws.{Admits-found, CanFollow-found, not_long}
+use Rattle.batch_admission.proofs.AcceptedLaws.{Admits-found, not_long}
 use Rattle.batch_admission.proofs.admission.Admission.admit_found.Goals as goal
 
 pub returns-clause-admits : goal.returns-clause-admits

@@ -35,7 +35,8 @@ returns-in-Ok-clause-answer g c w at k =
     let s = c.args.self.now in
     let word = c.audited.ensures.reads.leaves.word in
     let laid = at.laid (word k) in
-    let agree = c.kept_is_represented.ensures.laid (stores.content_of g.D.Sectors s.store) w (s.loaded at.fine (word k))
+    let agree = c.kept_is_represented.ensures.laid (stores.content_of g.D.Sectors s.store) w s.modes
+    (s.loaded at.fine (word k))
     laid in
     c.in-Ok.ensures.answer k w laid (sym agree.root_is) (c.deref.ensures ∙ sym agree.rows_are)
 
@@ -45,7 +46,7 @@ returns-in-Ok-clause-yes g c w at k =
     let content = stores.content_of g.D.Sectors s.store in
     let word = c.audited.ensures.reads.leaves.word in
     let laid = (laid_at g.D.Sectors w s at).laid (word k) in
-    let agree = c.kept_is_represented.ensures.laid content w (s.loaded at.fine (word k)) laid in
+    let agree = c.kept_is_represented.ensures.laid content w s.modes (s.loaded at.fine (word k)) laid in
     (c.in-Ok.ensures.answer k w laid (sym agree.root_is) (c.deref.ensures ∙ sym agree.rows_are)).1
     (c.kept_cuboids_are_sound.ensures content w (at.represents (word k)))
 
@@ -54,7 +55,8 @@ returns-in-Err-clause-refused g c cause w at k =
     let s = c.args.self.now in
     let word = c.audited.ensures.reads.leaves.word in
     let laid = at.laid (word k) in
-    let agree = c.kept_is_represented.ensures.laid (stores.content_of g.D.Sectors s.store) w (s.loaded at.fine (word k))
+    let agree = c.kept_is_represented.ensures.laid (stores.content_of g.D.Sectors s.store) w s.modes
+    (s.loaded at.fine (word k))
     laid in
     ⊎_elim (λ memory. memory)
     (⊎_elim (λ device. absurd (cause device))

@@ -8,7 +8,8 @@ use Rattle.warehouse.proofs.session.Session.batch_rows.Goals as goal
 pub returns : goal.returns
 returns g c = λ w at k.
     let s = c.args.self.now in
-    let agree = c.kept_is_represented.ensures.agrees (stores.content_of g.D.Sectors s.store) w (s.loaded at.fine k)
+    let agree = c.kept_is_represented.ensures.agrees (stores.content_of g.D.Sectors s.store) w s.modes
+    (s.loaded at.fine k)
     (at.represents k) in
     c.rows_of.ensures.rows ∙ ap (λ (root : PlainRoot). numbered root.batches c.args.number) (sym agree.root_is)
     ∙ numbered-map length w.batches c.args.number

@@ -13,9 +13,9 @@ pub returns-then-objects-puts-gt-MOST_OBJECTS-clause-agrees :
     goal.returns-then-objects-puts-gt-MOST_OBJECTS-clause-agrees
 returns-then-objects-puts-gt-MOST_OBJECTS-clause-agrees g c w at k =
     let s = c.args.self.now in
-    c.kept_is_represented.ensures.agrees (content_of g.D.Sectors s) w (s.loaded at.fine k) (at.represents k)
+    c.kept_is_represented.ensures.agrees (content_of g.D.Sectors s) w s.modes (s.loaded at.fine k) (at.represents k)
 
 pub returns-clause-agrees : goal.returns-clause-agrees
 returns-clause-agrees g c w at k =
     let s = c.args.self.now in
-    c.kept_is_represented.ensures.agrees (content_of g.D.Sectors s) w (s.loaded at.fine k) (at.represents k)
+    c.kept_is_represented.ensures.agrees (content_of g.D.Sectors s) w s.modes (s.loaded at.fine k) (at.represents k)

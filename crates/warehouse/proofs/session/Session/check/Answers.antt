@@ -38,6 +38,7 @@ returns-in-Ok-clause-sound g c is k =
     let word = c.checked.ensures.reads.leaves.word in
     let fine : stores.has_failed s.store ≡ false = sym c.is_broken.ensures.broken ∙ c.if-is_broken.false in record {
       rows = s.dims.value;
+      modes = s.modes;
       root = s.root;
       loaded = s.loaded fine (word k);
       storable = c.kept_is_represented.ensures.dims;
@@ -51,7 +52,8 @@ returns-in-Ok-clause-cuboids g c is w at k =
     let s = c.args.self.now in
     let word = c.checked.ensures.reads.leaves.word in
     let laid = at.laid (word k) in
-    let agree = c.kept_is_represented.ensures.laid (stores.content_of g.D.Sectors s.store) w (s.loaded at.fine (word k))
+    let agree = c.kept_is_represented.ensures.laid (stores.content_of g.D.Sectors s.store) w s.modes
+    (s.loaded at.fine (word k))
     laid in
     c.in-Ok.ensures.cuboids is k w laid (sym agree.root_is) (c.deref.ensures ∙ sym agree.rows_are)
 
@@ -60,7 +62,8 @@ returns-in-Ok-clause-found g c is k w represents =
     let s = c.args.self.now in
     let word = c.checked.ensures.reads.leaves.word in
     let fine : stores.has_failed s.store ≡ false = sym c.is_broken.ensures.broken ∙ c.if-is_broken.false in
-    let agree = c.kept_is_represented.ensures.agrees (stores.content_of g.D.Sectors s.store) w (s.loaded fine (word k))
+    let agree = c.kept_is_represented.ensures.agrees (stores.content_of g.D.Sectors s.store) w s.modes
+    (s.loaded fine (word k))
     represents in
     c.in-Ok.ensures.found is k w represents (sym agree.root_is) (c.deref.ensures ∙ sym agree.rows_are)
 
@@ -70,7 +73,7 @@ returns-in-Ok-clause-none g c w at k =
     let word = c.checked.ensures.reads.leaves.word in
     let represents = at.represents (word k) in
     let agree =
-    c.kept_is_represented.ensures.agrees (stores.content_of g.D.Sectors s.store) w (s.loaded at.fine (word k))
+    c.kept_is_represented.ensures.agrees (stores.content_of g.D.Sectors s.store) w s.modes (s.loaded at.fine (word k))
     represents in
     none_unless c.in-Ok.found
     (λ is. c.in-Ok.ensures.found is k w represents (sym agree.root_is) (c.deref.ensures ∙ sym agree.rows_are))
@@ -85,7 +88,7 @@ returns-in-Err-clause-refused g c cause w at k =
     let word = c.checked.ensures.reads.leaves.word in
     let represents = at.represents (word k) in
     let agree =
-    c.kept_is_represented.ensures.agrees (stores.content_of g.D.Sectors s.store) w (s.loaded at.fine (word k))
+    c.kept_is_represented.ensures.agrees (stores.content_of g.D.Sectors s.store) w s.modes (s.loaded at.fine (word k))
     represents in
     ⊎_elim (λ memory. memory)
     (⊎_elim (λ device. absurd (cause device))

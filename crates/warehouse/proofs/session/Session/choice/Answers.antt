@@ -28,7 +28,7 @@ pub returns-in-Ok-clause-ok : goal.returns-in-Ok-clause-ok
 returns-in-Ok-clause-ok g c w at k =
     let s = c.args.self.now in
     let choice = c.in-Ok.choice in
-    let agree = c.kept_is_represented.ensures.agrees (content_of g.D.Sectors s) w (s.loaded at.fine k)
+    let agree = c.kept_is_represented.ensures.agrees (content_of g.D.Sectors s) w s.modes (s.loaded at.fine k)
     (at.represents k) in
     let rows : c.row_total-rows.result ≡ length (all_rows w.batches)
     = c.row_total-rows.ensures

@@ -7,6 +7,14 @@ use Rattle.warehouse.proofs.Cuboids.{dims_are, kept_at}
 use Rattle.warehouse.proofs.Caught.{finished_at, of_err, passed_on}
 use Rattle.warehouse.proofs.session.Session.finish.Goals as goal
 
+pub invariant_of-self : goal.invariant_of-self
+invariant_of-self g c = record {
+  loaded = λ fine k.
+      let s = c.args.self.now in
+      c.catch_up-caught.ensures.loaded fine k s.dims.value s.modes
+      (s.loaded c.requires.fine (c.catch_up-caught.ensures.word k));
+}
+
 pub returns-clause-leaves : goal.returns-clause-leaves
 returns-clause-leaves g c w at =
     let tells = c.kept_is_represented.ensures.agrees in

@@ -34,6 +34,6 @@ returns-in-Ok-clause-answer g c w rows at grown k =
     let s = c.args.self.now in
     let word = c.is_stored.ensures.leaves.word in
     let agree =
-    c.kept_is_represented.ensures.agrees (stores.content_of g.D.Sectors s.store) w (s.loaded at.fine (word k))
+    c.kept_is_represented.ensures.agrees (stores.content_of g.D.Sectors s.store) w s.modes (s.loaded at.fine (word k))
     (at.represents (word k)) in
     c.in-Ok.ensures.answer k w s.dims.value rows (at.represents (word k)) (sym agree.root_is) grown

@@ -10,7 +10,8 @@ use Rattle.warehouse.proofs.session.Session.plan.Goals as goal
 pub returns-in-Err-clause-refused : goal.returns-in-Err-clause-refused
 returns-in-Err-clause-refused g c w at k =
     let s = c.args.self.now in
-    let agree = c.kept_is_represented.ensures.agrees (stores.content_of g.D.Sectors s.store) w (s.loaded at.fine k)
+    let agree = c.kept_is_represented.ensures.agrees (stores.content_of g.D.Sectors s.store) w s.modes
+    (s.loaded at.fine k)
     (at.represents k) in
     let many : length c.batches.result.now ≡ length w.batches = ap length c.batches.ensures
     ∙ ap (λ (root : PlainRoot). length root.batches) (sym agree.root_is)
@@ -23,7 +24,8 @@ pub returns-clause-plan : goal.returns-clause-plan
 returns-clause-plan g c =
     IfOk-weaker c.plan_of.result _ _ (λ plan is w at k.
     let s = c.args.self.now in
-    let agree = c.kept_is_represented.ensures.agrees (stores.content_of g.D.Sectors s.store) w (s.loaded at.fine k)
+    let agree = c.kept_is_represented.ensures.agrees (stores.content_of g.D.Sectors s.store) w s.modes
+    (s.loaded at.fine k)
     (at.represents k) in
     let many : length c.batches.result.now ≡ length w.batches = ap length c.batches.ensures
     ∙ ap (λ (root : PlainRoot). length root.batches) (sym agree.root_is)
@@ -39,7 +41,8 @@ returns-clause-plan g c =
 pub returns-clause-beyond : goal.returns-clause-beyond
 returns-clause-beyond g c w at k proper less =
     let s = c.args.self.now in
-    let agree = c.kept_is_represented.ensures.agrees (stores.content_of g.D.Sectors s.store) w (s.loaded at.fine k)
+    let agree = c.kept_is_represented.ensures.agrees (stores.content_of g.D.Sectors s.store) w s.modes
+    (s.loaded at.fine k)
     (at.represents k) in
     let many : length c.batches.result.now ≡ length w.batches = ap length c.batches.ensures
     ∙ ap (λ (root : PlainRoot). length root.batches) (sym agree.root_is)
@@ -50,7 +53,8 @@ pub returns-clause-refused : goal.returns-clause-refused
 returns-clause-refused g c =
     IfErr-weaker c.plan_of.result _ _ (λ fault memory w at k.
     let s = c.args.self.now in
-    let agree = c.kept_is_represented.ensures.agrees (stores.content_of g.D.Sectors s.store) w (s.loaded at.fine k)
+    let agree = c.kept_is_represented.ensures.agrees (stores.content_of g.D.Sectors s.store) w s.modes
+    (s.loaded at.fine k)
     (at.represents k) in
     let many : length c.batches.result.now ≡ length w.batches = ap length c.batches.ensures
     ∙ ap (λ (root : PlainRoot). length root.batches) (sym agree.root_is)

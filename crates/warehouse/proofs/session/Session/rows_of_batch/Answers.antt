@@ -38,7 +38,7 @@ returns-in-Ok-clause-rows g c w at k =
     let s = c.args.self.now in
     let word = c.read_numbered.ensures.reads.leaves.word in
     let agree =
-    c.kept_is_represented.ensures.agrees (stores.content_of g.D.Sectors s.store) w (s.loaded at.fine (word k))
+    c.kept_is_represented.ensures.agrees (stores.content_of g.D.Sectors s.store) w s.modes (s.loaded at.fine (word k))
     (at.represents (word k)) in
     c.in-Ok.ensures.rows k w (at.represents (word k)) (sym agree.root_is)
 
@@ -47,7 +47,7 @@ returns-in-Err-clause-refused g c other w at k =
     let s = c.args.self.now in
     let word = c.read_numbered.ensures.reads.leaves.word in
     let agree =
-    c.kept_is_represented.ensures.agrees (stores.content_of g.D.Sectors s.store) w (s.loaded at.fine (word k))
+    c.kept_is_represented.ensures.agrees (stores.content_of g.D.Sectors s.store) w s.modes (s.loaded at.fine (word k))
     (at.represents (word k)) in
     only_memory c.in-Err.fault c.in-Err.ensures.causes other
     (λ is. c.in-Err.ensures.refused (ap (λ (f : Fault). Err f) is) k w (at.represents (word k)) (sym agree.root_is))

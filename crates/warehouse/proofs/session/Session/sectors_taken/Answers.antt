@@ -12,7 +12,7 @@ pub returns-clause-taken : goal.returns-clause-taken
 returns-clause-taken g c w at k =
     let s = c.args.self.now in
     let content = content_of g.D.Sectors s in
-    let agree = c.kept_is_represented.ensures.agrees content w (s.loaded at.fine k) (at.represents k) in
+    let agree = c.kept_is_represented.ensures.agrees content w s.modes (s.loaded at.fine k) (at.represents k) in
     let objects : c.sectors_of_objects-objects.result ≡ min (sum_by (object_sectors content) (object_ids (root_of w)))
     (2 ^ 64 - 1) =
     c.sectors_of_objects-objects.ensures k

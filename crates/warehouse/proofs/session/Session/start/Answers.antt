@@ -11,7 +11,7 @@ pub returns-in-Err-clause-refused : goal.returns-in-Err-clause-refused
 returns-in-Err-clause-refused g c cause w at k =
     let s = c.args.self.now in
     let content = stores.content_of g.D.Sectors s.store in
-    let agree = c.kept_is_represented.ensures.agrees content w (s.loaded at.fine k) (at.represents k) in
+    let agree = c.kept_is_represented.ensures.agrees content w s.modes (s.loaded at.fine k) (at.represents k) in
     let many : length c.batches.result.now ≡ length w.batches = ap length c.batches.ensures
     ∙ ap (λ (root : PlainRoot). length root.batches) (sym agree.root_is)
     ∙ length-map w.batches (λ (batch : List LineOrder). length batch) in
@@ -51,7 +51,8 @@ returns-in-Ok-clause-started g c w at k =
     let s = c.args.self.now in
     let content = stores.content_of g.D.Sectors s.store in
     let word = c.begin.ensures.reads.leaves.word in
-    let agree = c.kept_is_represented.ensures.agrees content w (s.loaded at.fine (word k)) (at.represents (word k)) in
+    let agree = c.kept_is_represented.ensures.agrees content w s.modes (s.loaded at.fine (word k))
+    (at.represents (word k)) in
     let many : length c.batches.result.now ≡ length w.batches = ap length c.batches.ensures
     ∙ ap (λ (root : PlainRoot). length root.batches) (sym agree.root_is)
     ∙ length-map w.batches (λ (batch : List LineOrder). length batch) in
@@ -68,7 +69,8 @@ returns-in-Ok-clause-beyond g c w at k proper less =
     let s = c.args.self.now in
     let content = stores.content_of g.D.Sectors s.store in
     let word = c.begin.ensures.reads.leaves.word in
-    let agree = c.kept_is_represented.ensures.agrees content w (s.loaded at.fine (word k)) (at.represents (word k)) in
+    let agree = c.kept_is_represented.ensures.agrees content w s.modes (s.loaded at.fine (word k))
+    (at.represents (word k)) in
     let many : length c.batches.result.now ≡ length w.batches = ap length c.batches.ensures
     ∙ ap (λ (root : PlainRoot). length root.batches) (sym agree.root_is)
     ∙ length-map w.batches (λ (batch : List LineOrder). length batch) in
@@ -79,7 +81,8 @@ returns-in-Err-begin-clause-beyond g c w at k proper less =
     let s = c.args.self.now in
     let content = stores.content_of g.D.Sectors s.store in
     let word = c.begin.ensures.reads.leaves.word in
-    let agree = c.kept_is_represented.ensures.agrees content w (s.loaded at.fine (word k)) (at.represents (word k)) in
+    let agree = c.kept_is_represented.ensures.agrees content w s.modes (s.loaded at.fine (word k))
+    (at.represents (word k)) in
     let many : length c.batches.result.now ≡ length w.batches = ap length c.batches.ensures
     ∙ ap (λ (root : PlainRoot). length root.batches) (sym agree.root_is)
     ∙ length-map w.batches (λ (batch : List LineOrder). length batch) in
@@ -90,7 +93,8 @@ returns-in-Err-begin-clause-refused g c cause w at k =
     let s = c.args.self.now in
     let content = stores.content_of g.D.Sectors s.store in
     let word = c.begin.ensures.reads.leaves.word in
-    let agree = c.kept_is_represented.ensures.agrees content w (s.loaded at.fine (word k)) (at.represents (word k)) in
+    let agree = c.kept_is_represented.ensures.agrees content w s.modes (s.loaded at.fine (word k))
+    (at.represents (word k)) in
     let many : length c.batches.result.now ≡ length w.batches = ap length c.batches.ensures
     ∙ ap (λ (root : PlainRoot). length root.batches) (sym agree.root_is)
     ∙ length-map w.batches (λ (batch : List LineOrder). length batch) in

@@ -22,8 +22,9 @@ said_at (cuboid ∷ cuboids) (suc place) = said_at cuboids place
 pub returns-clause-ok : goal.returns-clause-ok
 returns-clause-ok g c w at k =
     let s = c.args.self.now in
-    let agree = c.kept_is_represented.ensures.agrees (content_of g.D.Sectors s) w (s.loaded at.fine k)
+    let agree = c.kept_is_represented.ensures.agrees (content_of g.D.Sectors s) w s.modes (s.loaded at.fine k)
     (at.represents k) in record {
+      layout = c.layout.ensures.value ∙ ap (λ (root : PlainRoot). root.layout) (sym agree.root_is);
       batches = ap length c.batches-batches.ensures ∙ ap (λ (root : PlainRoot). length root.batches) (sym agree.root_is)
           ∙ length-map w.batches (λ (batch : List LineOrder). length batch);
       rows = c.row_total.ensures

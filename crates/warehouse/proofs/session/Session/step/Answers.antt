@@ -6,6 +6,15 @@ use Rattle.object_store.specs.Store as stores
 use Rattle.planned_queries.specs.Stepping.{Advances, IsRunning, RunningState}
 use Rattle.warehouse.proofs.Represented.{store_at, session_at, still_at, content_leaves}
 use Rattle.warehouse.proofs.session.Session.step.Goals as goal
+use Rattle.warehouse.proofs.Represented.{reads_loaded}
+
+pub invariant_of-self : goal.invariant_of-self
+invariant_of-self g c = record {
+  loaded = λ fine k.
+      let s = c.args.self.now in
+      reads_loaded g.D.Sectors c.advance.result s.store c.advance.new.store s.dims.value s.modes s.root
+      c.advance.ensures.reads fine k s.loaded;
+}
 
 pub returns-in-None-clause-leaves : goal.returns-in-None-clause-leaves
 returns-in-None-clause-leaves g c w at =
@@ -50,7 +59,8 @@ pub returns-in-None-clause-steps : goal.returns-in-None-clause-steps
 returns-in-None-clause-steps g c w at k started extends is =
     let s = c.args.self.now in
     let word = c.advance.ensures.reads.leaves.word k in
-    let agree = c.kept_is_represented.ensures.agrees (stores.content_of g.D.Sectors s.store) w (s.loaded at.fine word)
+    let agree = c.kept_is_represented.ensures.agrees (stores.content_of g.D.Sectors s.store) w s.modes
+    (s.loaded at.fine word)
     (at.represents word) in
     subst (λ (found : Option Answer). Advances started c.advance.new.self found) c.in-None.is
     (c.in-Ok.ensures.steps k w (at.represents word) (sym agree.root_is) started extends is)
@@ -59,7 +69,8 @@ pub returns-in-Some-clause-steps : goal.returns-in-Some-clause-steps
 returns-in-Some-clause-steps g c w at k started extends is =
     let s = c.args.self.now in
     let word = c.advance.ensures.reads.leaves.word k in
-    let agree = c.kept_is_represented.ensures.agrees (stores.content_of g.D.Sectors s.store) w (s.loaded at.fine word)
+    let agree = c.kept_is_represented.ensures.agrees (stores.content_of g.D.Sectors s.store) w s.modes
+    (s.loaded at.fine word)
     (at.represents word) in
     subst (λ (found : Option Answer). Advances started c.advance.new.self found) c.in-Some.is
     (c.in-Ok.ensures.steps k w (at.represents word) (sym agree.root_is) started extends is)
@@ -68,7 +79,8 @@ pub returns-in-Err-clause-steps : goal.returns-in-Err-clause-steps
 returns-in-Err-clause-steps g c w at k started extends is =
     let s = c.args.self.now in
     let word = c.advance.ensures.reads.leaves.word k in
-    let agree = c.kept_is_represented.ensures.agrees (stores.content_of g.D.Sectors s.store) w (s.loaded at.fine word)
+    let agree = c.kept_is_represented.ensures.agrees (stores.content_of g.D.Sectors s.store) w s.modes
+    (s.loaded at.fine word)
     (at.represents word) in (
       subst (λ (running : RunningState). IsRunning running started) (sym c.in-Err.ensures.err) is,
       ⊎_elim (λ memory. inl memory)

@@ -1,7 +1,16 @@
+use Rattle.std.proofs.Common.{sym, ◌∙◌}
 use Rattle.warehouse.specs.Session.{is_at}
 use Rattle.warehouse_objects.specs.Warehouse.{with_views}
 use Rattle.warehouse.proofs.Cuboids.{kept_at}
 use Rattle.warehouse.proofs.session.Session.store_views.Goals as goal
+
+pub invariant_of-self : goal.invariant_of-self
+invariant_of-self g c = record {
+  loaded = λ fine k.
+      let s = c.args.self.now in
+      c.set_views.ensures.loaded fine k s.dims.value s.modes
+      (s.loaded (sym c.is_broken.ensures.broken ∙ c.if-is_broken.false) (c.set_views.ensures.word k));
+}
 
 pub returns-in-Ok-clause-leaves : goal.returns-in-Ok-clause-leaves
 returns-in-Ok-clause-leaves g c w at =

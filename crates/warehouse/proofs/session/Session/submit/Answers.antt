@@ -4,7 +4,7 @@ use Rattle.warehouse.proofs.session.Session.submit.Goals as goal
 
 pub returns-in-Err-clause-causes : goal.returns-in-Err-clause-causes
 returns-in-Err-clause-causes g c cause w at k =
-    ⊎_elim (λ refused. inl refused) (λ memory. inr (memory.0, inl memory.1)) (c.in-Err.ensures.refused w at k)
+    ⊎_elim (λ refused. inl refused) (λ memory. inr (inl memory)) (c.in-Err.ensures.refused w at k)
 
 pub returns-clause-ok : goal.returns-clause-ok
 returns-clause-ok g c =

@@ -4,7 +4,7 @@ use Rattle.warehouse.proofs.session.Session.submit_batch.Goals as goal
 
 pub returns-in-Err-clause-causes : goal.returns-in-Err-clause-causes
 returns-in-Err-clause-causes g c cause w rows at grown k =
-    ⊎_elim (λ refused. inl refused) (λ memory. inr (memory.0, inl memory.1)) (c.in-Err.ensures.model w rows at grown k)
+    ⊎_elim (λ refused. inl refused) (λ memory. inr (inl memory)) (c.in-Err.ensures.model w rows at grown k)
 
 pub returns-clause-leaves : goal.returns-clause-leaves
 returns-clause-leaves g c = λ w rows at grown.

@@ -1,3 +1,4 @@
+use Rattle.std.proofs.Common.{sym}
 use Rattle.std.proofs.Common.{◌≡◌, ◌∙◌, ℕ, inl, inr, Option, Err, ap, subst}
 use Rattle.cube_model.specs.declared.fault.Fault.TheVariants.{Device, TooManyCells}
 use Rattle.lattice.specs.declared.view.View.{View}
@@ -6,6 +7,14 @@ use Rattle.cuboid_commits.specs.Upkeep.{AreWholeBut}
 use Rattle.warehouse.specs.Session.{is_at}
 use Rattle.warehouse.proofs.Cuboids.{dims_are, kept_at}
 use Rattle.warehouse.proofs.session.Session.upkeep.Goals as goal
+
+pub invariant_of-self : goal.invariant_of-self
+invariant_of-self g c = record {
+  loaded = λ fine k.
+      let s = c.args.self.now in
+      c.keep_up.ensures.loaded fine k s.dims.value s.modes
+      (s.loaded (sym c.is_broken.ensures.broken ∙ c.if-is_broken.false) (c.keep_up.ensures.word k));
+}
 
 pub returns-in-None-clause-leaves : goal.returns-in-None-clause-leaves
 returns-in-None-clause-leaves g c w at =

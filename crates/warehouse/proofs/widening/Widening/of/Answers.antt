@@ -15,5 +15,6 @@ returns-clause-ok c = λ old same.
       root_is = c.in_ok-root.ensures.ok;
       spelled = c.in_ok-root_bytes.ensures.ok;
       objects_are = c.in_ok-objects.ensures.ok old same;
-      puts = puts_widened old c.args.rows.now (c.objects_are_storable.ensures.0 (joined old c.args.rows.now) storable);
+      puts = puts_widened old c.args.rows.now
+          (c.objects_are_storable.ensures.0 (joined old c.args.rows.now) storable).0;
     }

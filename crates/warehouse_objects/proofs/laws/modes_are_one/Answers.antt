@@ -1,0 +1,5 @@
+use Rattle.warehouse_objects.proofs.ModesRead.{modes_one}
+use Rattle.warehouse_objects.proofs.laws.modes_are_one.Goals as goal
+
+pub returns : goal.returns
+returns c = modes_one
