@@ -10,7 +10,7 @@ written, beginning with either.
 
 Of each image has to hold, while another program has the file open for reading, so that none can write it: the program finds a
 warehouse; its batches are those before the command, those whose lines were printed before the crash, and at most one more; it has their
-rows; its additions of dimension rows are those before the command or after it, and those after it once their line was printed; its cuboids are those of before or after the command, with no lower mark; audit says yes; each of the thirteen reports is that of
+rows; its additions of dimension rows are those before the command or after it, and those after it once their line was printed; so is its layout; its cuboids are those of before or after the command, with no lower mark; audit says yes; each of the thirteen reports is that of
 as many batches; a note says where an upkeep was cut off; and the file is as it was. Then, alone: a report finishes an upkeep that was
 cut off, is the same, and changes the file only for that; and once the command was given again, and an upkeep after it, all is as
 after a run that was not cut off.
@@ -181,7 +181,7 @@ class Command:
         global count
         tried = set()
         for place, (said, found) in enumerate(images(self.image, self.calls)):
-            printed = len(re.findall(r"^batch \d+ rows \d+$", said, re.M)), "additions" in said
+            printed = len(re.findall(r"^batch \d+ rows \d+$", said, re.M)), "additions" in said, "layout" in said
             for image in found:
                 if (image, printed) not in tried:
                     tried.add((image, printed))
@@ -193,7 +193,7 @@ class Command:
         print(f"{self.name}: {writes} writes, {syncs} syncs, {len(tried)} images", flush=True)
 
     def complaints(self, image, printed, rows):
-        """What is wrong with an image that is left once so many batches were printed, and maybe an addition."""
+        """What is wrong with an image that is left once so many batches were printed, and maybe an addition or a layout."""
         device = "cut.dev"
         Path(device).write_bytes(image)
         with read_by_another(device):
@@ -212,8 +212,8 @@ class Command:
         return found
 
     def other_numbers(self, status, printed, rows):
-        """What is wrong with the batches and additions of an image that is left once so many were printed."""
-        loaded, added = printed
+        """What is wrong with the batches, additions and layout of an image that is left once so many were printed."""
+        loaded, added, moved = printed
         first = self.before.numbers["batches"] + loaded
         batches = status.numbers["batches"]
         found = []
@@ -225,6 +225,9 @@ class Command:
         allowed = [self.after] if added else [self.before, self.after]
         if additions not in [one.numbers.get("additions", 0) for one in allowed]:
             found.append(f"{additions} additions")
+        layout = status.numbers.get("layout", 1)
+        if layout not in [one.numbers.get("layout", 1) for one in ([self.after] if moved else [self.before, self.after])]:
+            found.append(f"layout {layout}")
         return found
 
     def other_answers(self, device, status):
@@ -305,7 +308,7 @@ def main():
         shutil.copy(tables / f"star_{name}.tbl", f"{name}.tbl")
     lines = Path("lineorder.tbl").read_text().splitlines(keepends=True)
     Path("first.tbl").write_text("".join(lines[:90]))
-    rows = [90 * batches for batches in range(6)]
+    rows = [90 * batches for batches in range(7)]
     dimensions = [word for name in "customer supplier part date".split() for word in (f"--{name}", f"{name}.tbl")]
     must("create", DEVICE, "--sectors", "1024", *dimensions)
     must("load", DEVICE, "--first", "1", "first.tbl")
@@ -324,6 +327,9 @@ def main():
     write_new_customers()
     Command("addition of two customers", ADDITION).cut(rows)
     Command("choose of one", ["choose", DEVICE, "1"]).cut(rows)
+    Command("move to layout 2", ["migrate", DEVICE]).cut(rows)
+    Path("modes.tbl").write_text("".join(re.sub(r"[^|]*\|$", f"DRONE {place}|", line.rstrip("\n")) + "\n" for place, line in enumerate(lines[:90])))
+    Command("load of new ship modes", ["load", DEVICE, "--first", "6", "modes.tbl"]).cut(rows)
     closed_streams(rows)
     print(f"{count} images, {starts} starts with closed streams, {complaints} complaints")
     return 1 if complaints else 0

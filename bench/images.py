@@ -3,8 +3,8 @@
 
 Usage, in an empty folder with ssbcube on the path: images.py TABLES [TRIES [SEED]]      (images.sh calls it)
 
-Six warehouses: without a batch, with batches, with cuboids, with an upkeep that a crash cut off, with batches after the cuboids' marks, and
-with rows added to the dimensions.
+Seven warehouses: without a batch, with batches, with cuboids, with an upkeep that a crash cut off, with batches after the cuboids' marks,
+with rows added to the dimensions, and in layout 2.
 Each try changes 1 to 8 bytes of one of them, by turns anywhere in the file and in the bytes that are in use, and runs one to three
 commands. Each has to end within ten seconds as if nothing were wrong, or with status 1 and NotFormatted, BadLayout, DeviceSize or
 Memory (audit also with `audit no`, and check with what it finds). Where no byte in use was changed, it has to print what it prints of the unchanged warehouse.
@@ -111,7 +111,7 @@ def complaint(words, done, plain, used):
 
 
 def warehouses(tables, program):
-    """The six."""
+    """The seven."""
     for name in "customer supplier part date lineorder".split():
         shutil.copy(tables / f"star_{name}.tbl", f"{name}.tbl")
     device = crashes.DEVICE
@@ -129,6 +129,8 @@ def warehouses(tables, program):
     yield Warehouse("batches after the cuboids", Path(device).read_bytes(), program)
     crashes.add_customers()
     yield Warehouse("added rows", Path(device).read_bytes(), program)
+    crashes.must("migrate", device)
+    yield Warehouse("layout 2", Path(device).read_bytes(), program)
 
 
 def main():

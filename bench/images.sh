@@ -1,5 +1,5 @@
 #!/bin/sh
-# Damaged files: bytes of six warehouses are changed at random, and the built program runs commands on each. At the top of the
+# Damaged files: bytes of seven warehouses are changed at random, and the built program runs commands on each. At the top of the
 # repository, once crates/ssbcube/out/ssbcube is built: sh bench/images.sh [TRIES [SEED]]
 #
 # It needs strace and python3. What has to hold each time is in images.py. Another program is taken from the folder SSBCUBE_AT.

@@ -1,1 +1,4 @@
+pub mod CallerLemmas
+mod Firsts
+mod OneBatchMore
 mod Rows

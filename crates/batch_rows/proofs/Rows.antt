@@ -1,15 +1,16 @@
 -- The rows of a batch, by what its root and its object say.
-use Rattle.std.proofs.Common.{◌≡◌, ◌⊎◌, ⊎_elim, ◌∙◌, ℕ, ◌+◌, ◌<◌, List, length, Option, Some, None, slice_get, refl}
+use Rattle.std.proofs.Common.{◌≡◌, ◌⊎◌, ⊎_elim, ◌∙◌, ℕ, ◌+◌, ◌<◌, List, length, Option, Some, None, slice_get, get_or}
+use Rattle.std.proofs.Common.{refl}
 use Rattle.std.proofs.Common.{sym, ap, subst, arith}
 use Rattle.std.specs.Option.{option_map}
-use Rattle.std.proofs.lemmas.Option.{slice_get-map}
+use Rattle.std.proofs.lemmas.Option.{slice_get-get_or, slice_get-map}
 use Rattle.cube_model.specs.declared.fault.Fault.{Fault}
-use Rattle.cube_model.specs.declared.fault.Fault.TheVariants.{BadLayout, Memory}
+use Rattle.cube_model.specs.declared.fault.Fault.TheVariants.{BadLayout, Device, Memory}
 use Rattle.cube_model.specs.declared.rows.LineOrder.{LineOrder}
 use Rattle.object_store.specs.Content.{Content, bytes_of}
 use Rattle.column_segment.specs.Projected.{HoldsNoneOf}
 use Rattle.column_segment.specs.Segment.{IsSegment}
-use Rattle.warehouse_root.specs.Root.{PlainRoot}
+use Rattle.warehouse_root.specs.Root.{IsProper, PlainRoot}
 use Rattle.warehouse_objects.specs.Represents.{Represents, root_of}
 use Rattle.warehouse_objects.specs.Warehouse.{Warehouse}
 use Rattle.warehouse_objects.proofs.Batches.{some_one}
@@ -56,6 +57,24 @@ module _ (c : Content) (w : Warehouse) (represents : Represents c w) (before : �
       none_there c w represents before (before + 1) (65536 + (before + 1)) refl refl low got.0 got.1
       (subst (HoldsNoneOf (bytes_of c (65536 + (before + 1))) (before + 1)) (sym got.2) none)
 
+-- the batch after so many others, where a root has one
+module _ (c : Content) (w : Warehouse) (represents : Represents c w) (root : PlainRoot) (rooted : root ≡ root_of w)
+    (proper : IsProper root) (before : ℕ) (within : before < length root.batches) where
+  low : before < 65535
+  low = omega (arith, within, proper.most_batches)
+
+  pub never_said : (counts : List ℕ) → counts ≡ root.batches
+      → HoldsNoneOf (bytes_of c (65536 + (before + 1))) (before + 1) (get_or counts before 0) → ⊥
+  never_said counts same none =
+      never_none c w represents before low root rooted (get_or root.batches before 0)
+      (slice_get-get_or root.batches before 0 within)
+      (subst (λ (l : List ℕ). HoldsNoneOf (bytes_of c (65536 + (before + 1))) (before + 1) (get_or l before 0)) same
+      none)
+
+  pub said_rows : (rows : List LineOrder) → HoldsBatch c (65536 + (before + 1)) (before + 1) rows
+      → slice_get w.batches before ≡ Some rows
+  said_rows rows held = sym (rows_are c w represents before low rows held)
+
 -- no object is that of no batch
 pub missing : (text : Option (List ℕ)) (number count : ℕ) → text ≡ None → HoldsNoneOf text number count
 missing text number count none bytes rows at many segment = let both : None ≡ Some bytes = sym none ∙ at in cc
@@ -71,3 +90,11 @@ refused text bytes number count fault there is why others rows at many segment =
     ⊎_elim (λ (memory : fault ≡ Memory). let both : BadLayout ≡ Memory = sym is ∙ memory in absurd cc)
     (λ (bad : (fault ≡ BadLayout) × ((l : List LineOrder) → length l ≡ count → IsSegment bytes number l → ⊥)). bad.1
     rows many (subst (λ (b : List ℕ). IsSegment b number rows) same segment)) why
+
+-- of the causes of a read there is only memory, where the device does not fail and the batches are as the root says
+pub only_memory : (fault : Fault) → (fault ≡ Memory) ⊎ ((fault ≡ Device) ⊎ (fault ≡ BadLayout)) → (fault ≡ Device → ⊥)
+    → (fault ≡ BadLayout → ⊥) → fault ≡ Memory
+only_memory fault causes other there =
+    ⊎_elim (λ (memory : fault ≡ Memory). memory)
+    (λ (two : (fault ≡ Device) ⊎ (fault ≡ BadLayout)). absurd
+    (⊎_elim (λ (device : fault ≡ Device). other device) (λ (bad : fault ≡ BadLayout). there bad) two)) causes

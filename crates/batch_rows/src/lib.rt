@@ -1,6 +1,9 @@
-//! The fact rows of a stored batch.
+//! The fact rows of a stored batch, and the ship modes of all.
 #![tactic(auto)]
 
+mod gathering;
 mod reading;
+mod ship_modes;
 
 pub use reading::read_rows;
+pub use ship_modes::read_ship_modes;

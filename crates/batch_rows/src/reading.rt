@@ -80,9 +80,28 @@ fn read_batch<D: Sectors>(
     ensures reads { ReadsOnly D.Sectors store.old store.new result }
     ensures causes { IfErr result (λ fault. (fault ≡ Memory) ⊎ ((fault ≡ Device) ⊎ (fault ≡ BadLayout))) }
 {
-    let bytes = read_object(alloc, store, segment_id(number))?;
-    let segment = decoded_batch(alloc, bytes, number, count)?;
+    let segment = read_segment(alloc, store, number, count)?;
     rows_in(alloc, &segment)
+}
+
+// The batch of a number. There are to be so many rows.
+pub(crate) fn read_segment<D: Sectors>(
+    alloc: Global,
+    store: &mut Store<D>,
+    number: u32,
+    count: u32,
+) -> Result<Segment, Fault>
+    requires fine { has_failed store.old ≡ false }
+    requires few { number ≤ most_batches }
+    ensures rows { IfOk result (λ segment. D.keeps_word (device_of store.new)
+        → HoldsBatch (content_of D.Sectors store.old) (segment_id number) number segment.rows) }
+    ensures refused { IsErrOf result BadLayout → D.keeps_word (device_of store.new)
+        → HoldsNoneOf (bytes_of (content_of D.Sectors store.old) (segment_id number)) number count }
+    ensures reads { ReadsOnly D.Sectors store.old store.new result }
+    ensures causes { IfErr result (λ fault. (fault ≡ Memory) ⊎ ((fault ≡ Device) ⊎ (fault ≡ BadLayout))) }
+{
+    let bytes = read_object(alloc, store, segment_id(number))?;
+    decoded_batch(alloc, bytes, number, count)
 }
 
 // All rows of a segment.

@@ -115,6 +115,7 @@ where
         "copy" => copy::copy(rt, given, screens),
         "check" => check::check(rt, given, screens),
         "audit" => job::perform_job(rt, given, Access::Read, Job::Audit),
+        "migrate" => job::perform_job(rt, given, Access::Commit, Job::Migrate),
         _ => Ok(NO_COMMAND),
     }
 }

@@ -3,7 +3,7 @@ use crate::device_hints::{device_hint, failure_hint};
 use crate::space::{Room, room_hint};
 use clap::ArgMatches;
 use command_files::refusal::Refusal;
-use cube_model::Fault;
+use cube_model::{Fault, MemberPlace};
 use std::alloc::Global;
 use std::io;
 use std::rt::Files;
@@ -58,6 +58,12 @@ fn hint_of<R: Files + AllocGlobal>(
     match met.fault {
         Fault::NoSuchPrefix => prefix_hint(rt.alloc(), given, met.batches),
         Fault::Device => failure_hint(rt, given, met.failure),
+        Fault::ReservedMember {
+            place: MemberPlace::InStoredBatch { batch, row },
+        } => reserved_hint(rt.alloc(), batch, row),
+        Fault::TooManyMembers {
+            place: MemberPlace::InStoredBatch { batch, row },
+        } => crowded_hint(rt.alloc(), batch, row),
         Fault::Full if met.room.is_some() => room_hint(rt.alloc(), given, met.room, met.needs),
         Fault::Full
         | Fault::NotFormatted
@@ -82,5 +88,21 @@ fn prefix_hint(
         (None, None) => return Ok(None),
     };
     let said = format!(in alloc; "--{option} {number}: batches in the warehouse: {batches}")?;
+    Ok(Some(said))
+}
+
+// What is said of a stored row with the ship mode that layout 2 reserves.
+fn reserved_hint(alloc: Global, batch: u32, row: u32) -> Result<Option<String>, Fault> {
+    let said = format!(in alloc;
+        "row {row} of batch {batch} has the ship mode ALL, which layout 2 reserves: it means every ship mode; the layout is still 1"
+    )?;
+    Ok(Some(said))
+}
+
+// What is said of the stored row with which layout 2 would have too many ship modes.
+fn crowded_hint(alloc: Global, batch: u32, row: u32) -> Result<Option<String>, Fault> {
+    let said = format!(in alloc;
+        "row {row} of batch {batch} has the 65536th ship mode, and layout 2 may have 65535; the layout is still 1"
+    )?;
     Ok(Some(said))
 }

@@ -13,6 +13,7 @@ use crate::explain::EXPLAIN;
 use crate::generate::GENERATE;
 use crate::load::LOAD;
 use crate::merge::MERGE;
+use crate::migrate::MIGRATE;
 use crate::report::REPORT;
 use crate::self_test::SELF_TEST;
 use crate::shells::{COMPLETIONS, MANUAL};
@@ -43,7 +44,7 @@ Status 2 means that the command line was not understood. 'ssbcube COMMAND
 --help' has the options of a command and examples.";
 
 /// The commands, in the order of the help.
-pub(crate) fn commands() -> [&'static Described; 22] {
+pub(crate) fn commands() -> [&'static Described; 23] {
     [
         &EVAL,
         &CREATE,
@@ -61,6 +62,7 @@ pub(crate) fn commands() -> [&'static Described; 22] {
         &CHECK,
         &VIEWS,
         &COPY,
+        &MIGRATE,
         &DUMP,
         &DEMO,
         &SELF_TEST,

@@ -30,9 +30,9 @@ sectors out: for batches of 65,536 rows, eight cuboids, and some more.
 With --tables the tables are customer.tbl, supplier.tbl, part.tbl and date.tbl of
 FOLDER. A table that has its own option too is the file of that option.
 
-The layout stays as it is. In layout 1 the file keeps the dimension tables and the
-batches, in layout 2 the ship modes of the fact rows too, each once. They are then
-65,535 at most, and none of them is ALL.
+In layout 1 the file keeps the dimension tables and the batches, in layout 2 the
+ship modes of the fact rows too, each once. They are then 65,535 at most, and none
+of them is ALL. 'ssbcube migrate' moves a warehouse from layout 1 to layout 2.
 
 Examples:
   ssbcube create star.dev --sectors 1000000 --customer customer.tbl \\

@@ -18,6 +18,7 @@ mod generate;
 mod load;
 mod manual;
 mod merge;
+mod migrate;
 mod pieces;
 mod report;
 mod self_test;

@@ -17,6 +17,7 @@ pub enum Given {
     Upkeep,
     Audit,
     Add(u32, Star<'static>),
+    Migrate,
     Start(u8, u32, Asked<'static>),
     Step(u8),
 }
@@ -70,6 +71,7 @@ fn command(alloc: Global, given: &Given) -> Result<Command, Fault> {
         Given::Upkeep => Ok(Command::Upkeep),
         Given::Audit => Ok(Command::Audit),
         Given::Add(number, star) => addition(alloc, *number, star),
+        Given::Migrate => Ok(Command::Migrate),
         Given::Step(slot) => Ok(Command::Step(*slot)),
     }
 }

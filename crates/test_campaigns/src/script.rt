@@ -7,7 +7,7 @@ use sample_star::{FACTS, Fact, ONE_CUSTOMER, STRANGER, WIDER_STAR, dim_rows, lin
 use sector_device::Sectors;
 use ssb_reports::{QNumber, query_of};
 use std::alloc::Global;
-use warehouse::{Session, Status, StoredCuboid};
+use warehouse::{Layout, Session, Status, StoredCuboid};
 
 /// How many rows there are in the first batches together.
 const ROWS: [u64; 4] = [0, 3, 4, 4];
@@ -15,8 +15,8 @@ const ROWS: [u64; 4] = [0, 3, 4, 4];
 /// The views of the choice.
 const VIEWS: [u16; 3] = [59, 203, 248];
 
-/// What was acknowledged: the creation, batches, the choice, how many batches the cuboids hold, and whether a customer
-/// was added.
+/// What was acknowledged: the creation, batches, the choice, how many batches the cuboids hold, whether a customer was
+/// added, and whether the warehouse was moved to the second layout.
 #[derive(Clone, Copy, Debug, PartialEq, Eq)]
 pub(crate) struct Reached {
     pub(crate) created: bool,
@@ -24,6 +24,7 @@ pub(crate) struct Reached {
     pub(crate) chosen: bool,
     pub(crate) mark: u32,
     pub(crate) added: bool,
+    pub(crate) moved: bool,
 }
 
 pub(crate) const NOTHING: Reached = Reached {
@@ -32,16 +33,18 @@ pub(crate) const NOTHING: Reached = Reached {
     chosen: false,
     mark: 0,
     added: false,
+    moved: false,
 };
 
 /// What a warehouse lacks next. The cuboids are brought to the first batch, and to the second, which has a row of the
-/// customer that is added between the two.
+/// customer that is added between the two. The third batch comes after the move to the second layout.
 #[derive(Clone, Copy, Debug, PartialEq, Eq)]
 enum Lacks {
     Batch(u32),
     Choice,
     Upkeep,
     Addition,
+    Migration,
     Nothing,
 }
 
@@ -61,7 +64,9 @@ fn lack_of(status: &Status) -> Lacks {
         None => Lacks::Choice,
         Some(mark) if mark < status.batches.min(2) => Lacks::Upkeep,
         Some(_) if status.additions == 0 => Lacks::Addition,
-        Some(_) if status.batches < 3 => Lacks::Batch(status.batches.saturating_add(1)),
+        Some(_) if status.batches < 2 => Lacks::Batch(2),
+        Some(_) if status.layout == Layout::First => Lacks::Migration,
+        Some(_) if status.batches < 3 => Lacks::Batch(3),
         Some(_) => Lacks::Nothing,
     }
 }
@@ -102,6 +107,10 @@ fn go_on<D: Sectors>(
             add(alloc, session, 1, &ONE_CUSTOMER)?;
             reached.added = true;
         }
+        Lacks::Migration => {
+            session.migrate(alloc)?;
+            reached.moved = true;
+        }
         Lacks::Nothing => return Ok(false),
     }
     Ok(true)
@@ -113,7 +122,7 @@ pub(crate) fn live<D: Sectors>(
     session: &mut Session<D>,
     reached: &mut Reached,
 ) -> Result<(), Fault> {
-    for _ in 0..9 {
+    for _ in 0..10 {
         if !go_on(alloc, session, reached)? {
             break;
         }
@@ -211,6 +220,15 @@ fn is_addition_allowed(status: &Status, reached: &Reached) -> bool {
     }
 }
 
+/// Whether the layout may be this one: the second if the move was acknowledged or the third batch is there, and the first
+/// before the cuboids hold the second.
+fn is_layout_allowed(status: &Status, reached: &Reached) -> bool {
+    match status.layout {
+        Layout::First => !reached.moved && status.batches < 3,
+        Layout::Second => least_mark(status).unwrap_or(0) > 1,
+    }
+}
+
 /// Whether a status is one that may be found once so much was acknowledged: the batches, and at most the one that was
 /// being added.
 fn is_allowed(status: &Status, reached: &Reached) -> bool {
@@ -219,6 +237,7 @@ fn is_allowed(status: &Status, reached: &Reached) -> bool {
         && ROWS.get(status.batches as usize) == Some(&status.rows)
         && are_allowed(status, reached)
         && is_addition_allowed(status, reached)
+        && is_layout_allowed(status, reached)
 }
 
 /// Whether a session is at a warehouse that may be found once so much was acknowledged, and answers and audits as it
@@ -253,9 +272,10 @@ fn last_cuboid(view: u16) -> StoredCuboid {
 /// The status at the end, as a life that is not cut off leaves it.
 pub(crate) fn last_status() -> Status {
     let plain = Status {
+        layout: Layout::Second,
         additions: 1,
         target: 2,
-        generation: 14,
+        generation: 15,
         ..status(3, 4)
     };
     with_cuboids(plain, &VIEWS.map(last_cuboid))

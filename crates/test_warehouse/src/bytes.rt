@@ -63,6 +63,40 @@ fn stored(alloc: Global, batches: u32, place: u32) -> Result<[u8; 512], Fault> {
     sector(&mut disk, place)
 }
 
+/// The third superblock, of the second layout: a catalogue of 176 bytes in sector 9.
+const MOVED_SUPERBLOCK: &[u8] =
+    b"SSBCUBE1\x02\x00\x00\x00\x40\x00\x00\x00\x03\x00\x00\x00\x00\x00\x00\x00\
+\x09\x00\x00\x00\xb0\x00\x00\x00";
+
+/// The two ship modes, in the order of first use.
+const SHIP_MODES: &[u8] = b"SHP2\x02\x00\x00\x00\x03AIR\x04RAIL";
+
+/// A sector, and its bytes without the zeros at the end, after one batch and a move to the second layout.
+static MOVED_SECTORS: [(u32, &[u8]); 3] = [
+    (0, SECOND_SUPERBLOCK),
+    (1, MOVED_SUPERBLOCK),
+    (6, SHIP_MODES),
+];
+
+/// What is in a sector of a disk with one batch of the three sample rows that was moved to the second layout.
+fn moved(alloc: Global, place: u32) -> Result<[u8; 512], Fault> {
+    let mut session = loaded(alloc, 1)?;
+    session.migrate(alloc)?;
+    let mut disk = session.close();
+    sector(&mut disk, place)
+}
+
+#[test]
+fn a_move_puts_the_ship_modes_and_a_superblock(rt: HostRuntime) {
+    for (place, bytes) in &MOVED_SECTORS {
+        assert_eq!(rt;
+            moved(rt.alloc(), *place),
+            Ok(padded(bytes)),
+            "sector {place}"
+        );
+    }
+}
+
 #[test]
 fn superblocks_and_catalogues_are_as_laid_out_by_hand(rt: HostRuntime) {
     for (batches, place, bytes) in &SECTORS {

@@ -1,5 +1,5 @@
-//! Tests of warehouses: the root, creation and opening, runs of commands, plans, a submit and an addition that crash at
-//! each device call, the bytes on the device, images that break a rule, memory that is refused, and warehouses of the
+//! Tests of warehouses: the root, creation and opening, runs of commands, plans, a submit, an addition and a move to the
+//! second layout that crash at each device call, the bytes on the device, images that break a rule, memory that is refused, and warehouses of the
 //! greatest size.
 #![tactic(auto)]
 
@@ -29,6 +29,8 @@ mod many_batches;
 mod many_rows;
 #[cfg(test)]
 mod memory;
+#[cfg(test)]
+mod migrations;
 #[cfg(test)]
 mod planned;
 #[cfg(test)]

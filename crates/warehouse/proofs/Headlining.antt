@@ -10,12 +10,13 @@ use Rattle.object_store.specs.Disk.{ShowsSome}
 use Rattle.object_store.specs.Moments.{begins}
 use Rattle.added_rows.specs.Added.{widened}
 use Rattle.warehouse_objects.specs.Facts.{Change, Facts, IsAdmissibleIn, a_batch, addition_refusal, facts_in, some_rows}
-use Rattle.warehouse_objects.specs.Warehouse.{Warehouse, loaded, with_views}
+use Rattle.warehouse_objects.specs.Facts.{the_layout}
+use Rattle.warehouse_objects.specs.Warehouse.{Warehouse, loaded, migrated, with_views}
 use Rattle.warehouse_objects.specs.Represents.{Represents}
 use Rattle.warehouse_objects.proofs.CallerLemmas.{admissible_in, next_number}
 use Rattle.warehouse.specs.declared.command.Command.{Command}
 use Rattle.warehouse.specs.declared.command.Command.TheVariants.{Submit, Query, Status, Choose, Upkeep, Audit, Add}
-use Rattle.warehouse.specs.declared.command.Command.TheVariants.{Start, Step}
+use Rattle.warehouse.specs.declared.command.Command.TheVariants.{Migrate, Start, Step}
 use Rattle.warehouse.specs.declared.command.Reply.{Reply}
 use Rattle.warehouse.specs.declared.session.Session.{Session}
 use Rattle.warehouse.specs.Found.{MayBeFound, MayRepresent}
@@ -56,6 +57,10 @@ in_command w (Add number more) c during =
     subst (λ (n : ℕ). addition_refusal w.rows w.additions n more ≡ None) (addition_number w number more wider.0)
     wider.0 in
     (widened w more, inr (some_rows more, refl, (admitted, refl)), wider.1)) during
+in_command w Migrate c during =
+    ⊎_elim {C = MayRepresent (facts_in w) (Some the_layout) c}
+    (λ represents. (w, as_it_is w (Some the_layout), represents))
+    (λ moved. (migrated w, inr (the_layout, refl, (moved.0, refl)), moved.1)) during
 in_command w (Start slot as_of query) c represents = (w, as_it_is w None, represents)
 in_command w (Step slot) c represents = (w, as_it_is w None, represents)
 

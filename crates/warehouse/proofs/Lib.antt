@@ -15,9 +15,9 @@ pub mod Cuboids
 mod Pairing
 pub mod Wider
 mod Compared
-mod Rowed
 mod Choices
 pub mod Outcomes
+pub mod Migrated
 pub mod Numbering
 pub mod Performing
 pub mod Whole

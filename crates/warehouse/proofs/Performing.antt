@@ -11,20 +11,22 @@ use Rattle.cube_model.specs.declared.rows.LineOrder.{LineOrder}
 use Rattle.cube_model.specs.Answers.{answer_as_of}
 use Rattle.object_store.specs.Disk.{Leaves}
 use Rattle.added_rows.specs.Added.{widened}
-use Rattle.warehouse_objects.specs.Facts.{Admits, AdmitsRows}
-use Rattle.warehouse_objects.specs.Warehouse.{Warehouse, loaded, with_views}
+use Rattle.warehouse_objects.specs.Facts.{Admits, AdmitsRows, CanMigrate}
+use Rattle.warehouse_objects.specs.Warehouse.{Warehouse, loaded, migrated, with_views}
 use Rattle.warehouse_objects.specs.Represents.{Represents}
 use Rattle.cuboid_commits.specs.Keeping.{IsKeptUp}
 use Rattle.cuboid_commits.specs.Upkeep.{AreWhole}
 use Rattle.warehouse.specs.declared.chosen.Chosen.{Chosen}
 use Rattle.warehouse.specs.declared.command.Command.{Command}
 use Rattle.warehouse.specs.declared.command.Command.TheVariants.{Submit, Query, Status, Choose, Upkeep, Audit, Add}
+use Rattle.warehouse.specs.declared.command.Command.TheVariants.{Migrate}
 use Rattle.warehouse.specs.declared.command.Reply.{Reply}
 use Rattle.warehouse.specs.declared.command.Reply.TheVariants.{Done, Answer, Numbers, Audited, Refused}
 use Rattle.warehouse.specs.declared.command.Reply.TheVariants as replies
 use Rattle.warehouse.specs.declared.session.Session.{Session}
 use Rattle.warehouse.specs.declared.status.Status as statuses
 use Rattle.warehouse.specs.Choosing.{ChooseRefuses, IsChoice, views_of}
+use Rattle.warehouse.specs.Migrating.{MigrateRefuses, MigratedOrNot, MovesOnce}
 use Rattle.warehouse.specs.Session.{IsAt, content_of, disk_of, has_failed, AddRefuses, CommitsOnce, KeepsContent}
 use Rattle.warehouse.specs.Session.{SubmitRefuses, IsAsked, QueryRefuses}
 use Rattle.warehouse.specs.Status.{IsStatus}
@@ -98,6 +100,20 @@ module _ {D : Type 0} (g : Ghosts D) (w : Warehouse) (slots : Slots) (old new : 
       subst (λ (r : DimRows). Does g old w slots (Add number r) (Refused fault) new) same
       (refused_at (Add number rows) (λ f. AddRefuses g old w number rows f × KeepsContent g old new) fault
       (λ reply after r. inr r) failed causes leaves)
+
+  abbrev MigrateLeaves : Type 0
+  MigrateLeaves = Leaves (disk_of g old) (disk_of g new) (MigratedOrNot w)
+
+  pub migrate_done : CanMigrate w → MovesOnce g w old new → IsAt g new (migrated w) → MigrateLeaves
+      → Does g old w slots Migrate Done new
+  migrate_done can once now leaves = (amid (migrated w) slots, (inl (refl, (can, once), refl), leaves, now), now)
+
+  pub migrate_refused : (fault : Fault) → (fault ≡ Device → has_failed new ≡ true)
+      → ((fault ≡ Device → ⊥) → (MigrateRefuses g old w fault × KeepsContent g old new) × IsAt g new w)
+      → MigrateLeaves → Does g old w slots Migrate (Refused fault) new
+  migrate_refused fault failed causes leaves =
+      refused_at Migrate (λ f. MigrateRefuses g old w f × KeepsContent g old new) fault (λ reply after r. inr r) failed
+      causes leaves
 
   pub query_done : (as_of : ℕ) (query : queries.Query) (found : answers.Answer)
       → IsAsked w as_of query × (found ≡ answer_as_of query as_of w.rows w.batches) → KeepsContent g old new

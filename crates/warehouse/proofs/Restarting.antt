@@ -19,7 +19,7 @@ use Rattle.warehouse_objects.specs.Lawful.{ContentIsOneWarehouse}
 use Rattle.warehouse.specs.declared.command.Command.{Command}
 use Rattle.warehouse.specs.declared.command.Reply.{Reply}
 use Rattle.warehouse.specs.declared.command.Command.TheVariants.{Submit, Query, Status, Choose, Upkeep, Audit, Add}
-use Rattle.warehouse.specs.declared.command.Command.TheVariants.{Start, Step}
+use Rattle.warehouse.specs.declared.command.Command.TheVariants.{Migrate, Start, Step}
 use Rattle.warehouse.specs.declared.command.Reply.TheVariants.{Done, More, Answer, Numbers, Chosen, Audited, Refused}
 use Rattle.warehouse.specs.Found.{MayBeFound}
 use Rattle.warehouse.specs.Headline.{FewerIsNotFound, IsRestarted, RestartedShows, CrashedCreateIsFound}
@@ -98,6 +98,13 @@ no_fewer facts (Add number more) (Numbers numbers) = just_as_many facts
 no_fewer facts (Add number more) (Chosen chosen) = just_as_many facts
 no_fewer facts (Add number more) (Audited said) = just_as_many facts
 no_fewer facts (Add number more) (Refused fault) = just_as_many facts
+no_fewer facts Migrate Done = in_another_layout facts
+no_fewer facts Migrate More = just_as_many facts
+no_fewer facts Migrate (Answer found) = just_as_many facts
+no_fewer facts Migrate (Numbers numbers) = just_as_many facts
+no_fewer facts Migrate (Chosen chosen) = just_as_many facts
+no_fewer facts Migrate (Audited said) = just_as_many facts
+no_fewer facts Migrate (Refused fault) = just_as_many facts
 no_fewer facts (Query as_of query) reply = just_as_many facts
 no_fewer facts Status reply = just_as_many facts
 no_fewer facts (Choose k) reply = just_as_many facts

@@ -15,7 +15,7 @@ use Rattle.warehouse_objects.specs.Represents.{Represents}
 use Rattle.warehouse_objects.specs.Warehouse.{Warehouse}
 use Rattle.warehouse.specs.declared.command.Command.{Command}
 use Rattle.warehouse.specs.declared.command.Command.TheVariants.{Submit, Query, Status, Choose, Upkeep, Audit, Add}
-use Rattle.warehouse.specs.declared.command.Command.TheVariants.{Start, Step}
+use Rattle.warehouse.specs.declared.command.Command.TheVariants.{Migrate, Start, Step}
 use Rattle.warehouse.specs.declared.command.Reply.{Reply}
 use Rattle.warehouse.specs.declared.command.Reply.TheVariants.{Done, More, Answer, Numbers, Chosen, Audited, Refused}
 use Rattle.warehouse.specs.declared.session.Session.{Session}
@@ -122,6 +122,13 @@ only_more facts (Add number more) (Numbers numbers) = ([], sym (append-nil facts
 only_more facts (Add number more) (Chosen chosen) = ([], sym (append-nil facts.batches))
 only_more facts (Add number more) (Audited said) = ([], sym (append-nil facts.batches))
 only_more facts (Add number more) (Refused fault) = ([], sym (append-nil facts.batches))
+only_more facts Migrate Done = ([], sym (append-nil facts.batches))
+only_more facts Migrate More = ([], sym (append-nil facts.batches))
+only_more facts Migrate (Answer found) = ([], sym (append-nil facts.batches))
+only_more facts Migrate (Numbers numbers) = ([], sym (append-nil facts.batches))
+only_more facts Migrate (Chosen chosen) = ([], sym (append-nil facts.batches))
+only_more facts Migrate (Audited said) = ([], sym (append-nil facts.batches))
+only_more facts Migrate (Refused fault) = ([], sym (append-nil facts.batches))
 only_more facts (Query as_of query) reply = ([], sym (append-nil facts.batches))
 only_more facts Status reply = ([], sym (append-nil facts.batches))
 only_more facts (Choose k) reply = ([], sym (append-nil facts.batches))

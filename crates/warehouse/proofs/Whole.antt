@@ -9,15 +9,16 @@ use Rattle.cube_model.specs.declared.fault.Fault.TheVariants.{Memory}
 use Rattle.planned_queries.specs.Stepping.{Started, stepped}
 use Rattle.added_rows.specs.Added.{widened}
 use Rattle.warehouse_objects.specs.Facts.{facts_in}
-use Rattle.warehouse_objects.specs.Warehouse.{Warehouse, loaded, with_views}
+use Rattle.warehouse_objects.specs.Warehouse.{Warehouse, loaded, migrated, with_views}
 use Rattle.warehouse_objects.specs.Represents.{Represents}
 use Rattle.warehouse.specs.declared.command.Command.{Command}
 use Rattle.warehouse.specs.declared.command.Command.TheVariants.{Submit, Query, Status, Choose, Upkeep, Audit, Add}
-use Rattle.warehouse.specs.declared.command.Command.TheVariants.{Start, Step}
+use Rattle.warehouse.specs.declared.command.Command.TheVariants.{Migrate, Start, Step}
 use Rattle.warehouse.specs.declared.command.Reply.{Reply}
 use Rattle.warehouse.specs.declared.command.Reply.TheVariants.{Done, More, Answer, Numbers, Chosen, Audited, Refused}
 use Rattle.warehouse.specs.declared.session.Session.{Session}
 use Rattle.warehouse.specs.Choosing.{ChooseRefuses, views_of}
+use Rattle.warehouse.specs.Migrating.{MigrateRefuses}
 use Rattle.warehouse.specs.Session.{disk_of, AddRefuses, KeepsContent, SubmitRefuses, QueryRefuses}
 use Rattle.warehouse.specs.Running.{Phase, Slots, amid, broken, Becomes, RanAll, Refuses, Replies, StepReplies, During}
 use Rattle.warehouse.specs.Running.{acknowledged, FoundIn}
@@ -117,6 +118,17 @@ phase_is g old new w slots (Add number more) reply after is =
     ))
     (refused_is w slots (λ fault. AddRefuses g old w number more fault × KeepsContent g old new) (Add number more) reply
     after (λ fault. refl) refl) is
+phase_is g old new w slots Migrate reply after is =
+    ⊎_elim {C = Ends w slots Migrate reply after}
+    (λ done. inl (
+      migrated w,
+      slots,
+      done.2,
+      subst (λ (r : Reply). Becomes w Migrate r (migrated w)) (sym done.0) refl,
+      refl,
+    ))
+    (refused_is w slots (λ fault. MigrateRefuses g old w fault × KeepsContent g old new) Migrate reply after
+    (λ fault. refl) refl) is
 phase_is g old new w slots (Start slot as_of query) reply after is =
     ⊎_elim {C = Ends w slots (Start slot as_of query) reply after}
     (λ none. inl (w, slots, none.2, refl, tt))
@@ -145,6 +157,13 @@ same_facts w (Add number more) (Numbers numbers) v is = ap facts_in is
 same_facts w (Add number more) (Chosen chosen) v is = ap facts_in is
 same_facts w (Add number more) (Audited said) v is = ap facts_in is
 same_facts w (Add number more) (Refused fault) v is = ap facts_in is
+same_facts w Migrate Done v is = ap facts_in is
+same_facts w Migrate More v is = ap facts_in is
+same_facts w Migrate (Answer found) v is = ap facts_in is
+same_facts w Migrate (Numbers numbers) v is = ap facts_in is
+same_facts w Migrate (Chosen chosen) v is = ap facts_in is
+same_facts w Migrate (Audited said) v is = ap facts_in is
+same_facts w Migrate (Refused fault) v is = ap facts_in is
 same_facts w (Query as_of query) reply v is = ap facts_in is
 same_facts w Status reply v is = ap facts_in is
 same_facts w (Choose k) Done v is = ap facts_in is

@@ -8,7 +8,7 @@ use Rattle.cube_model.specs.declared.rows.DimRows.{DimRows}
 use Rattle.object_store.specs.Content.{Content}
 use Rattle.object_store.specs.Disk.{disk, AllShow, Each, IsBlank, Leaves, LeavesOrNone}
 use Rattle.object_store.specs.Shows.{Shows}
-use Rattle.warehouse_objects.specs.Facts.{Change, Facts, a_batch, facts_in, some_rows}
+use Rattle.warehouse_objects.specs.Facts.{Change, Facts, a_batch, facts_in, some_rows, the_layout}
 use Rattle.warehouse_objects.specs.Warehouse.{Warehouse, fresh}
 use Rattle.warehouse_objects.specs.Represents.{Represents}
 use Rattle.warehouse.specs.declared.command.Command.{Command}
@@ -30,6 +30,7 @@ acknowledged_all facts (command ∷ commands) (reply ∷ replies) =
 abbrev pub submitted : Option Command → Option Change
 submitted (Some (asks.Submit number batch)) = Some (a_batch batch)
 submitted (Some (asks.Add number more)) = Some (some_rows more)
+submitted (Some asks.Migrate) = Some the_layout
 submitted _ = None
 
 -- a device that was restarted where a crash left an image: it has that image alone
@@ -38,8 +39,8 @@ pub record IsRestarted {D : Type 0} (g : Ghosts D) (size : ℕ) (image : Image) 
   pub one : (other : Image) → IsImage (g.state device) other → (i : ℕ) → other i ≡ image i
 
 -- What is found after a run that crashed after some of its commands, in the next one: a prefix of the changes that were
--- submitted, each a batch or rows for the dimensions, with every acknowledged one. The restarted device has it,
--- whatever is left there.
+-- submitted, each a batch, rows for the dimensions or the second layout, with every acknowledged one. The restarted
+-- device has it, whatever is left there.
 pub record IsFoundAfter {D : Type 0} (g : Ghosts D) (w : Warehouse) (commands : List Command) (replies : List Reply)
     (device : D) : Type 0 where
   pub done : ℕ

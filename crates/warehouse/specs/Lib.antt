@@ -12,6 +12,7 @@ pub mod Beginning
 pub mod Creating
 pub mod Choosing
 pub mod Upkeep
+pub mod Migrating
 pub mod Running
 pub mod Headline
 pub mod Room

@@ -11,8 +11,8 @@ use Rattle.cube_model.specs.Answers.{answer_as_of}
 use Rattle.object_store.specs.Content.{Content}
 use Rattle.object_store.specs.Disk.{Leaves}
 use Rattle.added_rows.specs.Added.{widened}
-use Rattle.warehouse_objects.specs.Facts.{Admits, AdmitsRows, Facts, with_next, with_rows}
-use Rattle.warehouse_objects.specs.Warehouse.{Warehouse, loaded, with_views}
+use Rattle.warehouse_objects.specs.Facts.{Admits, AdmitsRows, CanMigrate, Facts, in_second, with_next, with_rows}
+use Rattle.warehouse_objects.specs.Warehouse.{Warehouse, loaded, migrated, with_views}
 use Rattle.warehouse_objects.specs.Represents.{Represents}
 use Rattle.cuboid_commits.specs.Keeping.{IsKeptUp}
 use Rattle.cuboid_commits.specs.Upkeep.{AreWhole}
@@ -25,6 +25,7 @@ use Rattle.warehouse.specs.declared.command.Reply.TheVariants as says
 use Rattle.warehouse.specs.declared.session.Session.{Session}
 use Rattle.warehouse.specs.declared.status.Status.{Status}
 use Rattle.warehouse.specs.Choosing.{ChooseRefuses, IsChoice, views_of}
+use Rattle.warehouse.specs.Migrating.{MigrateRefuses, MigratedOrNot, MovesOnce}
 use Rattle.warehouse.specs.Session.{IsAt, content_of, disk_of, has_failed, CommitsOnce, KeepsContent, AddRefuses}
 use Rattle.warehouse.specs.Session.{SubmitRefuses, IsAsked, QueryRefuses}
 use Rattle.warehouse.specs.Status.{IsStatus}
@@ -91,7 +92,7 @@ StepReplies g old w slots slot (Some s) reply new after =
     ⊎ Refuses (λ fault. (fault ≡ Memory) × KeepsContent g old new) (amid w slots) reply after)
 
 -- The reply to a command, with the session then, and the phase after it. A batch is one commit, an addition of
--- dimension rows one, a choice of cuboids one; nothing else but upkeep commits.
+-- dimension rows one, a choice of cuboids one, and the move from the first layout one; nothing else but upkeep commits.
 abbrev pub Replies : {D : Type 0} (g : Ghosts D) → Session D g → Warehouse → Slots → Command → Reply → Session D g
     → Phase → Type 0
 Replies g old w slots (asks.Submit number batch) reply new after =
@@ -119,6 +120,9 @@ Replies g old w slots asks.Audit reply new after =
 Replies g old w slots (asks.Add number more) reply new after =
     Says says.Done (AdmitsRows w number more × CommitsOnce g old new) (amid (widened w more) slots) reply after
     ⊎ Refuses (λ fault. AddRefuses g old w number more fault × KeepsContent g old new) (amid w slots) reply after
+Replies g old w slots asks.Migrate reply new after =
+    Says says.Done (CanMigrate w × MovesOnce g w old new) (amid (migrated w) slots) reply after
+    ⊎ Refuses (λ fault. MigrateRefuses g old w fault × KeepsContent g old new) (amid w slots) reply after
 Replies g old w slots (asks.Start slot as_of query) reply new after =
     StartReplies g old w slots slot as_of query reply new after
 Replies g old w slots (asks.Step slot) reply new after =
@@ -134,6 +138,7 @@ During w (asks.Choose k) c = Represents c w
 During w asks.Upkeep c = (v : Warehouse) × IsKeptUp w v × Represents c v
 During w asks.Audit c = Represents c w
 During w (asks.Add number more) c = Represents c w ⊎ (AdmitsRows w number more × Represents c (widened w more))
+During w asks.Migrate c = MigratedOrNot w c
 During w (asks.Start slot as_of query) c = Represents c w
 During w (asks.Step slot) c = Represents c w
 
@@ -170,10 +175,16 @@ abbrev pub acknowledged_rows : Facts → DimRows → Reply → Facts
 acknowledged_rows facts more says.Done = with_rows facts more
 acknowledged_rows facts more _ = facts
 
+-- the same after a move to the second layout
+abbrev pub acknowledged_layout : Facts → Reply → Facts
+acknowledged_layout facts says.Done = in_second facts
+acknowledged_layout facts _ = facts
+
 -- and after any command
 abbrev pub acknowledged : Facts → Command → Reply → Facts
 acknowledged facts (asks.Submit number batch) reply = acknowledged_by facts batch reply
 acknowledged facts (asks.Add number more) reply = acknowledged_rows facts more reply
+acknowledged facts asks.Migrate reply = acknowledged_layout facts reply
 acknowledged facts _ reply = facts
 
 -- what a submit makes of the warehouse
@@ -186,6 +197,11 @@ abbrev pub BecomesWidened : Warehouse → DimRows → Reply → Warehouse → Ty
 BecomesWidened w more says.Done v = v ≡ widened w more
 BecomesWidened w more _ v = v ≡ w
 
+-- what a move to the second layout makes of it
+abbrev pub BecomesMigrated : Warehouse → Reply → Warehouse → Type 0
+BecomesMigrated w says.Done v = v ≡ migrated w
+BecomesMigrated w _ v = v ≡ w
+
 -- what a choice makes of it
 abbrev pub BecomesChosen : Warehouse → Reply → Warehouse → Type 0
 BecomesChosen w (says.Chosen chosen) v = v ≡ with_views w (views_of chosen)
@@ -195,6 +211,7 @@ BecomesChosen w _ v = v ≡ w
 abbrev pub Becomes : Warehouse → Command → Reply → Warehouse → Type 0
 Becomes w (asks.Submit number batch) reply v = BecomesLoaded w batch reply v
 Becomes w (asks.Add number more) reply v = BecomesWidened w more reply v
+Becomes w asks.Migrate reply v = BecomesMigrated w reply v
 Becomes w (asks.Choose k) reply v = BecomesChosen w reply v
 Becomes w asks.Upkeep reply v = IsKeptUp w v
 Becomes w _ reply v = v ≡ w

@@ -21,6 +21,8 @@ pub enum Command {
     Audit,
     /// Adds rows to the dimensions under a number.
     Add(u32, NewRows),
+    /// Moves the warehouse to the second layout.
+    Migrate,
     /// Starts a query in a slot from 0 to 15, over the first batches of then, so many of them. What ran there is
     /// dropped.
     Start(u8, u32, Query),
@@ -31,7 +33,8 @@ pub enum Command {
 /// The reply to a command.
 #[derive(Debug, PartialEq, Drop)]
 pub enum Reply {
-    /// The batch or the rows were added, the query was started, or each stored cuboid holds all batches.
+    /// The batch or the rows were added, the query was started, each stored cuboid holds all batches, or the warehouse
+    /// is in the second layout.
     Done,
     /// A batch was counted in, and the query runs on.
     More,

@@ -12,6 +12,7 @@ mod creation;
 mod finishing;
 mod growing;
 pub mod laws;
+mod migration;
 mod new_rows;
 mod opening;
 mod planning;

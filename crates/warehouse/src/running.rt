@@ -83,6 +83,7 @@ fn perform<D: Sectors>(
         Command::Upkeep => keep_up(alloc, session),
         Command::Audit => audit(alloc, session),
         Command::Add(number, rows) => add(alloc, session, *number, rows),
+        Command::Migrate => migrate(alloc, session),
         Command::Start(slot, as_of, query) => start(alloc, session, slots, *slot, *as_of, query),
         Command::Step(slot) => step(alloc, session, slots, *slot),
     }
@@ -177,6 +178,18 @@ fn add<D: Sectors>(alloc: Global, session: &mut Session<D>, number: u32, rows: &
         → Does D.Sectors session.old w started (asks.Add number rows.now) result session.new }
 {
     match session.add(alloc, number, rows.rows()) {
+        Ok(()) => Reply::Done,
+        Err(fault) => Reply::Refused(fault),
+    }
+}
+
+// Moves the warehouse to the second layout.
+fn migrate<D: Sectors>(alloc: Global, session: &mut Session<D>) -> Reply
+    ensures word { D.keeps_word (device_of session.new) → D.keeps_word (device_of session.old) }
+    ensures ran { (w : Warehouse) (started : Slots) → IsAt D.Sectors session.old w
+        → D.keeps_word (device_of session.new) → Does D.Sectors session.old w started asks.Migrate result session.new }
+{
+    match session.migrate(alloc) {
         Ok(()) => Reply::Done,
         Err(fault) => Reply::Refused(fault),
     }

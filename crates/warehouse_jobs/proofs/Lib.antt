@@ -9,6 +9,7 @@ pub mod Performed
 pub mod Added
 mod Additions
 mod Cuboids
+mod Migrations
 mod Written
 mod PlanLines
 mod Explained

@@ -9,6 +9,7 @@ use Rattle.warehouse.specs.declared.chosen.Chosen.{Chosen}
 use Rattle.warehouse.specs.declared.session.Session.{Session}
 use Rattle.warehouse_jobs.specs.Cuboids.{KeepsUp, StoresChoice}
 use Rattle.warehouse_jobs.specs.Loading.{Loads}
+use Rattle.warehouse_jobs.specs.Migrating.{Migrates}
 use Rattle.warehouse_jobs.specs.Reporting.{Reports, Tells}
 
 abbrev pub Says : Result Unit Fault → Result Bool Fault → Type 0
@@ -68,3 +69,8 @@ module _ {D : Type 0} (g : Ghosts D) (w : Warehouse) (old new : Session D g) (be
       → KeepsUp g w old new before after done → KeepsUp g w old new before after result
   yes-keeps (Ok wrote) result is keeps = rw is (record { ends = keeps.ends; leaves = keeps.leaves })
   yes-keeps (Err fault) result is keeps = rw is (record { ends = keeps.ends; leaves = keeps.leaves })
+
+  pub yes-migrates : (done : Result Unit Fault) (result : Result Bool Fault) → Says done result
+      → Migrates g w old new before after done → Migrates g w old new before after result
+  yes-migrates (Ok wrote) result is moves = rw is (record { ends = moves.ends; leaves = moves.leaves })
+  yes-migrates (Err fault) result is moves = rw is (record { ends = moves.ends; leaves = moves.leaves })

@@ -6,8 +6,10 @@ use Rattle.warehouse_objects.specs.Warehouse.{Warehouse}
 use Rattle.warehouse.specs.declared.session.Session.{Session}
 use Rattle.warehouse_jobs.specs.declared.job.Job.{Job}
 use Rattle.warehouse_jobs.specs.declared.job.Job.TheVariants.{Load, Report, Status, Choose, ChooseFor, Upkeep, Audit}
+use Rattle.warehouse_jobs.specs.declared.job.Job.TheVariants.{Migrate}
 use Rattle.warehouse_jobs.specs.Cuboids.{Audits, Chooses, ChoosesFor, KeepsUp}
 use Rattle.warehouse_jobs.specs.Loading.{Loads}
+use Rattle.warehouse_jobs.specs.Migrating.{Migrates}
 use Rattle.warehouse_jobs.specs.Reporting.{Reports, Tells}
 
 -- what a job on a warehouse does. What its reader holds is a text, or it is not known
@@ -21,6 +23,7 @@ Performs g w text (ChooseFor k demanded) old new before after result =
     ChoosesFor g w demanded.items k old new before after result
 Performs g w text Upkeep old new before after result = KeepsUp g w old new before after result
 Performs g w text Audit old new before after result = Audits g w old new before after result
+Performs g w text Migrate old new before after result = Migrates g w old new before after result
 
 -- a job whose answer may be no
 abbrev pub MayAnswerNo : Job → Type 0

@@ -9,5 +9,6 @@ pub mod Explaining
 pub mod Checking
 pub mod Adding
 pub mod Cuboids
+pub mod Migrating
 pub mod Jobs
 pub mod Lawful

@@ -73,6 +73,10 @@ choice_text chosen = flat_map chosen_line chosen
 abbrev pub upkeep_text : List ℕ
 upkeep_text = codes "upkeep done\n"
 
+-- a warehouse is in the second layout
+abbrev pub second_layout_text : List ℕ
+second_layout_text = codes "layout 2\n"
+
 abbrev pub audit_text : Bool → List ℕ
 audit_text true = codes "audit yes\n"
 audit_text false = codes "audit no\n"

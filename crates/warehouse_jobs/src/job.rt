@@ -107,4 +107,6 @@ pub enum Job {
     Upkeep,
     /// Says whether each stored cuboid is the grouping of the batches up to its mark.
     Audit,
+    /// Moves the warehouse to the second layout.
+    Migrate,
 }

@@ -1,6 +1,6 @@
 //! What is done to an open warehouse: a file is loaded, rows are added to the dimensions, a query is reported or its
 //! plans are written, the numbers are written, and cuboids are chosen, kept up to date and audited; all that is stored
-//! is checked.
+//! is checked, and the warehouse is moved to the second layout.
 #![tactic(auto)]
 
 mod adding;
@@ -12,6 +12,7 @@ mod job;
 mod keeping;
 pub mod laws;
 mod loading;
+mod migrating;
 mod partial;
 mod performing;
 mod plan_lines;

@@ -13,6 +13,7 @@ use crate::choosing::{choose, choose_for};
 use crate::job::Job;
 use crate::keeping::{audit, keep_up};
 use crate::loading::load_from;
+use crate::migrating::migrate;
 use crate::reporting::report;
 use crate::telling::tell;
 use cube_model::Fault;
@@ -32,7 +33,7 @@ use warehouse::Session;
 /// A report is written as `ssb_reports` does. A status is a line each of `batches`, `rows`, `target` and `generation`,
 /// and then one for each stored cuboid, `cuboid 59 mark 1 runs 1 cells 2`. A choice is a line for each view, in the
 /// order of choice, `view 59 city|ALL|mfgr|ALL benefit 8`. Upkeep writes `upkeep done`, an audit `audit yes` or `audit
-/// no`.
+/// no`, a move to the second layout `layout 2`.
 pub fn perform<D: Sectors, R: Read + Drop, W: Write>(
     alloc: Global,
     session: &mut Session<D>,
@@ -96,6 +97,7 @@ fn do_job<D: Sectors, R: Read + Drop, W: Write>(
         }
         Job::Upkeep => yes(keep_up(alloc, session, out)),
         Job::Audit => audit(alloc, session, out),
+        Job::Migrate => yes(migrate(alloc, session, out)),
     }
 }
 

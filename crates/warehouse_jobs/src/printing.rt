@@ -6,7 +6,7 @@ ghost use Rattle.ssb_reports.specs.Writing.{Writes};
 ghost use Rattle.warehouse_jobs.specs.declared.taken.Taken.TheVariants.{Added, Skipped};
 ghost use Rattle.warehouse_jobs.specs.Printed.{addition_text, audit_text, batch_line, choice_text, chosen_line};
 ghost use Rattle.warehouse_jobs.specs.Printed.{count_line, counts_text, cuboid_line, named_line, place_text};
-ghost use Rattle.warehouse_jobs.specs.Printed.{status_text, upkeep_text};
+ghost use Rattle.warehouse_jobs.specs.Printed.{second_layout_text, status_text, upkeep_text};
 
 use crate::taken::Taken;
 use cube_model::{Axis, Fault};
@@ -242,6 +242,14 @@ pub(crate) fn write_upkeep<W: Write>(out: &mut W) -> Result<(), Fault>
     ensures { Writes (W.contents out.old) (W.contents out.new) result upkeep_text }
 {
     write_bytes(out, b"upkeep done\n")?;
+    flush(out)
+}
+
+/// Writes that a warehouse is in the second layout, and flushes it.
+pub(crate) fn write_second_layout<W: Write>(out: &mut W) -> Result<(), Fault>
+    ensures { Writes (W.contents out.old) (W.contents out.new) result second_layout_text }
+{
+    write_bytes(out, b"layout 2\n")?;
     flush(out)
 }
 

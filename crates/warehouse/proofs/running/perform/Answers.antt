@@ -1,6 +1,7 @@
 use Rattle.std.proofs.Common.{sym, subst}
 use Rattle.warehouse.specs.declared.command.Command.{Command}
 use Rattle.warehouse.specs.declared.command.Command.TheVariants.{Submit, Query, Status, Choose, Upkeep, Audit, Add}
+use Rattle.warehouse.specs.declared.command.Command.TheVariants.{Migrate}
 use Rattle.warehouse.specs.Slots.{DoesWith}
 use Rattle.warehouse.proofs.Slotting.{with_slots}
 use Rattle.warehouse.proofs.running.perform.Goals as goal
@@ -53,6 +54,13 @@ returns-in-Add-clause-ran g c w slots at are of k =
     c.args.slots.now.queries.items) (sym c.in-Add.is)
     (with_slots g.D.Sectors c.args.session.now c.add.new.session w slots (Add c.in-Add.number c.in-Add.rows)
     c.add.result c.args.slots.now.queries.items (λ next same. same) are of (c.add.ensures.ran w slots at k))
+
+pub returns-in-Migrate-clause-ran : goal.returns-in-Migrate-clause-ran
+returns-in-Migrate-clause-ran g c w slots at are of k =
+    subst (λ (command : Command). DoesWith g.D.Sectors c.args.session.now w slots command c.migrate.result
+    c.migrate.new.session c.args.slots.now.queries.items) (sym c.in-Migrate.is)
+    (with_slots g.D.Sectors c.args.session.now c.migrate.new.session w slots Migrate c.migrate.result
+    c.args.slots.now.queries.items (λ next same. same) are of (c.migrate.ensures.ran w slots at k))
 
 pub returns-in-Start-clause-ran : goal.returns-in-Start-clause-ran
 returns-in-Start-clause-ran g c w slots at are of k =

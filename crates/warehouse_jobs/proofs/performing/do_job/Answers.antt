@@ -2,7 +2,7 @@ use Rattle.std.proofs.Common.{List, subst}
 use Rattle.lattice.specs.declared.view.View.{View}
 use Rattle.warehouse.specs.Choosing.{ChooseForRefuses, ChooseRefuses, IsChoice, IsChoiceFor}
 use Rattle.warehouse_jobs.specs.Cuboids.{ChoosesFor}
-use Rattle.warehouse_jobs.proofs.Performed.{yes-chooses, yes-keeps, yes-loads, yes-reports, yes-tells}
+use Rattle.warehouse_jobs.proofs.Performed.{yes-chooses, yes-keeps, yes-loads, yes-migrates, yes-reports, yes-tells}
 use Rattle.warehouse_jobs.proofs.performing.do_job.Goals as goal
 
 pub returns-in-Load-clause-performs : goal.returns-in-Load-clause-performs
@@ -56,3 +56,10 @@ returns-in-Upkeep-clause-performs g c w at k =
 
 pub returns-in-Audit-clause-performs : goal.returns-in-Audit-clause-performs
 returns-in-Audit-clause-performs g c w at k = rw c.in-Audit.is (c.audit.ensures.audits w at k)
+
+pub returns-in-Migrate-clause-performs : goal.returns-in-Migrate-clause-performs
+returns-in-Migrate-clause-performs g c w at k =
+    rw c.in-Migrate.is
+    (yes-migrates g.D.Sectors w c.args.session.now c.migrate.new.session (g.W.Write.contents c.args.out.now)
+    (g.W.Write.contents c.migrate.new.out) c.migrate.result c.yes-in-Migrate.result c.yes-in-Migrate.ensures
+    (c.migrate.ensures.migrates w at k))

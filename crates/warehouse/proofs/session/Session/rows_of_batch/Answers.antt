@@ -1,7 +1,7 @@
 use Rattle.std.proofs.Common.{Err, ap, sym}
 use Rattle.cube_model.specs.declared.fault.Fault.{Fault}
 use Rattle.object_store.specs.Store as stores
-use Rattle.warehouse.proofs.Rowed.{only_memory}
+use Rattle.batch_rows.proofs.CallerLemmas.{only_memory}
 use Rattle.warehouse.proofs.Represented.{content_leaves, session_at, still_at, store_at}
 use Rattle.warehouse.proofs.session.Session.rows_of_batch.Goals as goal
 

@@ -1,0 +1,26 @@
+//! Moving a warehouse to the second layout.
+ghost use Rattle.std.specs.Prelude.{◌≡◌};
+ghost use Rattle.warehouse_objects.specs.Warehouse.{Warehouse};
+ghost use Rattle.warehouse.specs.Session.{device_of, IsAt};
+ghost use Rattle.warehouse_jobs.specs.Migrating.{Migrates};
+
+use crate::printing::write_second_layout;
+use cube_model::Fault;
+use sector_device::Sectors;
+use std::alloc::Global;
+use std::io::Write;
+use warehouse::Session;
+
+/// Moves the warehouse to the second layout, and writes that it is there.
+pub(crate) fn migrate<D: Sectors, W: Write>(
+    alloc: Global,
+    session: &mut Session<D>,
+    out: &mut W,
+) -> Result<(), Fault>
+    ensures migrates { (w : Warehouse) → IsAt D.Sectors session.old w → D.keeps_word (device_of session.new)
+        → Migrates D.Sectors w session.old session.new (W.contents out.old) (W.contents out.new) result }
+    ensures word { D.keeps_word (device_of session.new) → D.keeps_word (device_of session.old) }
+{
+    session.migrate(alloc)?;
+    write_second_layout(out)
+}
