@@ -1,4 +1,5 @@
 pub mod CallerLemmas
 mod Firsts
+mod Fitting
 mod OneBatchMore
 mod Rows

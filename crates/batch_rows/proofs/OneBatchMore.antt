@@ -58,7 +58,7 @@ place_at done (first ∷ batches) (suc before) row batch here some within =
     ∙ ap (λ (n : ℕ). InStoredBatch n row) number
 
 -- what a layout with ship modes is refused for, by the first place of each kind
-abbrev cause_at : List (List LineOrder) → Option ℕ → Option ℕ → Option Fault
+abbrev pub cause_at : List (List LineOrder) → Option ℕ → Option ℕ → Option Fault
 cause_at batches reserved crowded = first_cause (
     option_map (λ place. ReservedMember (place_after 0 batches (place + 1))) reserved
     ∷ option_map (λ place. TooManyMembers (place_after 0 batches (place + 1))) crowded ∷ [])

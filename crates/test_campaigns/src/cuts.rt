@@ -174,8 +174,8 @@ fn cut_each_call(
     Ok(outcome)
 }
 
-/// The least number of device calls of a life: 11 of the creation, 5 of each batch and of the addition, 4 of the choice,
-/// 22 of each upkeep, and 7 of the move, which reads two batches. Those of the queries are more.
+/// The least number of device calls of a life: 11 of the creation, 5 of each batch and of the addition, 4 of the
+/// choice, 22 of each upkeep, and 7 of the move, which reads two batches. Those of the queries are more.
 const LEAST_CALLS: u64 = 86;
 
 fn outcome_of_way(alloc: Global, way: &(Failing, After)) -> Result<Outcome, Fault> {

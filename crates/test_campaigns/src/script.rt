@@ -220,8 +220,8 @@ fn is_addition_allowed(status: &Status, reached: &Reached) -> bool {
     }
 }
 
-/// Whether the layout may be this one: the second if the move was acknowledged or the third batch is there, and the first
-/// before the cuboids hold the second.
+/// Whether the layout may be this one: the second if the move was acknowledged or the third batch is there, and the
+/// first before the cuboids hold the second.
 fn is_layout_allowed(status: &Status, reached: &Reached) -> bool {
     match status.layout {
         Layout::First => !reached.moved && status.batches < 3,

@@ -8,8 +8,8 @@ use sector_device::{Fuse, MemDisk};
 use std::alloc::Global;
 use warehouse::{Layout, Session, Status};
 
-/// The submit of a second batch, the addition of a customer, or the move to the second layout, which have as many writes
-/// and syncs: the segment, the customers or the ship modes, the catalogue, a sync, the superblock, a sync.
+/// The submit of a second batch, the addition of a customer, or the move to the second layout, which have as many
+/// writes and syncs: the segment, the customers or the ship modes, the catalogue, a sync, the superblock, a sync.
 #[derive(Clone, Copy)]
 enum Call {
     Submit,

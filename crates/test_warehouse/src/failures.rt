@@ -18,16 +18,17 @@ fn unsynced(alloc: Global, all: bool) -> Result<Session<Fuse<MemDisk>>, Fault> {
     }
 }
 
-/// How a session refuses two submits, a query and the question for its status, if it does.
-fn refused_by(alloc: Global, session: &mut Session<Fuse<MemDisk>>) -> [Option<Fault>; 4] {
+/// How a session refuses two submits, a query, a move and the question for its status, if it does.
+fn refused_by(alloc: Global, session: &mut Session<Fuse<MemDisk>>) -> [Option<Fault>; 5] {
     let second = submit(alloc, session, 2, &FACTS).err();
     let third = submit(alloc, session, 3, &FACTS).err();
     let answer = report(alloc, session, 1, QNumber::Q11).err();
-    [second, third, answer, session.status().err()]
+    let moved = session.migrate(alloc).err();
+    [second, third, answer, moved, session.status().err()]
 }
 
 /// How a session refuses later calls, whether it is broken, and how often its device failed, asked of both.
-type Seen = ([Option<Fault>; 4], bool, (u64, u64));
+type Seen = ([Option<Fault>; 5], bool, (u64, u64));
 
 /// What is expected of a session that met a failure.
 fn seen_later(alloc: Global) -> Result<Seen, Fault> {
@@ -42,7 +43,7 @@ fn seen_later(alloc: Global) -> Result<Seen, Fault> {
 fn each_later_call_is_failed(rt: HostRuntime) {
     assert_eq!(rt;
         seen_later(rt.alloc()),
-        Ok(([Some(Fault::Failed); 4], true, (1, 1)))
+        Ok(([Some(Fault::Failed); 5], true, (1, 1)))
     );
 }
 

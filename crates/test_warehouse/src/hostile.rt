@@ -1,6 +1,6 @@
 //! Devices that keep not all rules of the layout.
 use cube_model::{Agg, Attr, Fault, Measure};
-use sample_sessions::{Change, ask, changed, opened, refused_opening, status};
+use sample_sessions::{Change, ask, changed, loaded, make_change, opened, refused_opening, status};
 use sample_star::{Asked, EVERY_ROW};
 use sector_device::MemDisk;
 use std::alloc::{AllocError, Global};
@@ -205,8 +205,38 @@ fn a_check_finds_what_was_changed(rt: HostRuntime) {
     }
 }
 
+/// Changes of the ship modes of a warehouse that was moved to the second layout, AIR and RAIL, and what a check finds
+/// then: nothing where no byte is theirs.
+static SHIP_MODES: [(Change, Option<Finding>); 3] = [
+    ((6, 11, b"S"), Some(Finding::ShipModes)),
+    ((6, 13, b"S"), Some(Finding::ShipModes)),
+    ((6, 17, b"S"), None),
+];
+
+/// What a check finds after a change of a warehouse of one batch that was moved to the second layout.
+fn finding_after_move(alloc: Global, change: Change) -> Result<Option<Finding>, Fault> {
+    let mut session = loaded(alloc, 1)?;
+    session.migrate(alloc)?;
+    let mut disk = session.close();
+    make_change(&mut disk, change)?;
+    let mut session = opened(alloc, disk)?;
+    session.check(alloc)
+}
+
+#[test]
+fn a_check_finds_changed_ship_modes(rt: HostRuntime) {
+    for (change, found) in &SHIP_MODES {
+        assert_eq!(rt;
+            finding_after_move(rt.alloc(), *change),
+            Ok(*found),
+            "at {}",
+            change.1
+        );
+    }
+}
+
 /// Findings and their lines.
-static LINES: [(Finding, &str); 7] = [
+static LINES: [(Finding, &str); 8] = [
     (Finding::Objects, "objects: not those that the root names"),
     (
         Finding::Segment { batch: 3 },
@@ -238,6 +268,7 @@ static LINES: [(Finding, &str); 7] = [
         Finding::Totals,
         "root: its totals are not those of the rows",
     ),
+    (Finding::ShipModes, "ship modes: not those of the batches"),
     (
         Finding::Cuboid { view: 59 },
         "cuboid 59: not the grouping of its batches",

@@ -1,6 +1,6 @@
-//! Tests of warehouses: the root, creation and opening, runs of commands, plans, a submit, an addition and a move to the
-//! second layout that crash at each device call, the bytes on the device, images that break a rule, memory that is refused, and warehouses of the
-//! greatest size.
+//! Tests of warehouses: the root, creation and opening, runs of commands, plans, a submit, an addition and a move to
+//! the second layout that crash at each device call, the bytes on the device, images that break a rule, memory that is
+//! refused, and warehouses of the greatest size.
 #![tactic(auto)]
 
 #[cfg(test)]

@@ -43,6 +43,24 @@ fn again(alloc: Global, disk: MemDisk, number: u32) -> Result<Session<MemDisk>, 
     Ok(session)
 }
 
+/// A session that was moved to the second layout. A move that answers `Memory` is made again, and after `Device` the disk
+/// is opened again.
+fn moved(alloc: Global, mut session: Session<MemDisk>) -> Result<Session<MemDisk>, Fault> {
+    match session.migrate(alloc) {
+        Ok(()) => Ok(session),
+        Err(Fault::Memory) => {
+            session.migrate(alloc)?;
+            Ok(session)
+        }
+        Err(Fault::Device) => {
+            let mut session = opened_again(alloc, session.close())?;
+            session.migrate(alloc)?;
+            Ok(session)
+        }
+        Err(fault) => Err(fault),
+    }
+}
+
 /// How many batches a session has, and what it answers over them at the first or the second try.
 fn seen(alloc: Global, mut session: Session<MemDisk>) -> Result<(u32, Answer), Fault> {
     let batches = session.status()?.batches;
@@ -52,7 +70,7 @@ fn seen(alloc: Global, mut session: Session<MemDisk>) -> Result<(u32, Answer), F
     }
 }
 
-/// What is found after a creation and three submits.
+/// What is found after a creation, three submits and a move to the second layout.
 fn found_at_last(alloc: Global) -> Result<(u32, Answer), Fault> {
     let mut session = match made(alloc) {
         Ok(session) => session,
@@ -61,6 +79,7 @@ fn found_at_last(alloc: Global) -> Result<(u32, Answer), Fault> {
     for number in 1..=3 {
         session = with_batch(alloc, session, number)?;
     }
+    let session = moved(alloc, session)?;
     let session = opened_again(alloc, session.close())?;
     seen(alloc, session)
 }

@@ -19,11 +19,12 @@ use warehouse_check::{Finding, checked};
 impl<D: Sectors> Session<D> {
     /// The first thing that is wrong with what is stored, also where it was changed by other means than a session, or
     /// nothing. The objects are compared with those for which the root asks, each batch is read whole and its rows are
-    /// checked as those of a submit are, the totals of the root are compared with those of the rows, and each stored
-    /// cuboid is worked out anew and compared.
+    /// checked as those of a submit are, the totals of the root are compared with those of the rows, in the second
+    /// layout the ship modes with those of the batches, and each stored cuboid is worked out anew and compared.
     ///
-    /// Where nothing is found the content has the batches that its root says; that then the runs of its cuboids follow
-    /// each other by the rules is only tested. It can fail when out of memory, and because the device does.
+    /// Where nothing is found the content has the batches that its root says; that then the ship modes are theirs, and
+    /// that the runs of its cuboids follow each other by the rules, is only tested. It can fail when out of memory, and
+    /// because the device does.
     pub fn check(&mut self, alloc: Global) -> Result<Option<Finding>, Fault>
         // The warehouse stays as it is, at each moment.
         ensures leaves { (w : Warehouse) → IsAt D.Sectors self.old w

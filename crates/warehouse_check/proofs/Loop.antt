@@ -15,7 +15,7 @@ use Rattle.warehouse_objects.specs.Represents.{IsLaidOut}
 use Rattle.warehouse_objects.specs.Warehouse.{Warehouse}
 use Rattle.warehouse_objects.proofs.Batches.{get_within, in_order_more, in_order_none, slice_get_snoc, some_one}
 use Rattle.warehouse_objects.proofs.Batches.{take_next}
-use Rattle.warehouse_check.specs.Checked.{AreBatches, IsNextBatch, IsSegmentAt, IsTakenIn}
+use Rattle.warehouse_check.specs.Checked.{AreBatches, IsNextBatch, IsSegmentAt}
 use Rattle.warehouse_check.proofs.Segments.{own_rows}
 
 -- so many batches were taken in; where the device keeps its word they are those of the content

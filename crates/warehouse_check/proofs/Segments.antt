@@ -1,21 +1,17 @@
 -- The segments of a content that is laid out as a warehouse's.
-use Rattle.std.proofs.Common.{◌≡◌, ◌∙◌, ◌+◌, ◌<◌, suc, ℕ, List, [], ◌∷◌, ◌++◌, Option, Some, None, get_or, length, map}
-use Rattle.std.proofs.Common.{slice_get, take, refl, sym, ap, subst, arith}
+use Rattle.std.proofs.Common.{◌≡◌, ◌∙◌, ◌+◌, ◌<◌, ℕ, List, Option, Some, None, length}
+use Rattle.std.proofs.Common.{slice_get, take, sym, ap, subst, arith}
 use Rattle.std.specs.Option.{IsSomeAnd, option_map}
-use Rattle.std.proofs.lemmas.List.{length-map, length-take-le}
 use Rattle.std.proofs.lemmas.Option.{slice_get_within}
-use Rattle.cube_model.specs.declared.rows.DimRows.{DimRows}
 use Rattle.cube_model.specs.declared.rows.LineOrder.{LineOrder}
 use Rattle.object_store.specs.Content.{Content, bytes_of}
 use Rattle.column_segment.specs.Segment.{IsSegment, segment_of}
 use Rattle.column_segment.proofs.CallerLemmas.{IsSegment-one}
-use Rattle.batch_admission.specs.Accepted.{Accepted, HasAccepted}
 use Rattle.warehouse_root.specs.Objects.{segment_id}
 use Rattle.warehouse_objects.specs.Represents.{IsLaidOut}
 use Rattle.warehouse_objects.specs.Warehouse.{IsNext, Warehouse}
 use Rattle.warehouse_objects.proofs.CallerLemmas.{few_batches, object_batch, segment_at}
-use Rattle.warehouse_objects.proofs.Batches.{some_one, take_next}
-use Rattle.warehouse_check.specs.Checked.{AreBatches, IsNextBatch, IsSegmentAt, IsTakenIn}
+use Rattle.warehouse_check.specs.Checked.{IsSegmentAt}
 
 -- what an object is said to be, by its bytes
 pub segment_by : (found : Option (List ℕ)) (bytes : List ℕ) (P : List ℕ → Type 0) → found ≡ Some bytes → P bytes

@@ -11,6 +11,7 @@ ghost use Rattle.warehouse_check.specs.Checked.{HasBatches};
 use crate::batches::check_batches;
 use crate::cuboids::check_cuboids;
 use crate::finding::Finding;
+use batch_rows::has_own_ship_modes;
 use cube_model::Fault;
 use dimensions::Dims;
 use object_store::Store;
@@ -21,8 +22,11 @@ use warehouse_objects::has_its_objects;
 use warehouse_root::Root;
 
 /// The first thing that is wrong with the content of a store, by its root and its dimensions, if anything is: the
-/// objects, then each batch and the totals, then each stored cuboid. Each segment and each run is read whole. One batch
-/// is in memory at a time, and the cells of one cuboid.
+/// objects, then each batch and the totals, then in the second layout the ship modes, then each stored cuboid. Each
+/// segment is read whole, in the second layout twice, and each run. One batch is in memory at a time, and the cells of
+/// one cuboid.
+///
+/// That the ship modes are those of the batches where nothing is found is only tested.
 ///
 /// `BadLayout` where a batch changed while it was checked, which none does on a device that keeps its word. It can also
 /// run out of memory, or fail because the device does.
@@ -63,8 +67,11 @@ pub fn checked<D: Sectors>(
     if !has_its_objects(alloc, store, root)? {
         return Ok(Some(Finding::Objects));
     }
-    match check_batches(alloc, store, root, dims)? {
-        Some(found) => Ok(Some(found)),
-        None => check_cuboids(alloc, store, root, dims),
+    if let Some(found) = check_batches(alloc, store, root, dims)? {
+        return Ok(Some(found));
     }
+    if !has_own_ship_modes(alloc, store, root)? {
+        return Ok(Some(Finding::ShipModes));
+    }
+    check_cuboids(alloc, store, root, dims)
 }

@@ -17,6 +17,8 @@ pub enum Finding {
     Batch { batch: u32, fault: Fault },
     /// The totals that the root says are not those of the rows.
     Totals,
+    /// The ship modes of a warehouse of the second layout are not those of its batches.
+    ShipModes,
     /// The runs of the cuboid of a view cannot be merged, or they are not the grouping of its batches.
     Cuboid { view: u16 },
 }
@@ -37,6 +39,7 @@ impl fmt::Display for Finding {
             }
             Finding::Batch { batch, fault } => write!(f, "batch {batch}: {fault}"),
             Finding::Totals => write!(f, "root: its totals are not those of the rows"),
+            Finding::ShipModes => write!(f, "ship modes: not those of the batches"),
             Finding::Cuboid { view } => {
                 write!(f, "cuboid {view}: not the grouping of its batches")
             }
