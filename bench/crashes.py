@@ -328,6 +328,8 @@ def main():
     Command("addition of two customers", ADDITION).cut(rows)
     Command("choose of one", ["choose", DEVICE, "1"]).cut(rows)
     Command("move to layout 2", ["migrate", DEVICE]).cut(rows)
+    Command("views by ship mode", ["views", DEVICE, "59", "342", "507"]).cut(rows)
+    Command("upkeep by ship mode", ["upkeep", DEVICE]).cut(rows)
     Path("modes.tbl").write_text("".join(re.sub(r"[^|]*\|$", f"DRONE {place}|", line.rstrip("\n")) + "\n" for place, line in enumerate(lines[:90])))
     Command("load of new ship modes", ["load", DEVICE, "--first", "6", "modes.tbl"]).cut(rows)
     closed_streams(rows)

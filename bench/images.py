@@ -4,7 +4,7 @@
 Usage, in an empty folder with ssbcube on the path: images.py TABLES [TRIES [SEED]]      (images.sh calls it)
 
 Seven warehouses: without a batch, with batches, with cuboids, with an upkeep that a crash cut off, with batches after the cuboids' marks,
-with rows added to the dimensions, and in layout 2.
+with rows added to the dimensions, and in layout 2 with cuboids by ship mode.
 Each try changes 1 to 8 bytes of one of them, by turns anywhere in the file and in the bytes that are in use, and runs one to three
 commands. Each has to end within ten seconds as if nothing were wrong, or with status 1 and NotFormatted, BadLayout, DeviceSize or
 Memory (audit also with `audit no`, and check with what it finds). Where no byte in use was changed, it has to print what it prints of the unchanged warehouse.
@@ -130,6 +130,8 @@ def warehouses(tables, program):
     crashes.add_customers()
     yield Warehouse("added rows", Path(device).read_bytes(), program)
     crashes.must("migrate", device)
+    crashes.must("views", device, "59", "342", "507")
+    crashes.must("upkeep", device)
     yield Warehouse("layout 2", Path(device).read_bytes(), program)
 
 

@@ -16,7 +16,7 @@ use Rattle.warehouse_root.specs.Objects.{run_id, segment_id}
 use Rattle.warehouse_root.specs.Root as roots
 use Rattle.warehouse_objects.specs.Represents.{HasRows, HoldsGroupings, dimension_of, object_of, root_of, rows_in}
 use Rattle.warehouse_objects.specs.Represents.{modes_object, run_after, segment_after}
-use Rattle.warehouse_objects.specs.Warehouse.{AreInOrder, Cuboid, Warehouse, fresh, modes_of, ship_modes_of}
+use Rattle.warehouse_objects.specs.Warehouse.{AreInOrder, Cuboid, Warehouse, fresh, ship_modes_of}
 use Rattle.warehouse_objects.proofs.CallerLemmas.{root_proper}
 use Rattle.dimensions.specs.Added.{joined}
 use Rattle.added_rows.specs.Added.{put_of, widened, widening_puts}
@@ -140,7 +140,7 @@ module _ (w : Warehouse) (more : DimRows) where
   cuboid_then cuboid holds = record {
     laid = record { follow = holds.laid.follow; spans = holds.laid.spans; proper = holds.laid.proper };
     groupings = λ k d within.
-        cells_kept w.rows more (modes_of w) (rows_in w.batches (get_or cuboid.runs k d).span)
+        cells_kept w.rows more (ship_modes_of w) (rows_in w.batches (get_or cuboid.runs k d).span)
         (cells_of cuboid.view (get_or cuboid.runs k d).cells) (holds.groupings k d within);
   }
 
@@ -164,7 +164,6 @@ represents_widened c w more represents storable few =
       rows = storable;
       batches = in_order_then w more represents.batches;
       modes = represents.modes;
-      plain = represents.plain;
       cuboids = λ k d within. cuboid_then w more (get_or w.cuboids k d) (represents.cuboids k d within);
     }
 

@@ -16,7 +16,7 @@ none_between zero xs = refl
 none_between (suc n) [] = refl
 none_between (suc n) (x ∷ xs) = none_between n xs
 
-rows_append : (one other : List (List LineOrder)) → all_rows (one ++ other) ≡ all_rows one ++ all_rows other
+pub rows_append : (one other : List (List LineOrder)) → all_rows (one ++ other) ≡ all_rows one ++ all_rows other
 rows_append one other = flat_map-append (λ (batch : List LineOrder). batch) one other
 
 -- one batch more

@@ -8,9 +8,10 @@ ghost use Rattle.object_store.specs.Store.{content_of, device_of, has_failed};
 ghost use Rattle.lattice.specs.Views.{index_of};
 ghost use Rattle.cuboid_upkeep.specs.Grouping.{RepresentRows};
 ghost use Rattle.cuboid_upkeep.specs.Steps.{HaveTooMany};
-ghost use Rattle.warehouse_objects.specs.Warehouse.{Warehouse, modes_of};
+ghost use Rattle.warehouse_objects.specs.Warehouse.{Warehouse, ship_modes_of};
 ghost use Rattle.warehouse_objects.specs.Reads.{ReadsOnly};
-ghost use Rattle.warehouse_objects.specs.Represents.{IsLaidOut, root_of, rows_in};
+ghost use Rattle.warehouse_objects.specs.Represents.{AreItsMembers, IsLaidOut, root_of, rows_in};
+ghost use Rattle.warehouse_root.specs.Layouts.{views_of};
 ghost use Rattle.cuboid_upkeep.specs.Growing.{GrowOver, grown};
 ghost use Rattle.batch_cells.specs.Grouped.{GroupsBatch, GroupsMore, IsAddFaultOf, RepresentSomeRows};
 
@@ -26,7 +27,7 @@ use lattice::View;
 use object_store::Store;
 use sector_device::Sectors;
 use std::alloc::Global;
-use warehouse_objects::{decoded_batch, read_object};
+use warehouse_objects::{ShipModes, decoded_batch, read_object};
 use warehouse_root::{Root, segment_id};
 
 /// The cells of a view for the fact rows of some batches of a store. One batch is in memory at a time, and the cells.
@@ -39,6 +40,7 @@ pub fn cells_of_batches<D: Sectors>(
     store: &mut Store<D>,
     root: &Root,
     dims: &Dims,
+    modes: &ShipModes,
     view: View,
     span: Span,
 ) -> Result<Cells, Fault>
@@ -49,15 +51,15 @@ pub fn cells_of_batches<D: Sectors>(
     // Then they represent the rows of these batches, whatever the stored cuboids hold.
     ensures ok { IfOk result (λ cells. D.keeps_word (device_of store.new) → (w : Warehouse)
         → IsLaidOut (content_of D.Sectors store.old) w
-        → dims.now ≡ w.rows → RepresentRows w.rows (modes_of w) (rows_in w.batches span) cells) }
+        → AreItsMembers w dims.now modes.now → RepresentRows w.rows (ship_modes_of w) (rows_in w.batches span) cells) }
     ensures view { IfOk result (λ cells. cells.view ≡ view) }
     ensures large { IsErrOf result (TooManyCells (index_of view)) → D.keeps_word (device_of store.new) → (w : Warehouse)
-        → IsLaidOut (content_of D.Sectors store.old) w → root.now ≡ root_of w → dims.now ≡ w.rows
-        → view.ship_mode ≡ false
-        → HaveTooMany w.rows (modes_of w) view (rows_in w.batches span) }
+        → IsLaidOut (content_of D.Sectors store.old) w → root.now ≡ root_of w → AreItsMembers w dims.now modes.now
+        → index_of view < views_of w.layout
+        → HaveTooMany w.rows (ship_modes_of w) view (rows_in w.batches span) }
     ensures refused { IsErrOf result BadLayout → D.keeps_word (device_of store.new) → (w : Warehouse)
-        → IsLaidOut (content_of D.Sectors store.old) w → root.now ≡ root_of w → dims.now ≡ w.rows
-        → view.ship_mode ≡ false → ⊥ }
+        → IsLaidOut (content_of D.Sectors store.old) w → root.now ≡ root_of w → AreItsMembers w dims.now modes.now
+        → index_of view < views_of w.layout → ⊥ }
 
     // The content stays, at each moment.
     ensures reads { ReadsOnly D.Sectors store.old store.new result }
@@ -74,7 +76,7 @@ pub fn cells_of_batches<D: Sectors>(
     let mut cells = GrowingCells::new(alloc, dims, view)?;
     for before in span.from..span.to {
         let count = batches[before as usize];
-        add_batch(alloc, store, dims, &mut cells, before, count)?;
+        add_batch(alloc, store, dims, modes, &mut cells, before, count)?;
     }
     cells.finish(alloc)
 }
@@ -84,23 +86,24 @@ fn add_batch<D: Sectors>(
     alloc: Global,
     store: &mut Store<D>,
     dims: &Dims,
+    modes: &ShipModes,
     cells: &mut GrowingCells,
     before: u32,
     count: u32,
 ) -> Result<(), Fault>
     requires fine { has_failed store.old ≡ false }
     requires few { before < most_batches }
-    requires some { RepresentSomeRows dims.now (grown cells.old) }
+    requires some { RepresentSomeRows dims.now modes.now (grown cells.old) }
     requires over { GrowOver dims.now cells.old }
     ensures ok { OnOk result
-        (GroupsBatch dims.now (grown cells.old) (grown cells.new) before (D.keeps_word (device_of store.new))
+        (GroupsBatch dims.now modes.now (grown cells.old) (grown cells.new) before (D.keeps_word (device_of store.new))
         (content_of D.Sectors store.old)) }
     ensures over { OnOk result (GrowOver dims.now cells.new) }
     ensures view { (grown cells.new).view ≡ (grown cells.old).view }
     ensures refused { IfErr result (λ fault. (fault ≡ Device → ⊥) → D.keeps_word (device_of store.new) → (w : Warehouse)
         → IsLaidOut (content_of D.Sectors store.old) w → (batch : List LineOrder)
         → slice_get w.batches before ≡ Some batch → count ≡ length batch
-        → IsAddFaultOf dims.now (grown cells.old) batch fault) }
+        → IsAddFaultOf dims.now modes.now (grown cells.old) batch fault) }
     ensures reads { ReadsOnly D.Sectors store.old store.new result }
     ensures causes { IfErr result
         (λ fault. (fault ≡ Memory)
@@ -109,23 +112,24 @@ fn add_batch<D: Sectors>(
     let number = before + 1;
     let bytes = read_object(alloc, store, segment_id(number))?;
     let segment = decoded_batch(alloc, bytes, number, count)?;
-    group_in(alloc, dims, cells, &segment)
+    group_in(alloc, dims, modes, cells, &segment)
 }
 
 // Groups the rows of a batch into cells.
 fn group_in(
     alloc: Global,
     dims: &Dims,
+    modes: &ShipModes,
     cells: &mut GrowingCells,
     segment: &Segment,
 ) -> Result<(), Fault>
     requires over { GrowOver dims.now cells.old }
     requires few { length segment.now.rows ≤ most_batch_rows }
-    ensures ok { OnOk result (GroupsMore dims.now (grown cells.old) segment.now.rows (grown cells.new)) }
+    ensures ok { OnOk result (GroupsMore dims.now modes.now (grown cells.old) segment.now.rows (grown cells.new)) }
     ensures over { OnOk result (GrowOver dims.now cells.new) }
     ensures view { (grown cells.new).view ≡ (grown cells.old).view }
-    ensures refused { IfErr result (IsAddFaultOf dims.now (grown cells.old) segment.now.rows) }
+    ensures refused { IfErr result (IsAddFaultOf dims.now modes.now (grown cells.old) segment.now.rows) }
 {
     let rows = RowsWithModes::of(segment);
-    cells.add_rows(alloc, dims, &rows)
+    cells.add_rows(alloc, dims, &rows, Some(modes.dictionary()))
 }

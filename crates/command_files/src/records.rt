@@ -13,15 +13,24 @@ pub fn format_of(given: &ArgMatches<'_>) -> Option<Format> {
     }
 }
 
-/// The cells of a view: its number, and the level of each dimension, which is empty for ALL.
-pub fn view_cells(view: View) -> [Cell; 5] {
+/// The cells of a view: its number, the level of each dimension, and that of ship mode. A cell is empty for ALL.
+pub fn view_cells(view: View) -> [Cell; 6] {
     [
         Cell::Number(u64::from(view.index())),
         level_cell(view, Axis::Customer),
         level_cell(view, Axis::Supplier),
         level_cell(view, Axis::Part),
         level_cell(view, Axis::Date),
+        mode_cell(view),
     ]
+}
+
+fn mode_cell(view: View) -> Cell {
+    if view.ship_mode {
+        Cell::Word("shipmode")
+    } else {
+        Cell::Empty
+    }
 }
 
 fn level_cell(view: View, axis: Axis) -> Cell {

@@ -6,12 +6,13 @@ use crate::files::{DimensionFiles, Reads, unread_table};
 use crate::refusal::Refusal;
 use crate::table_paths::table_name;
 use clap::ArgMatches;
+use cube_model::limits::MOST_BATCH_ROWS;
 use cube_model::{Axis, DimRows, Fault, MemberPlace};
 use dimensions::Dims;
 use ssb_eval::{DimensionTables, RefusedLine, Tables, UnknownKey};
 use std::alloc::Global;
 use std::io::Read;
-use table_hints::{KeyAt, Table, key_hint, limit_hint, line_hint, rows_hint};
+use table_hints::{KeyAt, Table, key_hint, limit_hint, line_hint, refused_mode, rows_hint};
 
 /// The tables of a star whose dimensions are files of one kind.
 pub type Star<F, L> = Tables<F, F, F, F, L>;
@@ -74,6 +75,9 @@ pub fn star_hint<F: Read + Drop, L: Read + Drop>(
     }
     if let Some(rows) = tables.broken() {
         return broken_hint(alloc, given, rows, None, fault);
+    }
+    if let Some((row, said)) = refused_mode(fault) {
+        return mode_hint(alloc, given, tables.fact_number(), row, said);
     }
     match key_for(fault, tables.unknown()) {
         Some(unknown) => unknown_hint(alloc, given, unknown),
@@ -149,6 +153,24 @@ fn unknown_hint(
         line,
     };
     Ok(Some(key_hint(alloc, at, table.as_str())?))
+}
+
+// The row for whose ship mode a batch is refused, and what is said of it. The batch is that of the line that was read
+// last.
+fn mode_hint(
+    alloc: Global,
+    given: &ArgMatches<'_>,
+    last: u64,
+    row: u32,
+    said: &str,
+) -> Result<Option<String>, Fault> {
+    let batch_rows = MOST_BATCH_ROWS as u64;
+    let before = last.saturating_sub(1) / batch_rows;
+    let line = before
+        .saturating_mul(batch_rows)
+        .saturating_add(u64::from(row));
+    let path = table_name(alloc, given, Table::Lineorder)?;
+    Ok(Some(format!(in alloc; "{path} line {line}: {said}")?))
 }
 
 fn facts_hint(

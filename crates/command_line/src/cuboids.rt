@@ -26,7 +26,9 @@ use warehouse::{Chosen, MOST_CUBOIDS, Session};
 use warehouse_jobs::{Job, perform};
 
 /// The fields of a record of a choice.
-const FIELDS: [&str; 6] = ["view", "customer", "supplier", "part", "date", "benefit"];
+const FIELDS: [&str; 7] = [
+    "view", "customer", "supplier", "part", "date", "shipmode", "benefit",
+];
 
 /// Chooses the cuboids of a warehouse, for the queries of a file if one is named, and prints them.
 pub fn choose<R: Files + AllocGlobal + Print + Eprint + Clock + Input>(
@@ -107,9 +109,12 @@ fn choose_in<R: Files + AllocGlobal + Print + Eprint, D: Sectors + InFile>(
 fn choice_records(alloc: Global, format: Format, chosen: &[Chosen]) -> Result<Records, AllocError> {
     let mut records = Records::new(alloc, format, &FIELDS)?;
     for one in chosen {
-        let [view, customer, supplier, part, date] = view_cells(one.view);
+        let [view, customer, supplier, part, date, mode] = view_cells(one.view);
         let benefit = Cell::Number(one.benefit);
-        records.push(alloc, &[view, customer, supplier, part, date, benefit])?;
+        records.push(
+            alloc,
+            &[view, customer, supplier, part, date, mode, benefit],
+        )?;
     }
     Ok(records)
 }

@@ -1,12 +1,11 @@
 //! The command `views`.
-ghost use Rattle.std.specs.Prelude.{◌<◌, ◌≤◌, All, length};
-ghost use Rattle.lattice.specs.Views.{index_of};
+ghost use Rattle.std.specs.Prelude.{◌≤◌, length};
 ghost use Rattle.warehouse_root.specs.Limits.{most_cuboids};
 
 use clap::ArgMatches;
 use command_files::exit::DONE;
 use command_files::output::{cut_short, output};
-use command_files::refusal::Refusal;
+use command_files::refusal::{Refusal, bad_query};
 use command_sessions::device::{self, Access, InFile};
 use command_sessions::explaining::explained;
 use command_sessions::job::met_in;
@@ -21,7 +20,7 @@ use std::io::Write;
 use std::os::unix::fs::FileExt;
 use std::rt::{Clock, Files};
 use view_words::{Refused, hint_of_view, read_views};
-use warehouse::{MOST_CUBOIDS, Session, StoredCuboid};
+use warehouse::{Layout, MOST_CUBOIDS, Session, StoredCuboid};
 
 /// The dimensions.
 static AXES: [Axis; 4] = [Axis::Customer, Axis::Supplier, Axis::Part, Axis::Date];
@@ -47,7 +46,7 @@ where
     }
 }
 
-// Stores the cuboids of some views, and lists them.
+// Stores the cuboids of some views, and lists them. Nothing is stored where the warehouse's layout lacks one.
 fn store_views<R: Files + AllocGlobal + Print + Eprint + Clock>(
     rt: &R,
     given: &ArgMatches<'_>,
@@ -56,16 +55,39 @@ fn store_views<R: Files + AllocGlobal + Print + Eprint + Clock>(
 where
     R::File: FileExt + LockFile,
     requires few { length views.items ≤ most_cuboids }
-    requires known { All (λ view. index_of view < 256) views.items }
 {
     let mut session = match device::open(rt, given, Access::Commit) {
         Ok(session) => session,
         Err(met) => return Err(explained(rt, given, met)),
     };
+    if let Some(view) = lacking(session.layout(), views.as_slice()) {
+        return Err(no_ship_modes(rt.alloc(), view));
+    }
     match session.set_views(rt.alloc(), views.as_slice()) {
         Ok(()) => list(rt, given, &session),
         Err(fault) => Err(explained(rt, given, met_in(rt.alloc(), fault, &session))),
     }
+}
+
+// The first of some views that a layout lacks.
+fn lacking(layout: Layout, views: &[View]) -> Option<View> {
+    for view in views {
+        if view.index() >= layout.views() {
+            return Some(*view);
+        }
+    }
+    None
+}
+
+// The refusal of a view that groups by ship mode, where that is no axis.
+fn no_ship_modes(alloc: Global, view: View) -> Refusal {
+    let name = ViewName {
+        view,
+        ship_modes: true,
+    };
+    bad_query(format!(in alloc;
+        "{name}: ship mode is an axis from layout 2 on; ssbcube migrate moves the warehouse there"
+    ))
 }
 
 // The refusal of words that name no list of views.
@@ -113,9 +135,10 @@ fn list<R: Files + AllocGlobal + Print + Eprint, D: Sectors + InFile>(
 // Writes a line for each stored cuboid.
 fn write_cuboids<D: Sectors, W: Write>(session: &Session<D>, out: &mut W) -> Result<(), Fault> {
     let status = session.status()?;
+    let ship_modes = session.ship_mode_count();
     for place in status.cuboids {
         if let Some(cuboid) = place {
-            write_cuboid(session.dims(), cuboid, out)?;
+            write_cuboid(session.dims(), ship_modes, cuboid, out)?;
         }
     }
     match out.flush() {
@@ -124,15 +147,21 @@ fn write_cuboids<D: Sectors, W: Write>(session: &Session<D>, out: &mut W) -> Res
     }
 }
 
-fn write_cuboid<W: Write>(dims: &Dims, cuboid: StoredCuboid, out: &mut W) -> Result<(), Fault> {
+// Writes the line of a stored cuboid, whose view has a fifth part where ship mode is an axis, of so many members.
+fn write_cuboid<W: Write>(
+    dims: &Dims,
+    ship_modes: Option<u32>,
+    cuboid: StoredCuboid,
+    out: &mut W,
+) -> Result<(), Fault> {
     let Some(view) = View::new(cuboid.view) else {
         return Ok(());
     };
     let name = ViewName {
         view,
-        ship_modes: false,
+        ship_modes: ship_modes.is_some(),
     };
-    let members = members(dims, view);
+    let members = members(dims, ship_modes, view);
     match writeln!(
         out,
         "{name} members {members} mark {} cells {}",
@@ -143,9 +172,12 @@ fn write_cuboid<W: Write>(dims: &Dims, cuboid: StoredCuboid, out: &mut W) -> Res
     }
 }
 
-// The product of the numbers of members of the levels of a view.
-fn members(dims: &Dims, view: View) -> u64 {
-    let mut product = 1u64;
+// The product of the numbers of members of the levels of a view, of which there are so many ship modes.
+fn members(dims: &Dims, ship_modes: Option<u32>, view: View) -> u64 {
+    let mut product = match ship_modes {
+        Some(count) if view.ship_mode => u64::from(count),
+        _ => 1,
+    };
     for axis in AXES {
         if let Some(attr) = view.level(axis).attribute(axis) {
             product = product.saturating_mul(dims.members(attr) as u64);

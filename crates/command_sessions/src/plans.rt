@@ -25,8 +25,8 @@ use std::rt::{Clock, Files};
 use warehouse::{Plan, Priced, Session};
 
 /// The fields of a record of a plan.
-const FIELDS: [&str; 9] = [
-    "plan", "view", "customer", "supplier", "part", "date", "mark", "tail", "cost",
+const FIELDS: [&str; 10] = [
+    "plan", "view", "customer", "supplier", "part", "date", "shipmode", "mark", "tail", "cost",
 ];
 
 /// Prints how the query of a command is answered over the batches that it names, and writes the notes on its
@@ -213,10 +213,10 @@ fn plan_records(
 }
 
 // The cells of a plan.
-fn plan_cells(name: &'static str, count: u32, one: &Priced) -> [Cell; 9] {
+fn plan_cells(name: &'static str, count: u32, one: &Priced) -> [Cell; 10] {
     let tail = count.saturating_sub(mark_of(one.plan));
-    let ([view, customer, supplier, part, date], mark) = match one.plan {
-        Plan::Scan => ([Cell::Empty; 5], Cell::Empty),
+    let ([view, customer, supplier, part, date, mode], mark) = match one.plan {
+        Plan::Scan => ([Cell::Empty; 6], Cell::Empty),
         Plan::Cells { view, mark } => (view_cells(view), Cell::Number(u64::from(mark))),
     };
     [
@@ -226,6 +226,7 @@ fn plan_cells(name: &'static str, count: u32, one: &Priced) -> [Cell; 9] {
         supplier,
         part,
         date,
+        mode,
         mark,
         Cell::Number(u64::from(tail)),
         Cell::Number(one.cost),

@@ -6,8 +6,11 @@ use dimensions::Dims;
 use std::alloc::{AllocError, Global};
 use warehouse::{Plan, Priced};
 
-/// The bytes of a stored cell.
+/// The bytes of a stored cell, without those of its ship mode.
 const CELL_BYTES: u64 = 160;
+
+/// The bytes of the ship mode of a cell, where the view groups by it.
+const MODE_BYTES: u64 = 2;
 
 /// What a query reads of each fact row, and how many groups it has at most.
 #[derive(Drop)]
@@ -37,7 +40,7 @@ impl Reads {
         let row_bytes = row_bytes(self.columns.as_slice());
         let cells = priced.cost.saturating_sub(rows);
         rows.saturating_mul(row_bytes)
-            .saturating_add(cells.saturating_mul(CELL_BYTES))
+            .saturating_add(cells.saturating_mul(cell_bytes(priced.plan)))
     }
 
     /// How many groups there are at most, where there are so many fact rows.
@@ -53,6 +56,14 @@ impl Reads {
             names.push_str(name_of(*column))?;
         }
         Ok(names)
+    }
+}
+
+// How many bytes the cells of a plan have each.
+fn cell_bytes(plan: Plan) -> u64 {
+    match plan {
+        Plan::Cells { view, .. } if view.ship_mode => CELL_BYTES + MODE_BYTES,
+        Plan::Cells { .. } | Plan::Scan => CELL_BYTES,
     }
 }
 

@@ -23,7 +23,7 @@ use Rattle.warehouse_root.specs.declared.cuboid.StoredCuboid.{StoredCuboid}
 use Rattle.warehouse_root.specs.Limits.{most_cells, most_runs}
 use Rattle.warehouse_root.specs.Objects.{run_id}
 use Rattle.warehouse_root.specs.Root.{PlainRoot}
-use Rattle.warehouse_objects.specs.Warehouse.{Cuboid, StoredRun, Warehouse, cells_in, cuboid_at, modes_of}
+use Rattle.warehouse_objects.specs.Warehouse.{Cuboid, StoredRun, Warehouse, cells_in, cuboid_at, ship_modes_of}
 use Rattle.warehouse_objects.specs.Represents.{Follow, rows_in}
 use Rattle.cuboid_commits.specs.Nexts.{BringsOn, GoesOn, HasStored, IsMade, IsNext, first_run}
 use Rattle.cuboid_commits.specs.declared.keeping.Next.{Next}
@@ -114,16 +114,17 @@ module _ (w : Warehouse) (root : PlainRoot) (said : StoredCuboid) (old : Cuboid)
   proper_here : AreProper cells → AreProper (cells_of old.view cells.cells)
   proper_here proper = subst (λ (v : View). AreProper (cells_of v cells.cells)) view_is proper
 
-  represent_here : (rows : List LineOrder) → RepresentRows w.rows (modes_of w) rows cells
-      → RepresentRows w.rows (modes_of w) rows (cells_of old.view cells.cells)
-  represent_here rows represent = subst (λ (v : View). RepresentRows w.rows (modes_of w) rows (cells_of v cells.cells))
+  represent_here : (rows : List LineOrder) → RepresentRows w.rows (ship_modes_of w) rows cells
+      → RepresentRows w.rows (ship_modes_of w) rows (cells_of old.view cells.cells)
+  represent_here rows represent =
+      subst (λ (v : View). RepresentRows w.rows (ship_modes_of w) rows (cells_of v cells.cells))
       view_is represent
 
   -- a run after the others
   pub append_brings : after.runs ≡ said.runs + 1 → after.cells ≡ said.cells + length cells.cells
       → id ≡ run_id said.view said.runs → drops ≡ []
       → span.from ≡ said.mark → said.runs < most_runs → said.cells + length cells.cells ≤ most_cells
-      → RepresentRows w.rows (modes_of w) (rows_in w.batches span) cells
+      → RepresentRows w.rows (ship_modes_of w) (rows_in w.batches span) cells
       → BringsOn w old (appending span cells.cells old) (run_over span cells.cells) next
   append_brings after_runs after_cells id_is drops_are from few few_cells represent = record {
     may = record {
@@ -145,12 +146,12 @@ module _ (w : Warehouse) (root : PlainRoot) (said : StoredCuboid) (old : Cuboid)
               (proper_here made.bytes.proper) (All-nil (λ run. AreProper (cells_of old.view run.cells))));
         };
         groupings =
-            All-append (λ run. RepresentRows w.rows (modes_of w) (rows_in w.batches run.span)
+            All-append (λ run. RepresentRows w.rows (ship_modes_of w) (rows_in w.batches run.span)
             (cells_of old.view run.cells)) old.runs (run_over span cells.cells ∷ []) has.holds.groupings
-            (All-cons (λ run. RepresentRows w.rows (modes_of w) (rows_in w.batches run.span)
+            (All-cons (λ run. RepresentRows w.rows (ship_modes_of w) (rows_in w.batches run.span)
             (cells_of old.view run.cells)) (run_over span cells.cells) []
             (represent_here (rows_in w.batches span) represent)
-            (All-nil (λ run. RepresentRows w.rows (modes_of w) (rows_in w.batches run.span)
+            (All-nil (λ run. RepresentRows w.rows (ship_modes_of w) (rows_in w.batches run.span)
             (cells_of old.view run.cells))));
       };
       some = omega (arith, mark_is, above);
@@ -190,7 +191,7 @@ module _ (w : Warehouse) (root : PlainRoot) (said : StoredCuboid) (old : Cuboid)
   -- one run in the place of all
   pub replace_brings : after.runs ≡ 1 → after.cells ≡ length cells.cells → id ≡ run_id said.view 0
       → drops ≡ range_with_len (run_id said.view 1) (said.runs - 1)
-      → span.from ≡ 0 → RepresentRows w.rows (modes_of w) (all_rows (take span.to w.batches)) cells
+      → span.from ≡ 0 → RepresentRows w.rows (ship_modes_of w) (all_rows (take span.to w.batches)) cells
       → BringsOn w old (replacing span cells.cells old) (run_over span cells.cells) next
   replace_brings after_runs after_cells id_is drops_are from represent = record {
     may = record {
@@ -205,12 +206,13 @@ module _ (w : Warehouse) (root : PlainRoot) (said : StoredCuboid) (old : Cuboid)
               (proper_here made.bytes.proper) (All-nil (λ run. AreProper (cells_of old.view run.cells)));
         };
         groupings =
-            All-cons (λ run. RepresentRows w.rows (modes_of w) (rows_in w.batches run.span)
+            All-cons (λ run. RepresentRows w.rows (ship_modes_of w) (rows_in w.batches run.span)
             (cells_of old.view run.cells)) (run_over span cells.cells) []
             (represent_here (rows_in w.batches span)
-            (subst (λ (n : ℕ). RepresentRows w.rows (modes_of w) (all_rows (drop n (take span.to w.batches))) cells)
+            (subst (λ (n : ℕ). RepresentRows w.rows (ship_modes_of w) (all_rows (drop n (take span.to w.batches)))
+            cells)
             (sym from) represent))
-            (All-nil (λ run. RepresentRows w.rows (modes_of w) (rows_in w.batches run.span)
+            (All-nil (λ run. RepresentRows w.rows (ship_modes_of w) (rows_in w.batches run.span)
             (cells_of old.view run.cells)));
       };
       some = omega (arith, mark_is, above);
@@ -253,7 +255,7 @@ module _ (root : PlainRoot) (said : StoredCuboid) (cells : PlainCells) (span : S
   pub next_appended : after.runs ≡ said.runs + 1 → after.cells ≡ said.cells + length cells.cells
       → id ≡ run_id said.view said.runs → drops ≡ []
       → span.from ≡ said.mark → said.runs < most_runs → said.cells + length cells.cells ≤ most_cells
-      → IsNext (λ w. RepresentRows w.rows (modes_of w) (rows_in w.batches span) cells) root said span.to next
+      → IsNext (λ w. RepresentRows w.rows (ship_modes_of w) (rows_in w.batches span) cells) root said span.to next
   next_appended after_runs after_cells id_is drops_are from few few_cells = record {
     put = made_put root after id span cells drops next made;
     runs = made_runs next.id said.view said.runs next.drops.items 0 (made.id_is ∙ id_is) (made.drops_are ∙ drops_are);
@@ -274,7 +276,8 @@ module _ (root : PlainRoot) (said : StoredCuboid) (cells : PlainCells) (span : S
 
   pub next_replaced : after.runs ≡ 1 → after.cells ≡ length cells.cells → id ≡ run_id said.view 0
       → drops ≡ range_with_len (run_id said.view 1) (said.runs - 1) → span.from ≡ 0
-      → IsNext (λ w. RepresentRows w.rows (modes_of w) (all_rows (take span.to w.batches)) cells) root said span.to next
+      → IsNext (λ w. RepresentRows w.rows (ship_modes_of w) (all_rows (take span.to w.batches)) cells) root said span.to
+      next
   next_replaced after_runs after_cells id_is drops_are from = record {
     put = made_put root after id span cells drops next made;
     runs = made_runs next.id said.view 0 next.drops.items (said.runs - 1) (made.id_is ∙ id_is)

@@ -17,7 +17,7 @@ use Rattle.object_store.specs.declared.store.Store.{Store}
 use Rattle.warehouse_root.specs.declared.cuboid.StoredCuboid.{StoredCuboid}
 use Rattle.warehouse_root.specs.Root.{PlainRoot, with_cuboid}
 use Rattle.warehouse_objects.specs.Warehouse.{Cuboid, Warehouse}
-use Rattle.warehouse_objects.specs.Represents.{Represents}
+use Rattle.warehouse_objects.specs.Represents.{AreItsMembers, Represents}
 use Rattle.warehouse_objects.proofs.Folded.{err_fault}
 use Rattle.cuboid_commits.specs.Keeping.{IsCaughtUp, IsReached, IsTooLarge, StoreAt}
 use Rattle.cuboid_commits.specs.Nexts.{EndsBringing, HasStored, IsBroughtBy, IsNext, RefusesNext}
@@ -103,8 +103,9 @@ ends_unread fault number many =
     (⊎_elim {C = EndsBringing fault} (λ device. inr (inl device))
     (⊎_elim {C = EndsBringing fault} (λ bad. inr (inr (inl bad))) (λ is. absurd (many is))))
 
-module _ {D : Type 0} (g : Ghosts D) (a b : Store D g) (still : IsStill g a b) (dims : DimRows) (root : PlainRoot)
-    (said : StoredCuboid) (place : ℕ) (there : slice_get root.cuboids place ≡ Some said) where
+module _ {D : Type 0} (g : Ghosts D) (a b : Store D g) (still : IsStill g a b) (dims : DimRows)
+    (modes : List (List ℕ)) (root : PlainRoot) (said : StoredCuboid) (place : ℕ)
+    (there : slice_get root.cuboids place ≡ Some said) where
   -- the cuboid in the warehouse
   pub stored_at : (w : Warehouse) → StoreAt g a root w → g.keeps_word (device_of b)
       → (old : Cuboid) × (slice_get w.cuboids place ≡ Some old) × HasStored root said w old
@@ -114,9 +115,9 @@ module _ {D : Type 0} (g : Ghosts D) (a b : Store D g) (still : IsStill g a b) (
   -- the view was found too large
   pub passed_over : (view : View) → index_of view ≡ said.view
       → ((w : Warehouse) (stored : Cuboid) → Represents (content_of g a) w → HasStored root said w stored
-      → dims ≡ w.rows → IsTooLarge w view)
-      → (v : Warehouse) → StoreAt g b root v → g.keeps_word (device_of b) → dims ≡ v.rows → (cuboid : Cuboid)
-      → slice_get v.cuboids place ≡ Some cuboid → IsReached (Some view) v cuboid
+      → AreItsMembers w dims modes → IsTooLarge w view)
+      → (v : Warehouse) → StoreAt g b root v → g.keeps_word (device_of b) → AreItsMembers v dims modes
+      → (cuboid : Cuboid) → slice_get v.cuboids place ≡ Some cuboid → IsReached (Some view) v cuboid
   passed_over view number large v is k rows cuboid at_place =
       let represents = subst (λ (x : Content). Represents x v) (still.content k) (is.represents k) in
       let found = stored_there (content_of g a) v root said place represents (is.root_is k) there in (
@@ -125,26 +126,26 @@ module _ {D : Type 0} (g : Ghosts D) (a b : Store D g) (still : IsStill g a b) (
       )
 
   module _ (next : Next)
-      (is : IsNext (λ w. g.keeps_word (device_of b) × Represents (content_of g a) w × (dims ≡ w.rows)) root said
-      root.target next) where
+      (is : IsNext (λ w. g.keeps_word (device_of b) × Represents (content_of g a) w × AreItsMembers w dims modes) root
+      said root.target next) where
     abbrev pub brought : Warehouse → Warehouse
     brought w = changed is.change said.view w
 
-    pub by_next : (w : Warehouse) → StoreAt g a root w → (g.keeps_word (device_of a) → dims ≡ w.rows)
+    pub by_next : (w : Warehouse) → StoreAt g a root w → (g.keeps_word (device_of a) → AreItsMembers w dims modes)
         → g.keeps_word (device_of b) → IsBroughtBy w next (brought w)
     by_next w at_a rows k =
         let represents = at_a.represents (still.word k) in
         let found = stored_at w at_a k in
-        brought_by (λ x. g.keeps_word (device_of b) × Represents (content_of g a) x × (dims ≡ x.rows)) root said
-        root.target next is (content_of g a) w found.0 represents found.2 (k, represents, rows (still.word k))
+        brought_by (λ x. g.keeps_word (device_of b) × Represents (content_of g a) x × AreItsMembers x dims modes) root
+        said root.target next is (content_of g a) w found.0 represents found.2 (k, represents, rows (still.word k))
 
     pub caught : (w : Warehouse) → IsCaughtUp w (brought w)
     caught w = changed_caught is.change said.view w is.goes_on
 
     -- the store refused it
     pub refused_next : (c : Store D g) (w : Warehouse) (fault : Fault) → StoreAt g a root w
-        → (g.keeps_word (device_of a) → dims ≡ w.rows) → g.keeps_word (device_of b) → said.mark < root.target
-        → IsAsBefore g b c
+        → (g.keeps_word (device_of a) → AreItsMembers w dims modes) → g.keeps_word (device_of b)
+        → said.mark < root.target → IsAsBefore g b c
         → Refuses (content_of g b) (room_of b) ((next.id, next.bytes.items) ∷ []) next.drops.items next.root_bytes.items
         fault
         → (refused : RefusesNext g c w fault) × (slice_get w.cuboids place ≡ Some refused.old)
@@ -171,7 +172,8 @@ module _ {D : Type 0} (g : Ghosts D) (a b : Store D g) (still : IsStill g a b) (
         )
 
     module _ (c : Store D g) where
-      pub bring_leaves : (w : Warehouse) → StoreAt g a root w → (g.keeps_word (device_of a) → dims ≡ w.rows)
+      pub bring_leaves : (w : Warehouse) → StoreAt g a root w
+          → (g.keeps_word (device_of a) → AreItsMembers w dims modes)
           → Leaves (disk_of g a) (disk_of g b) (λ x. x ≡ content_of g a)
           → ((w v : Warehouse) → StoreAt g b root w → (g.keeps_word (device_of b) → IsBroughtBy w next v)
           → Leaves (disk_of g b) (disk_of g c) (λ x. Represents x w ⊎ Represents x v))
@@ -185,7 +187,7 @@ module _ {D : Type 0} (g : Ghosts D) (a b : Store D g) (still : IsStill g a b) (
           (put w (brought w) (at_still g a b still root w at_a) (by_next w at_a rows)))
 
       pub bring_stays : (after : PlainRoot) (w : Warehouse) → StoreAt g a root w
-          → (g.keeps_word (device_of a) → dims ≡ w.rows)
+          → (g.keeps_word (device_of a) → AreItsMembers w dims modes)
           → ((w v : Warehouse) → StoreAt g b root w → (g.keeps_word (device_of b) → IsBroughtBy w next v)
           → StoreAt g c after v)
           → (v : Warehouse) × IsCaughtUp w v × StoreAt g c after v

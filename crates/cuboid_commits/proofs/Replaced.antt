@@ -122,20 +122,22 @@ makes_aimed c root w = record {
 
 -- other views
 viewed_root : (root : PlainRoot) (w : Warehouse) (views : List View) → root_of w ≡ root
-    → root_of (with_views w views) ≡ roots.with_cuboids (said_with views root.cuboids) root
+    → root_of (with_views w views) ≡ roots.with_cuboids (said_with root.layout views root.cuboids) root
 viewed_root root w views same = root_viewed w views
-    ∙ ap (λ (r : PlainRoot). roots.with_cuboids (said_with views r.cuboids) r) same
+    ∙ ap (λ (r : PlainRoot). roots.with_cuboids (said_with r.layout views r.cuboids) r) same
 
 pub viewed_drops : (root : PlainRoot) (w : Warehouse) (views : List View) → root_of w ≡ root
     → dropped_of views root.cuboids ≡ dropped_ids w views
 viewed_drops root w views same = ap (λ (r : PlainRoot). dropped_of views r.cuboids) (sym same) ∙ dropped_are w views
 
 pub makes_viewed : (c : Content) (root : PlainRoot) (w : Warehouse) (views : List View) → length views ≤ most_cuboids
-    → Makes c root (roots.with_cuboids (said_with views root.cuboids) root) (dropped_of views root.cuboids) w
+    → Makes c root (roots.with_cuboids (said_with root.layout views root.cuboids) root) (dropped_of views root.cuboids)
+    w
     (with_views w views)
 makes_viewed c root w views few = record {
   represents = λ represents same.
-      made_so c w (with_views w views) (roots.with_cuboids (said_with views root.cuboids) root) (dropped_ids w views)
+      made_so c w (with_views w views) (roots.with_cuboids (said_with root.layout views root.cuboids) root)
+      (dropped_ids w views)
       (dropped_of views root.cuboids) represents
       (viewed_root root w views same) (sym (viewed_drops root w views same))
       (represents_chosen c w views represents few);
@@ -151,11 +153,11 @@ makes_target c root next w batches next_is batches_are =
 
 pub makes_views : (c : Content) (root next : PlainRoot) (w : Warehouse) (views : List View) (drops : List ℕ)
     → length views ≤ most_cuboids
-    → next ≡ roots.with_cuboids (said_with views root.cuboids) root → drops ≡ dropped_of views root.cuboids
+    → next ≡ roots.with_cuboids (said_with root.layout views root.cuboids) root → drops ≡ dropped_of views root.cuboids
     → Makes c root next drops w (with_views w views)
 makes_views c root next w views drops few next_is drops_are =
     subst (λ (r : PlainRoot). Makes c root r drops w (with_views w views)) (sym next_is)
-    (subst (λ (d : List ℕ). Makes c root (roots.with_cuboids (said_with views root.cuboids) root) d w
+    (subst (λ (d : List ℕ). Makes c root (roots.with_cuboids (said_with root.layout views root.cuboids) root) d w
     (with_views w views)) (sym drops_are) (makes_viewed c root w views few))
 
 all_range : (P : ℕ → Type 0) (a n : ℕ) → ((k : ℕ) → k < n → P (a + k)) → All P (range_with_len a n)

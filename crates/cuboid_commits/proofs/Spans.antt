@@ -12,7 +12,7 @@ use Rattle.cuboid_cells.specs.declared.span.Span.{Span}
 use Rattle.cuboid_cells.specs.Spelled.{IsSpan}
 use Rattle.cuboid_cells.specs.Steps.{cells_of}
 use Rattle.cuboid_upkeep.specs.Grouping.{HasMembers, RepresentRows}
-use Rattle.warehouse_objects.specs.Warehouse.{Cuboid, StoredRun, Warehouse, modes_of}
+use Rattle.warehouse_objects.specs.Warehouse.{Cuboid, StoredRun, Warehouse, ship_modes_of}
 use Rattle.warehouse_objects.specs.Represents.{Follow, HoldsGroupings, rows_in}
 
 take_split : {A : Type 0} (xs : List A) (from to : ℕ) → from ≤ to → take to xs ≡ take from xs ++ drop from (take to xs)
@@ -33,31 +33,33 @@ rows_split batches span order =
 -- the rows of a cuboid's batches have their members
 module _ (w : Warehouse) (view : View) where
   abbrev Known : List LineOrder → Type 0
-  Known rows = All (HasMembers w.rows (modes_of w) view) rows
+  Known rows = All (HasMembers w.rows (ship_modes_of w) view) rows
 
   runs_known : (from : ℕ) (runs : List StoredRun) (mark : ℕ) → Follow from runs mark → All (λ run. IsSpan run.span) runs
-      → All (λ run. RepresentRows w.rows (modes_of w) (rows_in w.batches run.span) (cells_of view run.cells)) runs
+      → All (λ run. RepresentRows w.rows (ship_modes_of w) (rows_in w.batches run.span) (cells_of view run.cells)) runs
       → Known (all_rows (take from w.batches)) → Known (all_rows (take mark w.batches))
   runs_known from [] mark follow spans groupings so_far =
       subst (λ (n : ℕ). Known (all_rows (take n w.batches))) (sym follow) so_far
   runs_known from (run ∷ runs) mark follow spans groupings so_far =
       let span = All-head (λ r. IsSpan r.span) run runs spans in
-      let own = All-head (λ r. RepresentRows w.rows (modes_of w) (rows_in w.batches r.span) (cells_of view r.cells)) run
+      let own = All-head
+      (λ r. RepresentRows w.rows (ship_modes_of w) (rows_in w.batches r.span) (cells_of view r.cells)) run
       runs groupings in
       let before : Known (all_rows (take run.span.from w.batches)) =
       subst (λ (n : ℕ). Known (all_rows (take n w.batches))) (sym follow.0) so_far in
       runs_known run.span.to runs mark follow.1 (All-tail (λ r. IsSpan r.span) run runs spans)
-      (All-tail (λ r. RepresentRows w.rows (modes_of w) (rows_in w.batches r.span) (cells_of view r.cells)) run runs
+      (All-tail (λ r. RepresentRows w.rows (ship_modes_of w) (rows_in w.batches r.span) (cells_of view r.cells)) run
+      runs
       groupings)
       (subst Known (sym (rows_split w.batches run.span (omega (arith, span.some))))
-      (All-append (HasMembers w.rows (modes_of w) view) (all_rows (take run.span.from w.batches))
+      (All-append (HasMembers w.rows (ship_modes_of w) view) (all_rows (take run.span.from w.batches))
       (rows_in w.batches run.span) before own.known))
 
 pub cuboid_known : (w : Warehouse) (cuboid : Cuboid) → HoldsGroupings w cuboid
-    → All (HasMembers w.rows (modes_of w) cuboid.view) (all_rows (take cuboid.mark w.batches))
+    → All (HasMembers w.rows (ship_modes_of w) cuboid.view) (all_rows (take cuboid.mark w.batches))
 cuboid_known w cuboid holds =
     runs_known w cuboid.view 0 cuboid.runs cuboid.mark holds.laid.follow holds.laid.spans holds.groupings
-    (All-nil (HasMembers w.rows (modes_of w) cuboid.view))
+    (All-nil (HasMembers w.rows (ship_modes_of w) cuboid.view))
 
 -- a run after others goes on where they end
 pub follow_more : (from : ℕ) (runs : List StoredRun) (mark : ℕ) (run : StoredRun) → Follow from runs mark

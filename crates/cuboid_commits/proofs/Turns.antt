@@ -6,17 +6,17 @@ use Rattle.std.proofs.lemmas.Bool.{cases_eq, cases_lt}
 use Rattle.std.proofs.lemmas.Option.{slice_get-get_or}
 use Rattle.cube_model.specs.Admission.{all_rows}
 use Rattle.cube_model.specs.declared.rows.DimRows.{DimRows}
-use Rattle.cube_model.specs.declared.rows.LineOrder.{LineOrder}
 use Rattle.lattice.specs.declared.view.View.{View}
 use Rattle.lattice.specs.Views.{index_of}
 use Rattle.object_store.specs.Content.{Content}
 use Rattle.object_store.specs.Disk.{Disk, Leaves}
 use Rattle.object_store.specs.Moments.{leaves_then, leaves_weaker}
 use Rattle.cuboid_upkeep.specs.Steps.{HaveTooMany}
+use Rattle.warehouse_root.specs.Modes.{kept_modes}
 use Rattle.warehouse_root.specs.Root.{AreAscending}
 use Rattle.warehouse_objects.specs.Facts.{Facts}
-use Rattle.warehouse_objects.specs.Warehouse.{Cuboid, Warehouse, cuboid_at}
-use Rattle.warehouse_objects.specs.Represents.{Represents, said_of}
+use Rattle.warehouse_objects.specs.Warehouse.{Cuboid, Warehouse, cuboid_at, ship_modes_of}
+use Rattle.warehouse_objects.specs.Represents.{AreItsMembers, Represents, said_of}
 use Rattle.cuboid_commits.specs.Keeping.{AreKeptOn, IsCaughtUp, IsDone, IsKeptUp, IsReached, IsReachedOrLarge}
 use Rattle.cuboid_commits.specs.Keeping.{IsTooLarge}
 use Rattle.cuboid_commits.proofs.Places.{not_below, own_view}
@@ -45,11 +45,20 @@ kept_then a b c first second = record {
 }
 
 -- the rows and the batches stay
-pub rows_kept : (w v : Warehouse) → IsKeptUp w v → v.rows ≡ w.rows
+rows_kept : (w v : Warehouse) → IsKeptUp w v → v.rows ≡ w.rows
 rows_kept w v kept = ap (λ (facts : Facts). facts.rows) kept.facts
 
 pub batches_kept : (w v : Warehouse) → IsKeptUp w v → v.batches ≡ w.batches
 batches_kept w v kept = ap (λ (facts : Facts). facts.batches) kept.facts
+
+-- so do the ship modes
+pub members_kept : (w v : Warehouse) (rows : DimRows) (modes : List (List ℕ)) → IsKeptUp w v
+    → AreItsMembers w rows modes → AreItsMembers v rows modes
+members_kept w v rows modes kept are = record {
+  rows = are.rows ∙ sym (rows_kept w v kept);
+  modes = are.modes
+      ∙ ap (λ (facts : Facts). kept_modes facts.layout (all_rows facts.batches)) (sym kept.facts);
+}
 
 pub same : (w : Warehouse) → IsCaughtUp w w
 same w = record { kept = kept_same w; target = refl }
@@ -85,11 +94,10 @@ is_there (x ∷ xs) (y ∷ ys) (suc place) old on is = is_there xs ys place old 
 -- what is too large stays so
 pub still_large : (w v : Warehouse) (view : View) → IsCaughtUp w v → IsTooLarge w view → IsTooLarge v view
 still_large w v view caught large =
-    subst (λ (rows : DimRows). HaveTooMany rows [] view (all_rows (take v.target v.batches)))
-    (sym (rows_kept w v caught.kept))
-    (subst (λ (batches : List (List LineOrder)). HaveTooMany w.rows [] view (all_rows (take v.target batches)))
-    (sym (batches_kept w v caught.kept))
-    (subst (λ (target : ℕ). HaveTooMany w.rows [] view (all_rows (take target w.batches))) (sym caught.target) large))
+    subst (λ (facts : Facts). HaveTooMany facts.rows (kept_modes facts.layout (all_rows facts.batches)) view
+    (all_rows (take v.target facts.batches))) (sym caught.kept.facts)
+    (subst (λ (target : ℕ). HaveTooMany w.rows (ship_modes_of w) view (all_rows (take target w.batches)))
+    (sym caught.target) large)
 
 -- the first cuboid that was passed over, among the first so many
 pub record IsFirstPassed (count : ℕ) (view : View) (w : Warehouse) : Type 0 where

@@ -4,6 +4,7 @@ use Rattle.std.proofs.Common.{ap, subst, arith}
 use Rattle.std.proofs.lemmas.List.{length-map}
 use Rattle.cube_model.specs.declared.fault.Fault.{Fault}
 use Rattle.cube_model.specs.declared.fault.Fault.TheVariants.{Memory}
+use Rattle.cube_model.specs.declared.rows.DimRows.{DimRows}
 use Rattle.cube_model.specs.declared.rows.LineOrder.{LineOrder}
 use Rattle.lattice.specs.declared.view.View.{View}
 use Rattle.object_store.specs.Content.{Content}
@@ -11,7 +12,7 @@ use Rattle.object_store.specs.Disk.{Disk, Leaves}
 use Rattle.object_store.specs.Moments.{leaves_then, leaves_weaker}
 use Rattle.object_store.proofs.Lists.{All-unmap}
 use Rattle.warehouse_root.specs.Root.{IsProperCuboid, PlainRoot}
-use Rattle.warehouse_objects.specs.Represents.{Represents, root_of, said_of}
+use Rattle.warehouse_objects.specs.Represents.{AreItsMembers, Represents, root_of, said_of}
 use Rattle.warehouse_objects.specs.Warehouse.{Warehouse, aimed}
 use Rattle.cuboid_commits.specs.Keeping.{IsCaughtUp, IsDone, IsKeptUp}
 use Rattle.cuboid_commits.specs.Upkeep.{AreWhole, AreWholeBut}
@@ -23,6 +24,10 @@ memory_or fault = inr (λ e. cc)
 
 pub kept_aimed : (w : Warehouse) → IsKeptUp w (aimed w)
 kept_aimed w = record { facts = refl; cuboids = (kept_same w).cuboids }
+
+pub members_aimed : (w : Warehouse) (rows : DimRows) (modes : List (List ℕ)) → AreItsMembers w rows modes
+    → AreItsMembers (aimed w) rows modes
+members_aimed w rows modes are = record { rows = are.rows; modes = are.modes }
 
 -- the target is none of what is kept
 pub from_aimed : (w v : Warehouse) → IsCaughtUp (aimed w) v → IsKeptUp w v

@@ -9,7 +9,7 @@ use Rattle.lattice.specs.Views.{index_of}
 use Rattle.cuboid_upkeep.specs.Steps.{HaveTooMany}
 use Rattle.warehouse_root.specs.Root.{PlainRoot}
 use Rattle.warehouse_objects.specs.Facts.{facts_in}
-use Rattle.warehouse_objects.specs.Warehouse.{Cuboid, Warehouse, cuboid_at, modes_of}
+use Rattle.warehouse_objects.specs.Warehouse.{Cuboid, Warehouse, cuboid_at, ship_modes_of}
 use Rattle.warehouse_objects.specs.Represents.{Represents, root_of}
 
 -- a store represents a warehouse, and its root is kept in memory
@@ -37,7 +37,7 @@ pub record IsCaughtUp (old new : Warehouse) : Type 0 where
 
 -- the grouping of the first batches, as many as cuboids are to hold, by a view has more cells than a cuboid can have
 abbrev pub IsTooLarge : Warehouse → View → Type 0
-IsTooLarge w view = HaveTooMany w.rows (modes_of w) view (all_rows (take w.target w.batches))
+IsTooLarge w view = HaveTooMany w.rows (ship_modes_of w) view (all_rows (take w.target w.batches))
 
 -- a cuboid holds as many batches as it is to, or its view is too large
 abbrev pub IsReachedOrLarge : Warehouse → Cuboid → Type 0

@@ -11,7 +11,7 @@ ghost use Rattle.object_store.specs.Store.{room_of};
 ghost use Rattle.lattice.specs.Views.{index_of};
 ghost use Rattle.warehouse_root.specs.Root.{IsProperCuboid, IsRoot};
 ghost use Rattle.warehouse_objects.specs.Loaded.{IsLoaded};
-ghost use Rattle.warehouse_objects.specs.Represents.{Represents};
+ghost use Rattle.warehouse_objects.specs.Represents.{AreItsMembers, Represents};
 ghost use Rattle.warehouse_objects.specs.Warehouse.{Cuboid, Warehouse};
 ghost use Rattle.cuboid_commits.specs.Keeping.{IsCaughtUp, IsReached, StoreAt};
 ghost use Rattle.cuboid_commits.specs.Nexts.{EndsBringing, IsBroughtBy, RefusesNext, first_run};
@@ -24,6 +24,7 @@ use lattice::View;
 use object_store::Store;
 use sector_device::Sectors;
 use std::alloc::Global;
+use warehouse_objects::ShipModes;
 use warehouse_root::{Root, StoredCuboid};
 use wire::limits::MOST_OBJECTS;
 
@@ -33,40 +34,42 @@ pub(crate) fn bring_on<D: Sectors>(
     alloc: Global,
     store: &mut Store<D>,
     dims: &Dims,
+    modes: &ShipModes,
     root: &mut Root,
     place: usize,
 ) -> Result<Option<View>, Fault>
     requires fine { has_failed store.old ≡ false }
     requires place { place < length root.old.cuboids }
     ensures leaves { (w : Warehouse) → StoreAt D.Sectors store.old root.old w
-        → (D.keeps_word (device_of store.old) → dims.now ≡ w.rows)
+        → (D.keeps_word (device_of store.old) → AreItsMembers w dims.now modes.now)
         → Leaves (disk_of D.Sectors store.old) (disk_of D.Sectors store.new)
         (λ c. (v : Warehouse) × IsCaughtUp w v × Represents c v) }
     ensures stays { (IsErrOf result Device → ⊥) → (w : Warehouse) → StoreAt D.Sectors store.old root.old w
-        → (D.keeps_word (device_of store.old) → dims.now ≡ w.rows)
+        → (D.keeps_word (device_of store.old) → AreItsMembers w dims.now modes.now)
         → (v : Warehouse) × IsCaughtUp w v × StoreAt D.Sectors store.new root.new v }
     ensures reached { IfOk result (λ passed. (v : Warehouse) → StoreAt D.Sectors store.new root.new v
-        → D.keeps_word (device_of store.new) → dims.now ≡ v.rows
+        → D.keeps_word (device_of store.new) → AreItsMembers v dims.now modes.now
         → (cuboid : Cuboid) → slice_get v.cuboids place ≡ Some cuboid → IsReached passed v cuboid) }
     ensures many { length root.new.cuboids ≡ length root.old.cuboids }
     ensures fine { OnOk result (has_failed store.new ≡ false) }
     ensures failures { OnOk result ((disk_of D.Sectors store.new).failures ≡ (disk_of D.Sectors store.old).failures) }
     ensures reason { IfErr result (λ fault. fault ≢ Device → fault ≢ Memory → D.keeps_word (device_of store.new)
         → (w : Warehouse)
-        → StoreAt D.Sectors store.old root.old w → (D.keeps_word (device_of store.old) → dims.now ≡ w.rows)
+        → StoreAt D.Sectors store.old root.old w
+        → (D.keeps_word (device_of store.old) → AreItsMembers w dims.now modes.now)
         → (next : RefusesNext D.Sectors store.new w fault) × (slice_get w.cuboids place ≡ Some next.old)) }
     ensures refused { IfErr result (λ fault. fault ≢ Device → (w : Warehouse) → StoreAt D.Sectors store.old root.old w
         → StoreAt D.Sectors store.new root.new w) }
     ensures readable { IsErrOf result BadLayout → D.keeps_word (device_of store.new) → (w : Warehouse)
         → StoreAt D.Sectors store.old root.old w
-        → (D.keeps_word (device_of store.old) → dims.now ≡ w.rows) → ⊥ }
+        → (D.keeps_word (device_of store.old) → AreItsMembers w dims.now modes.now) → ⊥ }
     ensures causes { IfErr result EndsBringing }
     ensures failed { IsErrOf result Failed → ⊥ }
     ensures device { IsErrOf result Device → Breaks D.Sectors store.old store.new }
     ensures loaded { has_failed store.new ≡ false → D.keeps_word (device_of store.new)
-        → (rows : DimRows) (modes : List (List ℕ))
-        → IsLoaded (content_of D.Sectors store.old) rows modes root.old
-        → IsLoaded (content_of D.Sectors store.new) rows modes root.new }
+        → (rows : DimRows) (kept : List (List ℕ))
+        → IsLoaded (content_of D.Sectors store.old) rows kept root.old
+        → IsLoaded (content_of D.Sectors store.new) rows kept root.new }
     ensures word { D.keeps_word (device_of store.new) → D.keeps_word (device_of store.old) }
 {
     let _usable = store.is_broken();
@@ -74,7 +77,7 @@ pub(crate) fn bring_on<D: Sectors>(
     if root.target() <= cuboid.mark {
         return Ok(None);
     }
-    match next_of(alloc, store, dims, root, cuboid, view) {
+    match next_of(alloc, store, dims, modes, root, cuboid, view) {
         Ok(next) => match put_next(alloc, store, root, next) {
             Ok(()) => Ok(None),
             Err(fault) => Err(fault),

@@ -6,7 +6,7 @@ ghost use Rattle.cube_model.specs.declared.rows.DimRows.{DimRows};
 ghost use Rattle.object_store.specs.Disk.{Leaves};
 ghost use Rattle.object_store.specs.Store.{content_of, device_of, disk_of, has_failed};
 ghost use Rattle.warehouse_objects.specs.Loaded.{IsLoaded};
-ghost use Rattle.warehouse_objects.specs.Represents.{Represents};
+ghost use Rattle.warehouse_objects.specs.Represents.{AreItsMembers, Represents};
 ghost use Rattle.warehouse_objects.specs.Warehouse.{Warehouse};
 ghost use Rattle.cuboid_commits.specs.Keeping.{IsCaughtUp, IsDone, StoreAt};
 ghost use Rattle.cuboid_commits.specs.Nexts.{EndsBringing, RefusesLeast};
@@ -18,6 +18,7 @@ use lattice::View;
 use object_store::Store;
 use sector_device::Sectors;
 use std::alloc::Global;
+use warehouse_objects::ShipModes;
 use warehouse_root::Root;
 
 /// Brings each stored cuboid to the target, by ascending view and in one commit each. A view whose cuboid would have
@@ -30,32 +31,33 @@ pub fn catch_up<D: Sectors>(
     alloc: Global,
     store: &mut Store<D>,
     dims: &Dims,
+    modes: &ShipModes,
     root: &mut Root,
 ) -> Result<Option<View>, Fault>
     requires fine { has_failed store.old ≡ false }
 
     // A crash at any point leaves the warehouse with the cuboids that were brought on until then.
     ensures leaves { (w : Warehouse) → StoreAt D.Sectors store.old root.old w
-        → (D.keeps_word (device_of store.old) → dims.now ≡ w.rows)
+        → (D.keeps_word (device_of store.old) → AreItsMembers w dims.now modes.now)
         → Leaves (disk_of D.Sectors store.old) (disk_of D.Sectors store.new)
         (λ c. (v : Warehouse) × IsCaughtUp w v × Represents c v) }
     ensures stays { (IsErrOf result Device → ⊥) → (w : Warehouse) → StoreAt D.Sectors store.old root.old w
-        → (D.keeps_word (device_of store.old) → dims.now ≡ w.rows)
+        → (D.keeps_word (device_of store.old) → AreItsMembers w dims.now modes.now)
         → (v : Warehouse) × IsCaughtUp w v × StoreAt D.Sectors store.new root.new v }
     ensures ok { IfOk result (λ passed. (w : Warehouse) → StoreAt D.Sectors store.old root.old w
-        → (D.keeps_word (device_of store.old) → dims.now ≡ w.rows)
+        → (D.keeps_word (device_of store.old) → AreItsMembers w dims.now modes.now)
         → (v : Warehouse) × IsCaughtUp w v × StoreAt D.Sectors store.new root.new v
         × (D.keeps_word (device_of store.new) → IsDone v passed)) }
 
     // The store refused the commit that brings the least of the others on.
     ensures reason { IfErr result (λ fault. fault ≢ Device → fault ≢ Memory → (w : Warehouse)
         → StoreAt D.Sectors store.old root.old w
-        → (D.keeps_word (device_of store.old) → dims.now ≡ w.rows)
+        → (D.keeps_word (device_of store.old) → AreItsMembers w dims.now modes.now)
         → (v : Warehouse) × IsCaughtUp w v × StoreAt D.Sectors store.new root.new v
         × (D.keeps_word (device_of store.new) → RefusesLeast D.Sectors store.new v fault)) }
     ensures readable { IsErrOf result BadLayout → D.keeps_word (device_of store.new) → (w : Warehouse)
         → StoreAt D.Sectors store.old root.old w
-        → (D.keeps_word (device_of store.old) → dims.now ≡ w.rows) → ⊥ }
+        → (D.keeps_word (device_of store.old) → AreItsMembers w dims.now modes.now) → ⊥ }
     ensures causes { IfErr result EndsBringing }
     ensures failed { IsErrOf result Failed → ⊥ }
     ensures device { IsErrOf result Device → (has_failed store.new ≡ true)
@@ -63,9 +65,9 @@ pub fn catch_up<D: Sectors>(
 
     // What is kept in memory stays that of the content.
     ensures loaded { has_failed store.new ≡ false → D.keeps_word (device_of store.new)
-        → (rows : DimRows) (modes : List (List ℕ))
-        → IsLoaded (content_of D.Sectors store.old) rows modes root.old
-        → IsLoaded (content_of D.Sectors store.new) rows modes root.new }
+        → (rows : DimRows) (kept : List (List ℕ))
+        → IsLoaded (content_of D.Sectors store.old) rows kept root.old
+        → IsLoaded (content_of D.Sectors store.new) rows kept root.new }
     ensures word { D.keeps_word (device_of store.new) → D.keeps_word (device_of store.old) }
 {
     let _usable = store.is_broken();
@@ -73,7 +75,7 @@ pub fn catch_up<D: Sectors>(
     let count = root.cuboids().len();
     let mut first = None;
     for place in 0..count {
-        match bring_on(alloc, store, dims, root, place) {
+        match bring_on(alloc, store, dims, modes, root, place) {
             Ok(passed) => first = first.or(passed),
             Err(fault) => return Err(fault),
         }

@@ -10,8 +10,8 @@ ghost use Rattle.cuboid_upkeep.specs.Grouping.{RepresentRows};
 ghost use Rattle.cuboid_upkeep.specs.Steps.{HaveTooMany};
 ghost use Rattle.warehouse_root.specs.Root.{IsProperCuboid};
 ghost use Rattle.warehouse_objects.specs.Reads.{ReadsOnly};
-ghost use Rattle.warehouse_objects.specs.Represents.{Represents, rows_in, said_of};
-ghost use Rattle.warehouse_objects.specs.Warehouse.{Cuboid, Warehouse, cuboid_at, modes_of};
+ghost use Rattle.warehouse_objects.specs.Represents.{AreItsMembers, Represents, rows_in, said_of};
+ghost use Rattle.warehouse_objects.specs.Warehouse.{Cuboid, Warehouse, cuboid_at, ship_modes_of};
 ghost use Rattle.cuboid_commits.specs.Keeping.{IsTooLarge};
 ghost use Rattle.cuboid_commits.specs.Nexts.{HasStored, IsNext};
 
@@ -29,6 +29,7 @@ use object_store::Store;
 use sector_device::Sectors;
 use std::alloc::Global;
 use stored_cuboids::merged_runs;
+use warehouse_objects::ShipModes;
 use warehouse_root::{Root, StoredCuboid};
 
 // What brings a cuboid of a view on to the target: the next run of it, with the cells of the batches after its mark.
@@ -40,6 +41,7 @@ pub(crate) fn next_of<D: Sectors>(
     alloc: Global,
     store: &mut Store<D>,
     dims: &Dims,
+    modes: &ShipModes,
     root: &Root,
     cuboid: StoredCuboid,
     view: View,
@@ -51,14 +53,15 @@ pub(crate) fn next_of<D: Sectors>(
     requires within { root.now.target ≤ length root.now.batches }
     ensures ok { IfOk result
         (IsNext (λ w. D.keeps_word (device_of store.new) × Represents (content_of D.Sectors store.old) w
-        × (dims.now ≡ w.rows))
+        × AreItsMembers w dims.now modes.now)
         root.now cuboid root.now.target) }
     ensures large { IsErrOf result (TooManyCells (index_of view)) → D.keeps_word (device_of store.new)
         → (w : Warehouse) (stored : Cuboid)
-        → Represents (content_of D.Sectors store.old) w → HasStored root.now cuboid w stored → dims.now ≡ w.rows
-        → IsTooLarge w view }
+        → Represents (content_of D.Sectors store.old) w → HasStored root.now cuboid w stored
+        → AreItsMembers w dims.now modes.now → IsTooLarge w view }
     ensures refused { IsErrOf result BadLayout → D.keeps_word (device_of store.new) → (w : Warehouse) (stored : Cuboid)
-        → Represents (content_of D.Sectors store.old) w → HasStored root.now cuboid w stored → dims.now ≡ w.rows → ⊥ }
+        → Represents (content_of D.Sectors store.old) w → HasStored root.now cuboid w stored
+        → AreItsMembers w dims.now modes.now → ⊥ }
 
     // The content stays, at each moment.
     ensures reads { ReadsOnly D.Sectors store.old store.new result }
@@ -73,7 +76,7 @@ pub(crate) fn next_of<D: Sectors>(
         from: cuboid.mark,
         to: root.target(),
     };
-    match cells_of_batches(alloc, store, root, dims, view, span) {
+    match cells_of_batches(alloc, store, root, dims, modes, view, span) {
         Ok(tail) => next_run(alloc, store, root, cuboid, &tail, span),
         Err(fault) => Err(fault),
     }
@@ -97,15 +100,15 @@ fn next_run<D: Sectors>(
     requires to { span.to ≤ length root.now.batches }
     ensures ok { IfOk result
         (IsNext (λ w. D.keeps_word (device_of store.new) × Represents (content_of D.Sectors store.old) w
-        × RepresentRows w.rows (modes_of w) (rows_in w.batches span) tail.now) root.now cuboid span.to) }
+        × RepresentRows w.rows (ship_modes_of w) (rows_in w.batches span) tail.now) root.now cuboid span.to) }
     ensures large { IsErrOf result (TooManyCells (index_of tail.now.view)) → D.keeps_word (device_of store.new)
         → (w : Warehouse) (stored : Cuboid)
         → Represents (content_of D.Sectors store.old) w → HasStored root.now cuboid w stored
-        → RepresentRows w.rows (modes_of w) (rows_in w.batches span) tail.now
-        → HaveTooMany w.rows (modes_of w) tail.now.view (all_rows (take span.to w.batches)) }
+        → RepresentRows w.rows (ship_modes_of w) (rows_in w.batches span) tail.now
+        → HaveTooMany w.rows (ship_modes_of w) tail.now.view (all_rows (take span.to w.batches)) }
     ensures refused { IsErrOf result BadLayout → D.keeps_word (device_of store.new) → (w : Warehouse) (stored : Cuboid)
         → Represents (content_of D.Sectors store.old) w → HasStored root.now cuboid w stored
-        → RepresentRows w.rows (modes_of w) (rows_in w.batches span) tail.now → ⊥ }
+        → RepresentRows w.rows (ship_modes_of w) (rows_in w.batches span) tail.now → ⊥ }
     ensures reads { ReadsOnly D.Sectors store.old store.new result }
     ensures causes { IfErr result
         (λ fault. (fault ≡ Memory)
@@ -135,20 +138,21 @@ fn merged_with<D: Sectors>(
         → (w : Warehouse) (stored : Cuboid) (rows : List LineOrder)
         → Represents (content_of D.Sectors store.old) w → cuboid_at cuboid.view w.cuboids ≡ Some stored
         → said_of stored ≡ cuboid
-        → RepresentRows w.rows (modes_of w) rows tail.now
-        → RepresentRows w.rows (modes_of w) (all_rows (take cuboid.mark w.batches) ++ rows) cells) }
+        → RepresentRows w.rows (ship_modes_of w) rows tail.now
+        → RepresentRows w.rows (ship_modes_of w) (all_rows (take cuboid.mark w.batches) ++ rows) cells) }
     ensures view { IfOk result (λ cells. cells.view ≡ tail.now.view) }
     ensures large { IsErrOf result (TooManyCells (index_of tail.now.view)) → D.keeps_word (device_of store.new)
         → (w : Warehouse) (stored : Cuboid) (rows : List LineOrder)
         → Represents (content_of D.Sectors store.old) w → cuboid_at cuboid.view w.cuboids ≡ Some stored
         → said_of stored ≡ cuboid
-        → RepresentRows w.rows (modes_of w) rows tail.now
-        → HaveTooMany w.rows (modes_of w) tail.now.view (all_rows (take cuboid.mark w.batches) ++ rows) }
+        → RepresentRows w.rows (ship_modes_of w) rows tail.now
+        → HaveTooMany w.rows (ship_modes_of w) tail.now.view (all_rows (take cuboid.mark w.batches) ++ rows) }
     ensures refused { IsErrOf result BadLayout → D.keeps_word (device_of store.new)
         → (w : Warehouse) (stored : Cuboid) (rows : List LineOrder)
         → Represents (content_of D.Sectors store.old) w → cuboid_at cuboid.view w.cuboids ≡ Some stored
         → said_of stored ≡ cuboid
-        → RepresentRows w.rows (modes_of w) rows tail.now → AreInRange (all_rows (take cuboid.mark w.batches) ++ rows)
+        → RepresentRows w.rows (ship_modes_of w) rows tail.now
+        → AreInRange (all_rows (take cuboid.mark w.batches) ++ rows)
         → length (all_rows (take cuboid.mark w.batches) ++ rows) < 2 ^ 63 → ⊥ }
     ensures reads { ReadsOnly D.Sectors store.old store.new result }
     ensures causes { IfErr result

@@ -5,7 +5,7 @@ ghost use Rattle.cube_model.specs.declared.rows.DimRows.{DimRows};
 ghost use Rattle.object_store.specs.Disk.{Leaves};
 ghost use Rattle.object_store.specs.Store.{Breaks, content_of, device_of, disk_of, has_failed};
 ghost use Rattle.warehouse_objects.specs.Loaded.{IsLoaded};
-ghost use Rattle.warehouse_objects.specs.Represents.{Represents};
+ghost use Rattle.warehouse_objects.specs.Represents.{AreItsMembers, Represents};
 ghost use Rattle.warehouse_objects.specs.Warehouse.{Warehouse};
 ghost use Rattle.cuboid_commits.specs.Keeping.{IsKeptUp, StoreAt};
 ghost use Rattle.cuboid_commits.specs.Upkeep.{AreWholeBut, KeepUpRefuses};
@@ -18,6 +18,7 @@ use lattice::View;
 use object_store::Store;
 use sector_device::Sectors;
 use std::alloc::Global;
+use warehouse_objects::ShipModes;
 use warehouse_root::{Root, StoredCuboid};
 
 /// Brings each stored cuboid to all batches: where some mark is less than their count, one commit sets the target to
@@ -30,26 +31,27 @@ pub fn keep_up<D: Sectors>(
     alloc: Global,
     store: &mut Store<D>,
     dims: &Dims,
+    modes: &ShipModes,
     root: &mut Root,
 ) -> Result<Option<View>, Fault>
     requires fine { has_failed store.old ≡ false }
 
     // A crash leaves the same rows, batches and views, and no mark less.
     ensures leaves { (w : Warehouse) → StoreAt D.Sectors store.old root.old w
-        → (D.keeps_word (device_of store.old) → dims.now ≡ w.rows)
+        → (D.keeps_word (device_of store.old) → AreItsMembers w dims.now modes.now)
         → Leaves (disk_of D.Sectors store.old) (disk_of D.Sectors store.new)
         (λ c. (v : Warehouse) × IsKeptUp w v × Represents c v) }
     ensures stays { (IsErrOf result Device → ⊥) → (w : Warehouse) → StoreAt D.Sectors store.old root.old w
-        → (D.keeps_word (device_of store.old) → dims.now ≡ w.rows)
+        → (D.keeps_word (device_of store.old) → AreItsMembers w dims.now modes.now)
         → (v : Warehouse) × IsKeptUp w v × StoreAt D.Sectors store.new root.new v }
     ensures ok { IfOk result (λ passed. (w : Warehouse) → StoreAt D.Sectors store.old root.old w
-        → (D.keeps_word (device_of store.old) → dims.now ≡ w.rows)
+        → (D.keeps_word (device_of store.old) → AreItsMembers w dims.now modes.now)
         → (v : Warehouse) × IsKeptUp w v × StoreAt D.Sectors store.new root.new v
         × (D.keeps_word (device_of store.new) → AreWholeBut v passed)) }
 
     // Or a commit on the way was refused.
     ensures refused { IfErr result (λ fault. fault ≢ Device → (w : Warehouse) → StoreAt D.Sectors store.old root.old w
-        → (D.keeps_word (device_of store.old) → dims.now ≡ w.rows)
+        → (D.keeps_word (device_of store.old) → AreItsMembers w dims.now modes.now)
         → (v : Warehouse) × IsKeptUp w v × StoreAt D.Sectors store.new root.new v
         × (D.keeps_word (device_of store.new) → KeepUpRefuses D.Sectors store.new v fault)) }
     ensures failed { IsErrOf result Failed → ⊥ }
@@ -57,9 +59,9 @@ pub fn keep_up<D: Sectors>(
 
     // What is kept in memory stays that of the content.
     ensures loaded { has_failed store.new ≡ false → D.keeps_word (device_of store.new)
-        → (rows : DimRows) (modes : List (List ℕ))
-        → IsLoaded (content_of D.Sectors store.old) rows modes root.old
-        → IsLoaded (content_of D.Sectors store.new) rows modes root.new }
+        → (rows : DimRows) (kept : List (List ℕ))
+        → IsLoaded (content_of D.Sectors store.old) rows kept root.old
+        → IsLoaded (content_of D.Sectors store.new) rows kept root.new }
     ensures word { D.keeps_word (device_of store.new) → D.keeps_word (device_of store.old) }
 {
     let _usable = store.is_broken();
@@ -70,7 +72,7 @@ pub fn keep_up<D: Sectors>(
     if let Err(fault) = aim(alloc, store, root) {
         return Err(fault);
     }
-    match catch_up(alloc, store, dims, root) {
+    match catch_up(alloc, store, dims, modes, root) {
         Ok(passed) => Ok(passed),
         Err(fault) => Err(fault),
     }

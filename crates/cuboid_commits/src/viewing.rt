@@ -21,10 +21,11 @@ use lattice::View;
 use object_store::Store;
 use sector_device::Sectors;
 use std::alloc::Global;
-use warehouse_root::{Layout, Root, StoredCuboid, push_run_ids};
+use warehouse_root::{Root, StoredCuboid, push_run_ids};
 
 /// Stores the cuboids of some views, and no others, in one commit: a stored cuboid of one of them stays as it is,
-/// another one holds no batch yet, and the target becomes 0. At most 16 views; those with ship mode are left out.
+/// another one holds no batch yet, and the target becomes 0. At most 16 views; those that the layout lacks are
+/// left out.
 ///
 /// `Full` where the store has no room, and `Worn` at the last generation: then all is as before, as it is where memory
 /// is missing. `Device` where the device fails.
@@ -88,11 +89,11 @@ pub fn set_views<D: Sectors>(
 // The root with the cuboids of some views, and no others.
 fn viewed(alloc: Global, root: &Root, views: &[View]) -> Result<Root, Fault>
     requires few { length views.now ≤ most_cuboids }
-    ensures ok { IfOk result (λ next. next ≡ roots.with_cuboids (said_with views.now root.now.cuboids) root.now) }
+    ensures ok { IfOk result (λ next. next
+        ≡ roots.with_cuboids (said_with root.now.layout views.now root.now.cuboids) root.now) }
     ensures memory { IfErr result (λ fault. fault ≡ Memory) }
 {
-    let _layout = root.layout();
-    let cuboids = said_below(alloc, Layout::First.views(), views, root.cuboids())?;
+    let cuboids = said_below(alloc, root.layout().views(), views, root.cuboids())?;
     root.with_cuboids(alloc, cuboids)
 }
 

@@ -16,6 +16,8 @@ mod Taken
 mod Existing
 mod Ascending
 mod Members
+mod OwnModes
+mod NoModes
 mod Rows
 mod Slots
 mod Tables

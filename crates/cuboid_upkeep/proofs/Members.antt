@@ -1,7 +1,6 @@
 -- The codes of a key.
 use Rattle.std.proofs.Common.{◌≡◌, ap, refl, ℕ, ◌<◌, Bool, true, false, cond, List, Option, Some, None, arith}
 use Rattle.std.specs.Prelude.{IfNone}
-use Rattle.cuboid_cells.specs.Cells.{IsModeCode}
 use Rattle.cuboid_upkeep.specs.Codes.{mode_code}
 use Rattle.cuboid_upkeep.proofs.Found.{other_key}
 use Rattle.cuboid_upkeep.specs.Numbers.{digit_of}
@@ -15,9 +14,6 @@ pub no_mode : (grouped : Bool) (modes : List (List ℕ)) (text : List ℕ) → g
     → 65535 ≡ mode_code grouped modes text
 no_mode true modes text none = absurd (cc none)
 no_mode false modes text none = refl
-
-pub own_mode : (grouped : Bool) → grouped ≡ false → IsModeCode grouped 65535
-own_mode grouped none = (λ same. none, λ is. refl)
 
 pub when_none : {A : Type 0} (o : Option A) (P : Type 0) → P → IfNone o P
 when_none None P p = p

@@ -72,24 +72,26 @@ module _ (size count : ℕ) (old new : List Cell) (free : Cell) (empty : count �
   resized_slots view members = subst (AreSlots view members 0) (sym resized) (all_free free unused view members 0 size)
 
 -- one key more
-pub one_key_more : (dimensions : DimRows) (view : View) (members : ViewMembers) (rows : List LineOrder) (place : ℕ)
+pub one_key_more : (dimensions : DimRows) (modes : List (List ℕ)) (view : View) (members : ViewMembers)
+    (rows : List LineOrder) (place : ℕ)
     (keys : List Key) (key : Key)
-    → AreRowKeys dimensions view members rows place keys → IsKeyOfRow dimensions view members (row_at rows place) key
-    → AreRowKeys dimensions view members rows (place + 1) (set keys place key)
-one_key_more dimensions view members rows place keys key so_far own = record {
+    → AreRowKeys dimensions modes view members rows place keys
+    → IsKeyOfRow dimensions modes view members (row_at rows place) key
+    → AreRowKeys dimensions modes view members rows (place + 1) (set keys place key)
+one_key_more dimensions modes view members rows place keys key so_far own = record {
   many = length-set keys place key ∙ so_far.many;
   each = λ k d before inside. by k d before (omega (arith, inside, length-set keys place key)) (cases_eq k place);
 }
   where
     by : (k : ℕ) (d : Key) → k < place + 1 → k < length keys → (k ≡ place) ⊎ (k ≡ place → ⊥)
-        → IsKeyOfRow dimensions view members (row_at rows k) (get_or (set keys place key) k d)
+        → IsKeyOfRow dimensions modes view members (row_at rows k) (get_or (set keys place key) k d)
     by k d before inside (inl same) =
-        subst (λ (n : ℕ). IsKeyOfRow dimensions view members (row_at rows n) (get_or (set keys place key) n d))
+        subst (λ (n : ℕ). IsKeyOfRow dimensions modes view members (row_at rows n) (get_or (set keys place key) n d))
         (sym same)
-        (subst (λ (one : Key). IsKeyOfRow dimensions view members (row_at rows place) one)
+        (subst (λ (one : Key). IsKeyOfRow dimensions modes view members (row_at rows place) one)
         (sym (get_or-set_same keys place key d (omega (arith, inside, same)))) own)
     by k d before inside (inr apart) =
-        subst (λ (one : Key). IsKeyOfRow dimensions view members (row_at rows k) one)
+        subst (λ (one : Key). IsKeyOfRow dimensions modes view members (row_at rows k) one)
         (sym (get_or-set_other keys place k key d apart))
         (so_far.each k d (omega (arith, before, apart)) inside)
 
@@ -117,12 +119,13 @@ one_number_more dimensions view members rows place numbers number so_far own = r
         (so_far.each k (omega (arith, before, apart)) inside)
 
 -- the key of a row among the keys of all
-pub own_key_in : (dimensions : DimRows) (view : View) (members : ViewMembers) (rows : List LineOrder) (place : ℕ)
+pub own_key_in : (dimensions : DimRows) (modes : List (List ℕ)) (view : View) (members : ViewMembers)
+    (rows : List LineOrder) (place : ℕ)
     → place < length rows → (keys : List Key) (key : Key)
     → ((d : Key) → place < length keys → key ≡ get_or keys place d)
-    → AreRowKeys dimensions view members rows (length rows) keys
-    → IsKeyOfRow dimensions view members (row_at rows place) key
-own_key_in dimensions view members rows place within keys key here are =
+    → AreRowKeys dimensions modes view members rows (length rows) keys
+    → IsKeyOfRow dimensions modes view members (row_at rows place) key
+own_key_in dimensions modes view members rows place within keys key here are =
     let inside : place < length keys = omega (arith, within, are.many) in
-    subst (IsKeyOfRow dimensions view members (row_at rows place)) (sym (here key inside))
+    subst (IsKeyOfRow dimensions modes view members (row_at rows place)) (sym (here key inside))
     (are.each place key within inside)

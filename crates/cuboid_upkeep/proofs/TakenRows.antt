@@ -50,14 +50,14 @@ key_is dimensions view row key cell own is =
 -- the number of a row is that of its key
 pub number_of_key : (dimensions : DimRows) (view : View) (members : ViewMembers) (row : LineOrder) (key : Key)
     (number : ℕ)
-    → IsKeyOfRow dimensions view members row key → IsNumberOfRow dimensions view members row number
+    → IsKeyOfRow dimensions [] view members row key → IsNumberOfRow dimensions view members row number
     → place_of members key ≡ number
 number_of_key dimensions view members row key number own fact = ap (place_of members) (own.is.is ∙ sym fact.own.is.is)
     ∙ sym fact.is
 
 module _ (dimensions : DimRows) (view : View) (members : ViewMembers) (no_modes : view.ship_mode ≡ false)
     (rows : List LineOrder) (place : ℕ) (within : place < length rows) (key : Key) (cell : Cell)
-    (own : IsKeyOfRow dimensions view members (row_at rows place) key)
+    (own : IsKeyOfRow dimensions [] view members (row_at rows place) key)
     (cell_is : IsRowCell (row_at rows place) key cell) where
   abbrev row : LineOrder
   row = row_at rows place
@@ -146,7 +146,7 @@ key_by_number one other fits fit same =
 pub key_there : (dimensions : DimRows) (view : View) (members : ViewMembers) → view.ship_mode ≡ false
     → (row : LineOrder) (number : ℕ) (slot : Cell)
     → IsNumberOfRow dimensions view members row number → IsAt view members number slot
-    → IsKeyOfRow dimensions view members row slot.key
+    → IsKeyOfRow dimensions [] view members row slot.key
 key_there dimensions view members no_modes row number slot fact at =
     let own = fact.own in
     let modes : fact.key.ship_mode ≡ slot.key.ship_mode = own.is.of.ship_mode.1 no_modes
@@ -154,5 +154,6 @@ key_there dimensions view members no_modes row number slot fact at =
     let alike : number_of fact.key ≡ number_of slot.key =
     (keys_follow view members fact.key slot.key own.is.of at.good.is_cell.key own.is.fits at.good.fits.key own.lies
     at.lies modes).1 (sym fact.is ∙ sym at.place_is) in
-    subst (IsKeyOfRow dimensions view members row) (key_by_number fact.key slot.key own.is.fits at.good.fits.key alike)
+    subst (IsKeyOfRow dimensions [] view members row)
+    (key_by_number fact.key slot.key own.is.fits at.good.fits.key alike)
     own

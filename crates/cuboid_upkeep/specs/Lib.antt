@@ -6,6 +6,7 @@ pub mod Keys
 pub mod Lawful
 pub mod MemberParts
 pub mod Members
+pub mod Modes
 pub mod Numbers
 pub mod Slots
 pub mod Representatives

@@ -1,5 +1,5 @@
 //! Grouping fact rows by their keys.
-ghost use Rattle.std.specs.Prelude.{◌≡◌, ◌⊎◌, [], length, IfErr, IfOk, OnOk};
+ghost use Rattle.std.specs.Prelude.{◌≡◌, ◌⊎◌, ℕ, List, [], length, IfErr, IfOk, OnOk};
 ghost use Rattle.cube_model.specs.declared.fault.Fault.{Fault};
 ghost use Rattle.cube_model.specs.declared.rows.DimRows.{DimRows};
 ghost use Rattle.lattice.specs.declared.view.View.{View};
@@ -26,13 +26,14 @@ pub(crate) fn group_rows<F: FactRows>(
     keys: &[Key],
     rows: &F,
 ) -> Result<Vec<Cell>, Fault>
-    ensures ok { IfOk result (λ cells. (dimensions : DimRows) (view : View) (members : ViewMembers)
-        → AreRowKeys dimensions view members (F.rows rows.now) (length (F.rows rows.now)) keys.now
-        → AreGrouped dimensions [] view (F.rows rows.now) cells.items) }
+    ensures ok { IfOk result
+        (λ cells. (dimensions : DimRows) (modes : List (List ℕ)) (view : View) (members : ViewMembers)
+        → AreRowKeys dimensions modes view members (F.rows rows.now) (length (F.rows rows.now)) keys.now
+        → AreGrouped dimensions modes view (F.rows rows.now) cells.items) }
     ensures refused { IfErr result (λ fault. (fault ≡ Fault.Memory) ⊎ ((fault ≡ Fault.BadLayout)
-        × ((dimensions : DimRows) (view : View) (members : ViewMembers)
-        → AreRowKeys dimensions view members (F.rows rows.now) (length (F.rows rows.now)) keys.now
-        → AreUnfit dimensions [] view (F.rows rows.now)))) }
+        × ((dimensions : DimRows) (modes : List (List ℕ)) (view : View) (members : ViewMembers)
+        → AreRowKeys dimensions modes view members (F.rows rows.now) (length (F.rows rows.now)) keys.now
+        → AreUnfit dimensions modes view (F.rows rows.now)))) }
 {
     let room = rows.count().min(ROOM);
     let mut numbers = IndexSet::with_capacity(alloc, room)?;
@@ -50,13 +51,13 @@ fn take_in_rows<F: FactRows>(
 ) -> Result<(), Fault>
     requires no_number { numbers.old.keys ≡ [] }
     requires no_cell { cells.old.items ≡ [] }
-    ensures ok { OnOk result ((dimensions : DimRows) (view : View) (members : ViewMembers)
-        → AreRowKeys dimensions view members (F.rows rows.now) (length (F.rows rows.now)) keys.now
-        → AreGrouped dimensions [] view (F.rows rows.now) cells.new.items) }
+    ensures ok { OnOk result ((dimensions : DimRows) (modes : List (List ℕ)) (view : View) (members : ViewMembers)
+        → AreRowKeys dimensions modes view members (F.rows rows.now) (length (F.rows rows.now)) keys.now
+        → AreGrouped dimensions modes view (F.rows rows.now) cells.new.items) }
     ensures refused { IfErr result (λ fault. (fault ≡ Fault.Memory) ⊎ ((fault ≡ Fault.BadLayout)
-        × ((dimensions : DimRows) (view : View) (members : ViewMembers)
-        → AreRowKeys dimensions view members (F.rows rows.now) (length (F.rows rows.now)) keys.now
-        → AreUnfit dimensions [] view (F.rows rows.now)))) }
+        × ((dimensions : DimRows) (modes : List (List ℕ)) (view : View) (members : ViewMembers)
+        → AreRowKeys dimensions modes view members (F.rows rows.now) (length (F.rows rows.now)) keys.now
+        → AreUnfit dimensions modes view (F.rows rows.now)))) }
 {
     for place in 0..rows.count() {
         let key = key_at(keys, place);

@@ -1,9 +1,11 @@
 //! The cells of a view that grow with the fact rows.
 ghost use Rattle.std.specs.Prelude.{◌≡◌, ◌≤◌, ◌++◌, [], List, IfErr, IfOk, OnOk, length};
+ghost use Rattle.std.specs.Option.{option_map};
 ghost use Rattle.cube_model.specs.declared.fault.Fault.{Fault};
 ghost use Rattle.cube_model.specs.declared.rows.DimRows.{DimRows};
 ghost use Rattle.cube_model.specs.declared.rows.LineOrder.{LineOrder};
 ghost use Rattle.cube_model.specs.Limits.{most_batch_rows};
+ghost use Rattle.cuboid_upkeep.specs.Codes.{modes_of};
 ghost use Rattle.cuboid_upkeep.specs.Grouping.{RepresentRows};
 ghost use Rattle.cuboid_upkeep.specs.Steps.{IsAddFault};
 ghost use Rattle.cuboid_upkeep.specs.Growing.{GrowOver, grown};
@@ -13,8 +15,9 @@ use crate::merging::merge_rows;
 use crate::table::CellTable;
 use cube_model::Fault;
 use cuboid_cells::Cells;
+use dictionary::Dictionary;
 use dimensions::Dims;
-use group_plan::FactRows;
+use group_plan::ModeRows;
 use lattice::View;
 use std::alloc::Global;
 
@@ -46,32 +49,40 @@ impl GrowingCells {
         Ok(GrowingCells::ByNumber(table))
     }
 
-    /// Takes fact rows in: the cells then represent the rows that they represented with these after them.
+    /// Takes fact rows in: the cells then represent the rows that they represented with these after them. The modes are
+    /// the ship modes, whose places are the fifth codes of cells; only a view that groups by ship mode looks at them.
     ///
     /// `TooManyCells` where there would be more than 262,144 cells. `BadLayout` where a row has a key that is not in
-    /// its dimension, where the view groups by ship mode, or where a count, a sum or a number would exceed its type. It
-    /// can also fail when out of memory. After an error the cells represent nothing.
-    pub fn add_rows<F: FactRows>(
+    /// its dimension, where a count, a sum or a number would exceed its type, and, if the view groups by ship mode,
+    /// where a row has a ship mode that is none of the modes. It can also fail when out of memory. After an error the
+    /// cells represent nothing.
+    pub fn add_rows<F: ModeRows>(
         &mut self,
         alloc: Global,
         dims: &Dims,
         rows: &F,
+        modes: Option<&Dictionary>,
     ) -> Result<(), Fault>
         requires over { GrowOver dims.now self.old }
         requires batch { length (F.rows rows.now) ≤ most_batch_rows }
-        ensures ok { OnOk result ((so_far : List LineOrder) → RepresentRows dims.now [] so_far (grown self.old)
-            → RepresentRows dims.now [] (so_far ++ F.rows rows.now) (grown self.new)) }
+        ensures ok { OnOk result ((so_far : List LineOrder)
+            → RepresentRows dims.now (modes_of (option_map (λ modes. modes.now) modes.entry)) so_far (grown self.old)
+            → RepresentRows dims.now (modes_of (option_map (λ modes. modes.now) modes.entry))
+            (so_far ++ F.rows rows.now) (grown self.new)) }
         ensures over { OnOk result (GrowOver dims.now self.new) }
         ensures refused { IfErr result (λ fault. (so_far : List LineOrder)
-            → RepresentRows dims.now [] so_far (grown self.old)
-            → IsAddFault dims.now [] (grown self.old).view (so_far ++ F.rows rows.now) fault) }
+            → RepresentRows dims.now (modes_of (option_map (λ modes. modes.now) modes.entry)) so_far (grown self.old)
+            → IsAddFault dims.now (modes_of (option_map (λ modes. modes.now) modes.entry)) (grown self.old).view
+            (so_far ++ F.rows rows.now) fault) }
 
         // Also after an error.
         ensures view { (grown self.new).view ≡ (grown self.old).view }
     {
         match self {
             GrowingCells::ByNumber(table) => table.add_rows(alloc, dims, rows),
-            GrowingCells::Merged(cells, members) => merge_rows(cells, alloc, dims, members, rows),
+            GrowingCells::Merged(cells, members) => {
+                merge_rows(cells, alloc, dims, members, rows, modes)
+            }
         }
     }
 

@@ -1,19 +1,20 @@
 //! The keys of fact rows.
-ghost use Rattle.std.specs.Prelude.{◌≡◌, ◌⊎◌, ◌<◌, [], All, IfErr, IfNone, IfOk, IfSome, false, true, length};
-ghost use Rattle.std.specs.Prelude.{slice_index_or};
+ghost use Rattle.std.specs.Prelude.{◌≡◌, ◌⊎◌, ◌<◌, ℕ, List, All, IfErr, IfNone, IfOk, IfSome, false, true};
+ghost use Rattle.std.specs.Prelude.{length, slice_index_or};
 ghost use Rattle.cube_model.specs.declared.fault.Fault.{Fault};
 ghost use Rattle.group_plan.specs.Rows.{row_at};
 ghost use Rattle.cuboid_cells.specs.declared.key.Key.{Key};
 ghost use Rattle.cuboid_upkeep.specs.Grouping.{HasMembers};
-ghost use Rattle.cuboid_upkeep.specs.Keys.{AreRowKeys, IsKeyOfRow};
+ghost use Rattle.cuboid_upkeep.specs.Keys.{AreRowKeys, IsKeyOfRow, IsOwnMode};
 ghost use Rattle.cuboid_upkeep.specs.Members.{AreMembersOf};
+ghost use Rattle.cuboid_upkeep.specs.Modes.{AreOwnCodes};
 
 use crate::member_codes::ViewMembers;
+use crate::mode_codes::own_mode;
 use cube_model::{Axis, Fault};
 use cuboid_cells::Key;
-use cuboid_cells::limits::ALL_CODE;
 use dimensions::Dims;
-use group_plan::FactRows;
+use group_plan::{FactRows, ModeRows};
 use lattice::View;
 use std::alloc::Global;
 
@@ -26,47 +27,54 @@ pub(crate) const NO_KEY: Key = Key {
     ship_mode: 0,
 };
 
-// The keys of fact rows, in their order. `BadLayout` where a row has not its members.
+// The keys of fact rows, in their order. `BadLayout` where a row has not its members. Where the view groups by ship
+// mode, the codes of the rows' own modes among the modes are given.
 //
 // They are found in a loop that does nothing else, so that the processor waits for the memory of many rows' look-ups at
 // once.
-pub(crate) fn keys_of_rows<F: FactRows>(
+pub(crate) fn keys_of_rows<F: ModeRows>(
     alloc: Global,
     dims: &Dims,
     view: View,
     members: &ViewMembers,
     rows: &F,
+    codes: &[u16],
 ) -> Result<Vec<Key>, Fault>
     requires members { AreMembersOf dims.now view members.now }
     ensures ok { IfOk result
-        (λ keys. AreRowKeys dims.now view members.now (F.rows rows.now) (length (F.rows rows.now)) keys.items) }
+        (λ keys. (modes : List (List ℕ)) → AreOwnCodes modes view (F.modes rows.now) codes.now
+        → AreRowKeys dims.now modes view members.now (F.rows rows.now) (length (F.rows rows.now)) keys.items) }
     ensures refused { IfErr result (λ fault. (fault ≡ Fault.Memory)
-        ⊎ ((fault ≡ Fault.BadLayout) × (All (HasMembers dims.now [] view) (F.rows rows.now) → ⊥))) }
+        ⊎ ((fault ≡ Fault.BadLayout)
+        × ((modes : List (List ℕ)) → AreOwnCodes modes view (F.modes rows.now) codes.now
+        → All (HasMembers dims.now modes view) (F.rows rows.now) → ⊥))) }
 {
     let mut keys = Vec::new(alloc);
     keys.resize(rows.count(), NO_KEY)?;
-    if !put_keys(keys.as_mut_slice(), dims, view, members, rows) {
+    if !put_keys(keys.as_mut_slice(), dims, view, members, rows, codes) {
         return Err(Fault::BadLayout);
     }
     Ok(keys)
 }
 
 // Puts the key of each row at its place. Whether each row has its members.
-fn put_keys<F: FactRows>(
+fn put_keys<F: ModeRows>(
     keys: &mut [Key],
     dims: &Dims,
     view: View,
     members: &ViewMembers,
     rows: &F,
+    codes: &[u16],
 ) -> bool
     requires members { AreMembersOf dims.now view members.now }
     requires count { length keys.old ≡ length (F.rows rows.now) }
-    ensures ok { result ≡ true
-        → AreRowKeys dims.now view members.now (F.rows rows.now) (length (F.rows rows.now)) keys.new }
-    ensures lacks { result ≡ false → All (HasMembers dims.now [] view) (F.rows rows.now) → ⊥ }
+    ensures ok { result ≡ true → (modes : List (List ℕ)) → AreOwnCodes modes view (F.modes rows.now) codes.now
+        → AreRowKeys dims.now modes view members.now (F.rows rows.now) (length (F.rows rows.now)) keys.new }
+    ensures lacks { result ≡ false → (modes : List (List ℕ)) → AreOwnCodes modes view (F.modes rows.now) codes.now
+        → All (HasMembers dims.now modes view) (F.rows rows.now) → ⊥ }
 {
     for place in 0..keys.len() {
-        let Some(key) = row_key(dims, view, members, rows, place) else {
+        let Some(key) = key_by_mode(dims, view, members, rows, codes, place) else {
             return false;
         };
         keys[place] = key;
@@ -74,7 +82,30 @@ fn put_keys<F: FactRows>(
     true
 }
 
-// The key of the row at a place. Nothing where it has not its members: a view that groups by ship mode has none here.
+// The key of the row at a place, where the codes of the rows' own modes are given. Nothing where it has not its
+// members.
+#[inline(always)]
+fn key_by_mode<F: ModeRows>(
+    dims: &Dims,
+    view: View,
+    members: &ViewMembers,
+    rows: &F,
+    codes: &[u16],
+    place: usize,
+) -> Option<Key>
+    requires members { AreMembersOf dims.now view members.now }
+    requires place { place < length (F.rows rows.now) }
+    ensures some { IfSome result
+        (λ key. (modes : List (List ℕ)) → AreOwnCodes modes view (F.modes rows.now) codes.now
+        → IsKeyOfRow dims.now modes view members.now (row_at (F.rows rows.now) place) key) }
+    ensures none { IfNone result ((modes : List (List ℕ)) → AreOwnCodes modes view (F.modes rows.now) codes.now
+        → HasMembers dims.now modes view (row_at (F.rows rows.now) place) → ⊥) }
+{
+    let mode = own_mode(view, rows, codes, place)?;
+    row_key(dims, view, members, rows, place, mode)
+}
+
+// The key of the row at a place, whose ship mode has the code. Nothing where it has not its other members.
 #[inline(always)]
 pub(crate) fn row_key<F: FactRows>(
     dims: &Dims,
@@ -82,15 +113,16 @@ pub(crate) fn row_key<F: FactRows>(
     members: &ViewMembers,
     rows: &F,
     place: usize,
+    mode: u16,
 ) -> Option<Key>
     requires members { AreMembersOf dims.now view members.now }
     requires place { place < length (F.rows rows.now) }
-    ensures some { IfSome result (IsKeyOfRow dims.now view members.now (row_at (F.rows rows.now) place)) }
-    ensures none { IfNone result (HasMembers dims.now [] view (row_at (F.rows rows.now) place) → ⊥) }
+    ensures some { IfSome result
+        (λ key. (modes : List (List ℕ)) → IsOwnMode modes view (row_at (F.rows rows.now) place) mode
+        → IsKeyOfRow dims.now modes view members.now (row_at (F.rows rows.now) place) key) }
+    ensures none { IfNone result
+        ((modes : List (List ℕ)) → HasMembers dims.now modes view (row_at (F.rows rows.now) place) → ⊥) }
 {
-    if view.ship_mode {
-        return None;
-    }
     let customer = members
         .customers
         .code(dims, Axis::Customer, view.customer, rows, place)?;
@@ -108,7 +140,7 @@ pub(crate) fn row_key<F: FactRows>(
         supplier,
         part,
         date,
-        ship_mode: ALL_CODE,
+        ship_mode: mode,
     })
 }
 

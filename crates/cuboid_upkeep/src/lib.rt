@@ -11,6 +11,7 @@ mod member_codes;
 mod member_keys;
 mod member_parts;
 mod merging;
+mod mode_codes;
 mod numbers;
 mod row_cell;
 mod row_numbers;

@@ -144,7 +144,7 @@ fn put_codes(codes: &mut [u16], dims: &Dims, axis: Axis, grouped: Level)
 
 // The code at a place; 0 where none is.
 #[inline(always)]
-fn code_at(codes: &[u16], place: usize) -> u16
+pub(crate) fn code_at(codes: &[u16], place: usize) -> u16
     ensures { result ≡ slice_index codes.now place }
 {
     match codes.get(place) {

@@ -1,4 +1,4 @@
-//! The numbers of the keys of fact rows.
+//! The numbers of the keys of fact rows in a view that does not group by ship mode.
 ghost use Rattle.std.specs.Prelude.{◌≡◌, ◌⊎◌, ◌<◌, [], All, IfErr, IfNone, IfOk, IfSome, false, true, length};
 ghost use Rattle.cube_model.specs.declared.fault.Fault.{Fault};
 ghost use Rattle.group_plan.specs.Rows.{row_at};
@@ -10,6 +10,7 @@ ghost use Rattle.cuboid_upkeep.specs.Numbers.{AreFew};
 use crate::keys::row_key;
 use crate::member_codes::ViewMembers;
 use cube_model::Fault;
+use cuboid_cells::limits::ALL_CODE;
 use dimensions::Dims;
 use group_plan::FactRows;
 use lattice::View;
@@ -27,6 +28,7 @@ pub(crate) fn numbers_of_rows<F: FactRows>(
     rows: &F,
 ) -> Result<Vec<u32>, Fault>
     requires members { AreMembersOf dims.now view members.now }
+    requires no_modes { view.ship_mode ≡ false }
     requires few { AreFew members.now }
     ensures ok { IfOk result
         (λ numbers. AreRowNumbers dims.now view members.now (F.rows rows.now) (length (F.rows rows.now))
@@ -51,6 +53,7 @@ fn put_numbers<F: FactRows>(
     rows: &F,
 ) -> bool
     requires members { AreMembersOf dims.now view members.now }
+    requires no_modes { view.ship_mode ≡ false }
     requires few { AreFew members.now }
     requires count { length numbers.old ≡ length (F.rows rows.now) }
     ensures ok { result ≡ true
@@ -76,11 +79,12 @@ fn row_number<F: FactRows>(
     place: usize,
 ) -> Option<u32>
     requires members { AreMembersOf dims.now view members.now }
+    requires no_modes { view.ship_mode ≡ false }
     requires few { AreFew members.now }
     requires place { place < length (F.rows rows.now) }
     ensures some { IfSome result (IsNumberOfRow dims.now view members.now (row_at (F.rows rows.now) place)) }
     ensures none { IfNone result (HasMembers dims.now [] view (row_at (F.rows rows.now) place) → ⊥) }
 {
-    let key = row_key(dims, view, members, rows, place)?;
+    let key = row_key(dims, view, members, rows, place, ALL_CODE)?;
     Some(members.place(key) as u32)
 }

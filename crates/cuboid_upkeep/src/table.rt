@@ -1,5 +1,5 @@
 //! A table of the cells of a view, by the numbers of their keys.
-ghost use Rattle.std.specs.Prelude.{◌≡◌, ◌⊎◌, ◌<◌, ◌++◌, [], List, IfErr, IfOk, IsTrue, OnOk, false, length};
+ghost use Rattle.std.specs.Prelude.{◌≡◌, ◌⊎◌, ◌<◌, ◌++◌, ℕ, [], List, IfErr, IfOk, IsTrue, OnOk, false, length};
 ghost use Rattle.std.specs.Prelude.{slice_index_or, true};
 ghost use Rattle.group_plan.specs.Rows.{row_at};
 ghost use Rattle.cuboid_cells.specs.declared.cell.Cell.{Cell};
@@ -22,6 +22,7 @@ use crate::row_cell::row_cell;
 use crate::row_numbers::numbers_of_rows;
 use crate::taking::take_in;
 use cube_model::Fault;
+use cuboid_cells::limits::ALL_CODE;
 use cuboid_cells::{Cell, Cells, Key, Summaries, Summary};
 use dimensions::Dims;
 use group_plan::FactRows;
@@ -100,7 +101,8 @@ impl CellTable {
         })
     }
 
-    // Takes fact rows in. `BadLayout` where a row has not its members, or a number would pass its type.
+    // Takes fact rows in. `BadLayout` where a row has not its members, or a number would pass its type. Whatever the
+    // ship modes are, since the view does not group by them.
     pub(crate) fn add_rows<F: FactRows>(
         &mut self,
         alloc: Global,
@@ -108,15 +110,16 @@ impl CellTable {
         rows: &F,
     ) -> Result<(), Fault>
         requires over { IsTableOver dims.now self.old }
-        ensures ok { OnOk result
-            ((so_far : List LineOrder) → RepresentRows dims.now [] so_far (cells_in self.old.view self.old.slots.items)
-            → RepresentRows dims.now [] (so_far ++ F.rows rows.now) (cells_in self.new.view self.new.slots.items)) }
+        ensures ok { OnOk result ((modes : List (List ℕ)) (so_far : List LineOrder)
+            → RepresentRows dims.now modes so_far (cells_in self.old.view self.old.slots.items)
+            → RepresentRows dims.now modes (so_far ++ F.rows rows.now)
+            (cells_in self.new.view self.new.slots.items)) }
         ensures over { OnOk result (IsTableOver dims.now self.new) }
         ensures view { self.new.view ≡ self.old.view }
-        ensures refused { IfErr result (λ fault. (so_far : List LineOrder)
-            → RepresentRows dims.now [] so_far (cells_in self.old.view self.old.slots.items)
+        ensures refused { IfErr result (λ fault. (modes : List (List ℕ)) (so_far : List LineOrder)
+            → RepresentRows dims.now modes so_far (cells_in self.old.view self.old.slots.items)
             → (fault ≡ Fault.Memory)
-            ⊎ ((fault ≡ Fault.BadLayout) × AreUnfit dims.now [] self.old.view (so_far ++ F.rows rows.now))) }
+            ⊎ ((fault ≡ Fault.BadLayout) × AreUnfit dims.now modes self.old.view (so_far ++ F.rows rows.now))) }
     {
         let numbers = numbers_of_rows(alloc, dims, self.view, &self.members, rows)?;
         let free = take_in_rows(
@@ -203,12 +206,12 @@ fn key_for<F: FactRows>(
     requires slot { is_used slot.now ≡ true → IsAt view members.now number slot.now }
     requires place { place < length (F.rows rows.now) }
     requires number { IsNumberOfRow dims.now view members.now (row_at (F.rows rows.now) place) number }
-    ensures { IsKeyOfRow dims.now view members.now (row_at (F.rows rows.now) place) result }
+    ensures { IsKeyOfRow dims.now [] view members.now (row_at (F.rows rows.now) place) result }
 {
     if slot.count >= 1 {
         return slot.key;
     }
-    match row_key(dims, view, members, rows, place) {
+    match row_key(dims, view, members, rows, place, ALL_CODE) {
         Some(key) => key,
         None => NO_KEY,
     }

@@ -4,6 +4,7 @@ use Rattle.std.proofs.Common.{option_map, take, get_or, refl, sym, ap, subst, ar
 use Rattle.std.specs.List.{find}
 use Rattle.std.proofs.lemmas.List.{map-append, take_more}
 use Rattle.cube_model.specs.declared.query.Query.{Query}
+use Rattle.cube_model.specs.declared.rows.DimRows.{DimRows}
 use Rattle.lattice.specs.declared.view.View.{View}
 use Rattle.lattice.specs.Views.{index_of}
 use Rattle.object_store.specs.Content.{Content}
@@ -11,10 +12,15 @@ use Rattle.planner.specs.declared.price.Plan.{Plan}
 use Rattle.planner.specs.declared.price.Plan.TheVariants.{Scan, Cells}
 use Rattle.planner.specs.declared.stored.Stored.{Stored}
 use Rattle.warehouse_root.specs.declared.cuboid.StoredCuboid.{StoredCuboid}
-use Rattle.warehouse_objects.specs.Represents.{Represents, said_of}
+use Rattle.warehouse_objects.specs.Represents.{AreItsMembers, Represents, said_of}
 use Rattle.warehouse_objects.specs.Warehouse.{Cuboid, Warehouse, cuboid_at}
 use Rattle.warehouse_objects.proofs.CallerLemmas.{find_said, own_view}
 use Rattle.planned_queries.specs.Planned.{IsOfCuboid, IsPlanOf, seen_of}
+
+-- the same rows are the warehouse's too
+pub members_in : (w : Warehouse) (here rows : DimRows) (modes : List (List ℕ)) → here ≡ rows
+    → AreItsMembers w rows modes → AreItsMembers w here modes
+members_in w here rows modes same are = record { rows = same ∙ are.rows; modes = are.modes }
 
 -- one more
 pub seen_next : (cuboids : List Cuboid) (k : ℕ) (d : Cuboid) → k < length cuboids

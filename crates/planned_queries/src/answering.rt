@@ -8,7 +8,7 @@ ghost use Rattle.cube_query.specs.Groups.{Begins, IsOver, RepresentsRows};
 ghost use Rattle.object_store.specs.Store.{content_of, device_of, has_failed};
 ghost use Rattle.warehouse_objects.specs.Warehouse.{Warehouse};
 ghost use Rattle.warehouse_objects.specs.Reads.{ReadsOnly};
-ghost use Rattle.warehouse_objects.specs.Represents.{Represents, root_of};
+ghost use Rattle.warehouse_objects.specs.Represents.{AreItsMembers, Represents, root_of};
 ghost use Rattle.planner.specs.declared.price.Plan.{Plan};
 ghost use Rattle.planned_queries.specs.Planned.{IsPlanOf, mark_of};
 
@@ -22,7 +22,7 @@ use object_store::Store;
 use sector_device::Sectors;
 use std::alloc::Global;
 use std::rc::Rc;
-use warehouse_objects::fold_batches;
+use warehouse_objects::{ShipModes, fold_batches};
 use warehouse_root::Root;
 
 /// The groups of the answer to a proper query over the first `as_of` batches of a store, by the plan that reads least.
@@ -34,6 +34,7 @@ pub fn groups_by_plan<D: Sectors>(
     store: &mut Store<D>,
     root: &Root,
     dims: &Rc<Dims>,
+    modes: &ShipModes,
     as_of: u32,
     query: &Query,
 ) -> Result<Found, Fault>
@@ -44,11 +45,11 @@ pub fn groups_by_plan<D: Sectors>(
     // The answer is the definition's over the rows of these batches.
     ensures answer { IfOk result (λ found. D.keeps_word (device_of store.new) → (w : Warehouse)
         → Represents (content_of D.Sectors store.old) w
-        → root.now ≡ root_of w → dims.now.value ≡ w.rows
+        → root.now ≡ root_of w → AreItsMembers w dims.now.value modes.now
         → found ≡ answer query.now dims.now.value (all_rows (take as_of w.batches))) }
     ensures refused { IsErrOf result BadLayout → D.keeps_word (device_of store.new) → (w : Warehouse)
         → Represents (content_of D.Sectors store.old) w
-        → root.now ≡ root_of w → dims.now.value ≡ w.rows → ⊥ }
+        → root.now ≡ root_of w → AreItsMembers w dims.now.value modes.now → ⊥ }
 
     // The content stays, at each moment.
     ensures reads { ReadsOnly D.Sectors store.old store.new result }
@@ -58,7 +59,7 @@ pub fn groups_by_plan<D: Sectors>(
     let rows: &Dims = dims;
     match Fold::new(alloc, rows, query) {
         Ok(mut fold) => {
-            fold_by_plan(alloc, store, root, rows, &mut fold, as_of, query)?;
+            fold_by_plan(alloc, store, root, rows, modes, &mut fold, as_of, query)?;
             Found::of(dims, fold)
         }
         Err(_) => Err(Fault::Memory), // the query is proper
@@ -71,6 +72,7 @@ fn fold_by_plan<D: Sectors>(
     store: &mut Store<D>,
     root: &Root,
     dims: &Dims,
+    modes: &ShipModes,
     fold: &mut Fold,
     as_of: u32,
     query: &Query,
@@ -80,17 +82,17 @@ fn fold_by_plan<D: Sectors>(
     requires few { as_of ≤ length root.now.batches }
     ensures ok { OnOk result (D.keeps_word (device_of store.new) → (w : Warehouse)
         → Represents (content_of D.Sectors store.old) w
-        → root.now ≡ root_of w → dims.now ≡ w.rows
+        → root.now ≡ root_of w → AreItsMembers w dims.now modes.now
         → RepresentsRows dims.now fold.new (all_rows (take as_of w.batches))) }
     ensures over { IsOver dims.now fold.new }
     ensures query { fold.new.query ≡ query.now }
     ensures refused { IsErrOf result BadLayout → D.keeps_word (device_of store.new) → (w : Warehouse)
         → Represents (content_of D.Sectors store.old) w
-        → root.now ≡ root_of w → dims.now ≡ w.rows → ⊥ }
+        → root.now ≡ root_of w → AreItsMembers w dims.now modes.now → ⊥ }
     ensures reads { ReadsOnly D.Sectors store.old store.new result }
     ensures causes { IfErr result (λ fault. (fault ≡ Memory) ⊎ ((fault ≡ Device) ⊎ (fault ≡ BadLayout))) }
 {
-    let from = begin_fold(alloc, store, root, dims, fold, as_of, query)?;
+    let from = begin_fold(alloc, store, root, dims, modes, fold, as_of, query)?;
     fold_batches(alloc, store, root, dims, fold, from, as_of)?;
     Ok(())
 }
@@ -102,6 +104,7 @@ pub(crate) fn begin_fold<D: Sectors>(
     store: &mut Store<D>,
     root: &Root,
     dims: &Dims,
+    modes: &ShipModes,
     fold: &mut Fold,
     as_of: u32,
     query: &Query,
@@ -111,7 +114,7 @@ pub(crate) fn begin_fold<D: Sectors>(
     requires few { as_of ≤ length root.now.batches }
     ensures begun { IfOk result (λ done. D.keeps_word (device_of store.new) → (w : Warehouse)
         → Represents (content_of D.Sectors store.old) w
-        → root.now ≡ root_of w → dims.now ≡ w.rows → (plan : Plan) × IsPlanOf w as_of query.now plan
+        → root.now ≡ root_of w → AreItsMembers w dims.now modes.now → (plan : Plan) × IsPlanOf w as_of query.now plan
         × (done ≡ mark_of plan)
         × RepresentsRows dims.now fold.new (all_rows (take done w.batches))) }
     ensures in_time { IfOk result (λ done. done ≤ as_of) }
@@ -119,12 +122,12 @@ pub(crate) fn begin_fold<D: Sectors>(
     ensures query { fold.new.query ≡ query.now }
     ensures refused { IsErrOf result BadLayout → D.keeps_word (device_of store.new) → (w : Warehouse)
         → Represents (content_of D.Sectors store.old) w
-        → root.now ≡ root_of w → dims.now ≡ w.rows → ⊥ }
+        → root.now ≡ root_of w → AreItsMembers w dims.now modes.now → ⊥ }
     ensures reads { ReadsOnly D.Sectors store.old store.new result }
     ensures causes { IfErr result (λ fault. (fault ≡ Memory) ⊎ ((fault ≡ Device) ⊎ (fault ≡ BadLayout))) }
 {
     let _usable = store.is_broken();
     let plan = plan_of(alloc, root, as_of, query)?;
-    let done = begin_by_plan(alloc, store, root, dims, fold, plan)?;
+    let done = begin_by_plan(alloc, store, root, dims, modes, fold, plan)?;
     Ok(done)
 }

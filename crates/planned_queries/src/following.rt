@@ -9,7 +9,7 @@ ghost use Rattle.object_store.specs.Store.{content_of, device_of, has_failed};
 ghost use Rattle.planner.specs.declared.price.Plan.TheVariants as plans;
 ghost use Rattle.warehouse_objects.specs.Warehouse.{Warehouse};
 ghost use Rattle.warehouse_objects.specs.Reads.{ReadsOnly};
-ghost use Rattle.warehouse_objects.specs.Represents.{Represents, root_of};
+ghost use Rattle.warehouse_objects.specs.Represents.{AreItsMembers, Represents, root_of};
 ghost use Rattle.planned_queries.specs.Planned.{IsOfCuboid, ServesBy, mark_of};
 
 use cube_model::Fault;
@@ -21,6 +21,7 @@ use planner::Plan;
 use sector_device::Sectors;
 use std::alloc::Global;
 use stored_cuboids::fold_runs;
+use warehouse_objects::ShipModes;
 use warehouse_root::{Root, StoredCuboid};
 
 /// Counts the cells of a plan into a fold that represents no row yet. It answers how many of the first batches they
@@ -32,6 +33,7 @@ pub fn begin_by_plan<D: Sectors>(
     store: &mut Store<D>,
     root: &Root,
     dims: &Dims,
+    modes: &ShipModes,
     fold: &mut Fold,
     plan: Plan,
 ) -> Result<u32, Fault>
@@ -42,14 +44,14 @@ pub fn begin_by_plan<D: Sectors>(
     // Then it represents the rows of these batches.
     ensures ok { OnOk result (D.keeps_word (device_of store.new) → (w : Warehouse)
         → Represents (content_of D.Sectors store.old) w
-        → root.now ≡ root_of w → dims.now ≡ w.rows → IsOfCuboid w plan
+        → root.now ≡ root_of w → AreItsMembers w dims.now modes.now → IsOfCuboid w plan
         → RepresentsRows dims.now fold.new (all_rows (take (mark_of plan) w.batches))) }
     ensures from { IfOk result (λ from. from ≡ mark_of plan) }
     ensures over { IsOver dims.now fold.new }
     ensures query { fold.new.query ≡ fold.old.query }
     ensures refused { IsErrOf result BadLayout → D.keeps_word (device_of store.new) → (w : Warehouse)
         → Represents (content_of D.Sectors store.old) w
-        → root.now ≡ root_of w → dims.now ≡ w.rows → IsOfCuboid w plan → ⊥ }
+        → root.now ≡ root_of w → AreItsMembers w dims.now modes.now → IsOfCuboid w plan → ⊥ }
 
     // The content stays, at each moment.
     ensures reads { ReadsOnly D.Sectors store.old store.new result }
@@ -59,7 +61,7 @@ pub fn begin_by_plan<D: Sectors>(
     match plan {
         Plan::Scan => Ok(0),
         Plan::Cells { view, mark } => {
-            add_cuboid(alloc, store, root, dims, fold, view, mark)?;
+            add_cuboid(alloc, store, root, dims, modes, fold, view, mark)?;
             Ok(mark)
         }
     }
@@ -72,6 +74,7 @@ fn add_cuboid<D: Sectors>(
     store: &mut Store<D>,
     root: &Root,
     dims: &Dims,
+    modes: &ShipModes,
     fold: &mut Fold,
     view: View,
     mark: u32,
@@ -81,13 +84,13 @@ fn add_cuboid<D: Sectors>(
     requires serves { Serves view fold.old.query }
     ensures ok { OnOk result (D.keeps_word (device_of store.new) → (w : Warehouse)
         → Represents (content_of D.Sectors store.old) w
-        → root.now ≡ root_of w → dims.now ≡ w.rows → IsOfCuboid w (plans.Cells view mark)
+        → root.now ≡ root_of w → AreItsMembers w dims.now modes.now → IsOfCuboid w (plans.Cells view mark)
         → RepresentsRows dims.now fold.new (all_rows (take mark w.batches))) }
     ensures over { IsOver dims.now fold.new }
     ensures query { fold.new.query ≡ fold.old.query }
     ensures refused { IsErrOf result BadLayout → D.keeps_word (device_of store.new) → (w : Warehouse)
         → Represents (content_of D.Sectors store.old) w
-        → root.now ≡ root_of w → dims.now ≡ w.rows → IsOfCuboid w (plans.Cells view mark) → ⊥ }
+        → root.now ≡ root_of w → AreItsMembers w dims.now modes.now → IsOfCuboid w (plans.Cells view mark) → ⊥ }
     ensures reads { ReadsOnly D.Sectors store.old store.new result }
     ensures causes { IfErr result (λ fault. (fault ≡ Memory) ⊎ ((fault ≡ Device) ⊎ (fault ≡ BadLayout))) }
 {
@@ -95,7 +98,7 @@ fn add_cuboid<D: Sectors>(
     let Some(cuboid) = cuboid_of(root.cuboids(), view.index()) else {
         return Err(Fault::BadLayout);
     };
-    fold_runs(alloc, store, dims, fold, cuboid, view)
+    fold_runs(alloc, store, dims, modes, fold, cuboid, view)
 }
 
 // The cuboid of the view of a number.

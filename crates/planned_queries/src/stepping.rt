@@ -5,7 +5,7 @@ ghost use Rattle.cube_model.specs.Proper.{IsProper};
 ghost use Rattle.object_store.specs.Store.{content_of, device_of, has_failed};
 ghost use Rattle.warehouse_objects.specs.Warehouse.{Warehouse};
 ghost use Rattle.warehouse_objects.specs.Reads.{ReadsOnly};
-ghost use Rattle.warehouse_objects.specs.Represents.{Represents, root_of};
+ghost use Rattle.warehouse_objects.specs.Represents.{AreItsMembers, Represents, root_of};
 
 use crate::answering::begin_fold;
 use cube_model::{Answer, Fault, Query};
@@ -16,7 +16,7 @@ use sector_device::Sectors;
 use std::alloc::Global;
 use std::marker::Model;
 use std::rc::Rc;
-use warehouse_objects::fold_batch;
+use warehouse_objects::{ShipModes, fold_batch};
 use warehouse_root::Root;
 
 /// A query that runs, batch by batch. It shares the dimensions with the session that began it, and needs no more of it:
@@ -70,6 +70,7 @@ impl Running {
         store: &mut Store<D>,
         root: &Root,
         dims: &Rc<Dims>,
+        modes: &ShipModes,
         as_of: u32,
         query: &Query,
     ) -> Result<Running, Fault>
@@ -78,11 +79,11 @@ impl Running {
         requires few { as_of ≤ length root.now.batches }
         ensures begun { IfOk result (λ running. D.keeps_word (device_of store.new) → (w : Warehouse)
             → Represents (content_of D.Sectors store.old) w
-            → root.now ≡ root_of w → dims.now.value ≡ w.rows → (s : Started) × Starts w as_of query.now s
-            × IsRunning running s) }
+            → root.now ≡ root_of w → AreItsMembers w dims.now.value modes.now
+            → (s : Started) × Starts w as_of query.now s × IsRunning running s) }
         ensures refused { IsErrOf result BadLayout → D.keeps_word (device_of store.new) → (w : Warehouse)
             → Represents (content_of D.Sectors store.old) w
-            → root.now ≡ root_of w → dims.now.value ≡ w.rows → ⊥ }
+            → root.now ≡ root_of w → AreItsMembers w dims.now.value modes.now → ⊥ }
 
         // The content stays, at each moment.
         ensures reads { ReadsOnly D.Sectors store.old store.new result }
@@ -92,7 +93,7 @@ impl Running {
         let rows: &Dims = dims;
         match Fold::new(alloc, rows, query) {
             Ok(mut fold) => {
-                let done = begin_fold(alloc, store, root, rows, &mut fold, as_of, query)?;
+                let done = begin_fold(alloc, store, root, rows, modes, &mut fold, as_of, query)?;
                 let dims = dims.clone()?;
                 Ok(Running {
                     dims,

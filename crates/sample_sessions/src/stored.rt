@@ -1,7 +1,4 @@
 //! Sessions that store cuboids.
-ghost use Rattle.std.specs.Prelude.{◌<◌, ◌↔◌, All, IsTrue};
-ghost use Rattle.lattice.specs.Views.{index_of};
-
 use crate::sessions::{loaded, status, submit};
 use cube_model::Fault;
 use lattice::View;
@@ -77,21 +74,14 @@ fn views(alloc: Global, numbers: &[u16]) -> Result<Vec<View>, Fault> {
     Ok(views)
 }
 
-/// Whether no view groups by ship mode.
-fn are_plain(views: &[View]) -> bool
-    ensures { IsTrue result ↔ All (λ view. index_of view < 256) views.now }
-{
-    views.iter().all(|view| view.index() < 256)
-}
-
-/// Has a session store the cuboids of at most 16 views, by their numbers below 256.
+/// Has a session store the cuboids of at most 16 views, by their numbers below 512.
 pub fn store_views<D: Sectors>(
     alloc: Global,
     session: &mut Session<D>,
     numbers: &[u16],
 ) -> Result<(), Fault> {
     let views = views(alloc, numbers)?;
-    if views.len() > MOST_CUBOIDS || !are_plain(views.as_slice()) {
+    if views.len() > MOST_CUBOIDS {
         return Err(Fault::BadQuery);
     }
     session.set_views(alloc, views.as_slice())

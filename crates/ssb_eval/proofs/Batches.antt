@@ -15,7 +15,7 @@ use Rattle.cube_model.specs.declared.fault.Fault.TheVariants.{Memory, Input}
 use Rattle.cube_model.specs.declared.query.Query.{Query}
 use Rattle.cube_model.specs.declared.rows.DimRows.{DimRows}
 use Rattle.cube_model.specs.declared.rows.LineOrder.{LineOrder}
-use Rattle.cube_model.specs.Admission.{all_rows, refusal}
+use Rattle.cube_model.specs.Admission.{all_rows, moded_refusal}
 use Rattle.cube_model.specs.Limits.{most_batch_rows}
 use Rattle.cube_query.specs.Groups.{FoldState, RepresentsRows}
 use Rattle.batch_admission.specs.Accepted.{Accepted, HasAccepted}
@@ -25,6 +25,7 @@ use Rattle.cube_query.specs.declared.finished.Groups.{Groups}
 use Rattle.ssb_eval.specs.Evaluation.{facts_after, facts_of, answer_in, answer_of, Gives}
 use Rattle.ssb_eval.specs.BatchLoop.{AreTaken, FoldsFacts, IsBegun, LeavesFacts}
 use Rattle.batch_admission.proofs.CallerLemmas.{all_rows-last, in_range, known_both, passes, passes-found}
+use Rattle.ssb_eval.proofs.Admitting.{plain}
 
 -- parts of a list
 
@@ -83,7 +84,7 @@ facts-fault dimensions batches number [] fault e = cc
 facts-fault dimensions batches number (line ∷ lines) fault e =
     ap (facts_after dimensions batches number) (parts_of-first most_batch_rows line lines (omega arith))
     ∙ ap (λ read. and_then read
-    (λ rows. unless (refusal dimensions batches (length batches + 1) rows)
+    (λ rows. unless (moded_refusal dimensions batches (length batches + 1) rows)
     (facts_after dimensions (batches ++ rows ∷ []) (number_after (length rows) number)
     (parts_of most_batch_rows (drop most_batch_rows (line ∷ lines)))))) e
 
@@ -91,7 +92,7 @@ facts-fault dimensions batches number (line ∷ lines) fault e =
 pub facts-more : (dimensions : DimRows) (batches : List (List LineOrder)) (number : ℕ) (lines : List (List ℕ))
     (rows : List LineOrder) → 1 ≤ length rows → rows_of lineorder_row number (take most_batch_rows lines) ≡ Ok rows
     → facts_after dimensions batches number (parts_of most_batch_rows lines)
-    ≡ unless (refusal dimensions batches (length batches + 1) rows)
+    ≡ unless (moded_refusal dimensions batches (length batches + 1) rows)
     (facts_after dimensions (batches ++ rows ∷ []) (number_after (length rows) number)
     (parts_of most_batch_rows (drop most_batch_rows lines)))
 facts-more dimensions batches number [] [] some e = absurd (omega arith)
@@ -99,20 +100,22 @@ facts-more dimensions batches number [] (row ∷ rows) some e = cc
 facts-more dimensions batches number (line ∷ lines) rows some e =
     ap (facts_after dimensions batches number) (parts_of-first most_batch_rows line lines (omega arith))
     ∙ ap (λ read. and_then read
-    (λ rows. unless (refusal dimensions batches (length batches + 1) rows)
+    (λ rows. unless (moded_refusal dimensions batches (length batches + 1) rows)
     (facts_after dimensions (batches ++ rows ∷ []) (number_after (length rows) number)
     (parts_of most_batch_rows (drop most_batch_rows (line ∷ lines)))))) e
 
 -- a batch in which nothing was found is among those that were taken, once it is accepted
 pub taken_more : (dimensions : DimRows) (query : Query) (accepted next : Accepted) (fold more : FoldState)
     (batches : List (List LineOrder)) (rows : List LineOrder) (found : Found)
-    → AreTaken dimensions query accepted fold batches → refusal dimensions batches (length batches + 1) rows ≡ None
+    → AreTaken dimensions query accepted fold batches → moded_refusal dimensions batches (length batches + 1) rows
+    ≡ None
     → HasAccepted next (batches ++ rows ∷ [])
     → IsBegun dimensions query (all_rows batches) rows found more
     → AreTaken dimensions query next more (batches ++ rows ∷ [])
 taken_more dimensions query accepted next fold more batches rows found taken passed represents begun =
-    let pass = passes dimensions batches (length batches + 1) rows passed in
-    let nothing = passes-found dimensions batches (length batches + 1) rows passed in
+    let not_refused = plain dimensions batches (length batches + 1) rows passed in
+    let pass = passes dimensions batches (length batches + 1) rows not_refused in
+    let nothing = passes-found dimensions batches (length batches + 1) rows not_refused in
     let joined : all_rows (batches ++ rows ∷ []) ≡ all_rows batches ++ rows = all_rows-last batches rows in
     let longer : length (all_rows batches ++ rows) ≡ length (all_rows batches) + length rows =
     length-append (all_rows batches) rows in
@@ -138,7 +141,7 @@ pub leaves_more : (dimensions : DimRows) (text : List ℕ) (batches : List (List
     → (rows_of lineorder_row (next_number number) (take most_batch_rows (lines_of left)) ≡ Ok rows)
     × (lines_of rest ≡ drop most_batch_rows (lines_of left))
     → next ≡ number_after (length rows) number
-    → refusal dimensions batches (length batches + 1) rows ≡ None
+    → moded_refusal dimensions batches (length batches + 1) rows ≡ None
     → facts_of dimensions text ≡ facts_after dimensions (batches ++ rows ∷ []) (next_number next)
     (parts_of most_batch_rows (lines_of rest))
 leaves_more dimensions text batches number next left rest rows some before (read, others) counted accepted =
@@ -156,7 +159,7 @@ leaves_more dimensions text batches number next left rest rows some before (read
 pub leaves_on : (dimensions : DimRows) (text : List ℕ) (batches : List (List LineOrder)) (number next : ℕ)
     (left rest : Option (List ℕ)) (rows : List LineOrder) → 1 ≤ length rows
     → LeavesFacts dimensions text batches number left → TakesRows lineorder_row most_batch_rows number left rest rows
-    → next ≡ number_after (length rows) number → refusal dimensions batches (length batches + 1) rows ≡ None
+    → next ≡ number_after (length rows) number → moded_refusal dimensions batches (length batches + 1) rows ≡ None
     → LeavesFacts dimensions text (batches ++ rows ∷ []) next rest
 leaves_on dimensions text batches number next None rest rows some before taken counted accepted = absurd before
 leaves_on dimensions text batches number next (Some left) None rows some before taken counted accepted = absurd taken
@@ -184,7 +187,7 @@ pub gives-refused : (query : Query) (dimensions : DimRows) (text : List ℕ) (ba
     (number place : ℕ) (left rest : Option (List ℕ)) (rows : List LineOrder) (fault : Fault)
     (result : Result Answer Fault) → LeavesFacts dimensions text batches number left
     → TakesRows lineorder_row most_batch_rows number left rest rows → 1 ≤ length rows → place ≡ length batches + 1
-    → Some fault ≡ refusal dimensions batches place rows → (y : Fault) × (result ≡ Err y) × (y ≡ fault)
+    → Some fault ≡ moded_refusal dimensions batches place rows → (y : Fault) × (result ≡ Err y) × (y ≡ fault)
     → Gives (answer_of query dimensions text) result
 gives-refused query dimensions text batches number place None rest rows fault result before taken some next refused
     stop = absurd before
@@ -192,8 +195,8 @@ gives-refused query dimensions text batches number place (Some left) None rows f
     refused stop = absurd taken
 gives-refused query dimensions text batches number place (Some left) (Some rest) rows fault result before (read, others)
     some next refused stop =
-    let cause : refusal dimensions batches (length batches + 1) rows ≡ Some fault =
-    ap (λ n. refusal dimensions batches n rows) (sym next) ∙ sym refused in
+    let cause : moded_refusal dimensions batches (length batches + 1) rows ≡ Some fault =
+    ap (λ n. moded_refusal dimensions batches n rows) (sym next) ∙ sym refused in
     let found : facts_of dimensions text ≡ Err fault =
     before ∙ facts-more dimensions batches (next_number number) (lines_of left) rows some read
     ∙ ap (λ one. unless one

@@ -1,5 +1,7 @@
+pub mod Admitting
 pub mod Batches
 pub mod Endings
+pub mod Modes
 pub mod Partly
 pub mod Pieces
 pub mod ShortRows

@@ -1,5 +1,5 @@
 -- The pieces of a batch, one after the other.
-use Rattle.std.proofs.Common.{◌≡◌, ◌+◌, ◌≤◌, List, [], ◌∷◌, ◌++◌, length, true, false, Option, Some, None, is_some}
+use Rattle.std.proofs.Common.{◌≡◌, ℕ, ◌+◌, ◌≤◌, List, [], ◌∷◌, ◌++◌, length, true, false, Option, Some, None, is_some}
 use Rattle.std.proofs.Common.{Result, Err, refl, sym, ap, subst, ◌∙◌, arith, append_assoc, append-nil}
 use Rattle.std.proofs.lemmas.List.{length-append}
 use Rattle.batch_loader.specs.Reading.{RefusesBatch}
@@ -18,6 +18,8 @@ use Rattle.batch_admission.specs.declared.totals.Totals.{Totals}
 use Rattle.batch_admission.proofs.CallerLemmas.{found-clean, found-earlier, known_both}
 use Rattle.cube_query.specs.Groups.{FoldState, CanTake, Takes, RepresentsRows}
 use Rattle.ssb_eval.specs.BatchLoop.{AreTaken, IsBegun, IsUnderWay, LooksAtNext}
+use Rattle.ssb_eval.specs.ShipModes.{HasMetRows, Met}
+use Rattle.ssb_eval.proofs.Admitting.{early-before}
 
 no_cause_some : (cause : Option Fault) → is_some cause ≡ true → cause ≡ None → ⊥
 no_cause_some None none e = cc
@@ -165,7 +167,20 @@ begun_more dimensions query before earlier rows found more fold next begun each 
 
 -- a piece that could not be read
 pub LooksAtNext-refused : (dimensions : DimRows) (query : Query) (before : List LineOrder) (old new : Unread)
-    (fold : FoldState) (fault : Fault) (result : Result Found Fault)
+    (met : Met) (fold : FoldState) (fault : Fault) (result : Result Found Fault)
     → RefusesBatch lineorder_row most_batch_rows old fault
-    → (other : Fault) × (result ≡ Err other) × (other ≡ fault) → LooksAtNext dimensions query before old new fold result
-LooksAtNext-refused dimensions query before old new fold fault result refused is = rw (is.1, is.2) refused
+    → (other : Fault) × (result ≡ Err other) × (other ≡ fault)
+    → LooksAtNext dimensions query before old new met fold result
+LooksAtNext-refused dimensions query before old new met fold fault result refused is = rw (is.1, is.2) refused
+
+-- the ship modes of a piece more
+pub modes_more : (dimensions : DimRows) (query : Query) (before earlier rows : List LineOrder) (found more : Found)
+    (fold next : FoldState) (old new : Met) (count : ℕ) → IsBegun dimensions query before earlier found fold
+    → IsBegun dimensions query before (earlier ++ rows) more next → count ≡ found.row_count
+    → HasMetRows found old before earlier
+    → ((others earlier : List LineOrder) → count ≡ length earlier → HasMetRows more old others earlier
+    → HasMetRows more new others (earlier ++ rows))
+    → HasMetRows more new before (earlier ++ rows)
+modes_more dimensions query before earlier rows found more fold next old new count begun also count_is has each =
+    each before earlier (count_is ∙ ap (λ some. some.row_count) begun.found_is)
+    (λ none. has (early-before dimensions (totals_of before) earlier rows found more begun.found_is also.found_is none))

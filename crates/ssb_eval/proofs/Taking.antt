@@ -1,6 +1,6 @@
 -- A batch that is taken, and one that is refused.
-use Rattle.std.proofs.Common.{◌≡◌, ℕ, ◌+◌, ◌-◌, ◌<◌, ◌≤◌, Bool, List, [], ◌∷◌, length, Some, Result, Err, refl, sym, ap}
-use Rattle.std.proofs.Common.{subst, ◌∙◌, arith, inl, inr}
+use Rattle.std.proofs.Common.{◌≡◌, ℕ, ◌+◌, ◌-◌, ◌<◌, ◌≤◌, Bool, List, [], ◌∷◌, length, Some, Result, Err, refl, sym}
+use Rattle.std.proofs.Common.{subst, arith, inl, inr}
 use Rattle.std.proofs.lemmas.List.{length_push}
 use Rattle.batch_loader.specs.Reading.{TakesBatch, RefusesBatch}
 use Rattle.batch_loader.specs.Tables.{lineorder_row}
@@ -10,13 +10,15 @@ use Rattle.cube_model.specs.declared.fault.Fault.{Fault}
 use Rattle.cube_model.specs.declared.query.Query.{Query}
 use Rattle.cube_model.specs.declared.rows.DimRows.{DimRows}
 use Rattle.cube_model.specs.declared.rows.LineOrder.{LineOrder}
-use Rattle.cube_model.specs.Admission.{refusal}
+use Rattle.cube_model.specs.Admission.{moded_refusal}
 use Rattle.cube_model.specs.Limits.{most_batch_rows}
 use Rattle.cube_query.specs.Groups.{FoldState}
 use Rattle.batch_admission.specs.Accepted.{Accepted}
 use Rattle.ssb_eval.specs.Evaluation.{Gives, answer_of}
 use Rattle.ssb_eval.specs.BatchLoop.{AreTaken, LeavesFacts, TakesNextBatch, IsNextBatch}
+use Rattle.ssb_eval.specs.ShipModes.{Met}
 use Rattle.batch_admission.proofs.CallerLemmas.{passes}
+use Rattle.ssb_eval.proofs.Admitting.{plain}
 use Rattle.ssb_eval.proofs.Batches.{gives-unread, gives-refused}
 
 -- what was taken, by the fold's own query, and back
@@ -39,32 +41,32 @@ AreTaken-of dimensions query other accepted fold batches same taken =
 
 -- a batch could not be read
 pub TakesNextBatch-unread : (dimensions : DimRows) (query : Query) (batches : List (List LineOrder)) (old new : Unread)
-    (accepted : Accepted) (fold : FoldState) (fault : Fault) (result : Result Bool Fault)
+    (accepted : Accepted) (met : Met) (fold : FoldState) (fault : Fault) (result : Result Bool Fault)
     → RefusesBatch lineorder_row most_batch_rows old fault → (other : Fault) × (result ≡ Err other) × (other ≡ fault)
-    → TakesNextBatch dimensions query batches old new accepted fold result
-TakesNextBatch-unread dimensions query batches old new accepted fold fault result (inl memory) is =
+    → TakesNextBatch dimensions query batches old new accepted met fold result
+TakesNextBatch-unread dimensions query batches old new accepted met fold fault result (inl memory) is =
     rw (is.1, is.2) (inl memory)
-TakesNextBatch-unread dimensions query batches old new accepted fold fault result (inr (inl input)) is =
+TakesNextBatch-unread dimensions query batches old new accepted met fold fault result (inr (inl input)) is =
     rw (is.1, is.2) (inr (inl input))
-TakesNextBatch-unread dimensions query batches old new accepted fold fault result (inr (inr first)) is =
+TakesNextBatch-unread dimensions query batches old new accepted met fold fault result (inr (inr first)) is =
     rw (is.1, is.2) (inr (inr (inl first)))
 
 -- or was read, and is refused
 pub TakesNextBatch-refused : (dimensions : DimRows) (query : Query) (batches : List (List LineOrder)) (old new : Unread)
-    (accepted : Accepted) (fold : FoldState) (rows : List LineOrder) (number : ℕ) (fault : Fault)
+    (accepted : Accepted) (met : Met) (fold : FoldState) (rows : List LineOrder) (fault : Fault)
     (result : Result Bool Fault)
-    → 1 ≤ length rows → TakesBatch lineorder_row most_batch_rows old new rows → number ≡ length batches + 1
-    → Some fault ≡ refusal dimensions batches number rows → (other : Fault) × (result ≡ Err other) × (other ≡ fault)
-    → TakesNextBatch dimensions query batches old new accepted fold result
-TakesNextBatch-refused dimensions query batches old new accepted fold rows number fault result some read place refused
-    is =
+    → 1 ≤ length rows → TakesBatch lineorder_row most_batch_rows old new rows
+    → Some fault ≡ moded_refusal dimensions batches (length batches + 1) rows → (other : Fault) × (result ≡ Err other)
+    × (other ≡ fault)
+    → TakesNextBatch dimensions query batches old new accepted met fold result
+TakesNextBatch-refused dimensions query batches old new accepted met fold rows fault result some read refused is =
     rw (is.1, is.2)
     (inr (inr (inr (
       rows,
       record {
         some = some;
         read = read;
-        refused = ap (λ n. refusal dimensions batches n rows) (sym place) ∙ sym refused;
+        refused = sym refused;
       },
     ))))
 
@@ -76,28 +78,30 @@ no_rows old new (row ∷ rows) none read = absurd (omega arith)
 
 -- the evaluation ends with the fault of the next batch
 pub gives-stopped : (query : Query) (dimensions : DimRows) (text : List ℕ) (batches : List (List LineOrder))
-    (old new : Unread) (accepted : Accepted) (fold : FoldState) (own : Query) (fault : Fault)
+    (old new : Unread) (accepted : Accepted) (met : Met) (fold : FoldState) (own : Query) (fault : Fault)
     (result : Result Answer Fault)
     → LeavesFacts dimensions text batches old.number old.left
-    → TakesNextBatch dimensions own batches old new accepted fold (Err fault)
+    → TakesNextBatch dimensions own batches old new accepted met fold (Err fault)
     → (other : Fault) × (result ≡ Err other) × (other ≡ fault)
     → Gives (answer_of query dimensions text) result
-gives-stopped query dimensions text batches old new accepted fold own fault result before (inl memory) is =
+gives-stopped query dimensions text batches old new accepted met fold own fault result before (inl memory) is =
     gives-unread query dimensions text batches old.number old.left fault result before (inl memory) is
-gives-stopped query dimensions text batches old new accepted fold own fault result before (inr (inl input)) is =
+gives-stopped query dimensions text batches old new accepted met fold own fault result before (inr (inl input)) is =
     gives-unread query dimensions text batches old.number old.left fault result before (inr (inl input)) is
-gives-stopped query dimensions text batches old new accepted fold own fault result before (inr (inr (inl first))) is =
+gives-stopped query dimensions text batches old new accepted met fold own fault result before (inr (inr (inl first)))
+    is =
     gives-unread query dimensions text batches old.number old.left fault result before (inr (inr first)) is
-gives-stopped query dimensions text batches old new accepted fold own fault result before
+gives-stopped query dimensions text batches old new accepted met fold own fault result before
     (inr (inr (inr (rows, refused)))) is =
     gives-refused query dimensions text batches old.number (length batches + 1) old.left new.left rows fault result
     before refused.read.taken refused.some refl (sym refused.refused) is
 
 -- the number of accepted batches grows, and stays within its limit
 pub count_more : (dimensions : DimRows) (query own : Query) (batches : List (List LineOrder)) (old new : Unread)
-    (accepted next : Accepted) (fold more : FoldState) (rows : List LineOrder)
-    → AreTaken dimensions query accepted fold batches → IsNextBatch dimensions own batches old new next more rows
+    (accepted next : Accepted) (met : Met) (fold more : FoldState) (rows : List LineOrder)
+    → AreTaken dimensions query accepted fold batches → IsNextBatch dimensions own batches old new next met more rows
     → 4097 - next.count < 4097 - accepted.count
-count_more dimensions query own batches old new accepted next fold more rows taken batch =
-    let pass = passes dimensions batches (length batches + 1) rows batch.passes in
+count_more dimensions query own batches old new accepted next met fold more rows taken batch =
+    let pass = passes dimensions batches (length batches + 1) rows
+    (plain dimensions batches (length batches + 1) rows batch.passes) in
     omega (arith, taken.represents.count, batch.taken.represents.count, pass.batches_left, length_push batches rows)

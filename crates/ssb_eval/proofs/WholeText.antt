@@ -10,7 +10,7 @@ use Rattle.batch_loader.specs.Tables.{lineorder_row}
 use Rattle.cube_model.specs.declared.fault.Fault.{Fault}
 use Rattle.cube_model.specs.declared.rows.DimRows.{DimRows}
 use Rattle.cube_model.specs.declared.rows.LineOrder.{LineOrder}
-use Rattle.cube_model.specs.Admission.{all_rows, refusal}
+use Rattle.cube_model.specs.Admission.{all_rows, moded_refusal}
 use Rattle.cube_model.specs.Limits.{most_batch_rows}
 use Rattle.ssb_eval.specs.Evaluation.{facts_after, facts_of, table_rows}
 use Rattle.batch_admission.proofs.CallerLemmas.{all_rows-last}
@@ -101,10 +101,10 @@ after dimensions batches number zero size (line ∷ lines) rows some enough e = 
 after dimensions batches number (suc steps) size (line ∷ lines) rows some enough e =
     let left = drop size (line ∷ lines) in
     let read = goes_on (rows_of lineorder_row number (take size (line ∷ lines)))
-    (λ found. unless (refusal dimensions batches (length batches + 1) found)
+    (λ found. unless (moded_refusal dimensions batches (length batches + 1) found)
     (facts_after dimensions (batches ++ found ∷ []) (number_after (length found) number)
     (parts_in steps size left))) rows e in
-    let accepted = not_refused (refusal dimensions batches (length batches + 1) read.found)
+    let accepted = not_refused (moded_refusal dimensions batches (length batches + 1) read.found)
     (facts_after dimensions (batches ++ read.found ∷ []) (number_after (length read.found) number)
     (parts_in steps size left)) rows read.next_is in
     let later = after dimensions (batches ++ read.found ∷ []) (number_after (length read.found) number) steps size left

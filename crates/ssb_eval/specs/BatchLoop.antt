@@ -12,14 +12,16 @@ use Rattle.cube_model.specs.declared.fault.Fault.TheVariants.{Memory, Input}
 use Rattle.cube_model.specs.declared.query.Query.{Query}
 use Rattle.cube_model.specs.declared.rows.DimRows.{DimRows}
 use Rattle.cube_model.specs.declared.rows.LineOrder.{LineOrder}
-use Rattle.cube_model.specs.Admission.{all_rows, refusal, HaveKnownKeys}
+use Rattle.cube_model.specs.Admission.{all_rows, moded_refusal, HaveKnownKeys}
 use Rattle.cube_model.specs.Limits.{most_batch_rows, most_batches}
+use Rattle.cube_model.specs.ShipModes.{modes_in}
 use Rattle.cube_query.specs.Groups.{FoldState, RepresentsRows}
 use Rattle.cube_query.specs.Limits.{AreFoldable}
 use Rattle.batch_admission.specs.Accepted.{Accepted, HasAccepted}
 use Rattle.batch_admission.specs.Found.{Found, cause_of, found_in}
 use Rattle.batch_admission.specs.Totals.{totals_of}
 use Rattle.ssb_eval.specs.Evaluation.{Gives, answer_of, facts_of, facts_after}
+use Rattle.ssb_eval.specs.ShipModes.{HasMet, HasMetRows, Met}
 
 -- batches were accepted, and their rows were folded
 pub record AreTaken (dimensions : DimRows) (query : Query) (accepted : Accepted) (fold : FoldState)
@@ -60,40 +62,43 @@ IsUnderWay dimensions found fold = (before : List LineOrder)
 
 -- the rows of the next batch of a text were read, looked at, and folded unless something was found in them
 pub record IsLookedAt (dimensions : DimRows) (query : Query) (before : List LineOrder) (old new : Unread)
-    (found : Found) (fold : FoldState) (rows : List LineOrder) : Type 0 where
+    (found : Found) (met : Met) (fold : FoldState) (rows : List LineOrder) : Type 0 where
   pub read : TakesBatch lineorder_row most_batch_rows old new rows
   pub begun : IsBegun dimensions query before rows found fold
+  pub modes : HasMetRows found met before rows
 
 -- they were; or memory was refused, a read failed, or one of its lines is refused
-abbrev pub LooksAtNext : DimRows → Query → List LineOrder → Unread → Unread → FoldState → Result Found Fault → Type 0
-LooksAtNext dimensions query before old new fold (Ok found) = (rows : List LineOrder)
-    × IsLookedAt dimensions query before old new found fold rows
-LooksAtNext dimensions query before old new fold (Err fault) = RefusesBatch lineorder_row most_batch_rows old fault
+abbrev pub LooksAtNext : DimRows → Query → List LineOrder → Unread → Unread → Met → FoldState → Result Found Fault
+    → Type 0
+LooksAtNext dimensions query before old new met fold (Ok found) = (rows : List LineOrder)
+    × IsLookedAt dimensions query before old new found met fold rows
+LooksAtNext dimensions query before old new met fold (Err fault) = RefusesBatch lineorder_row most_batch_rows old fault
 
 -- the next batch of a text, with a row or more, was read, accepted and folded
 pub record IsNextBatch (dimensions : DimRows) (query : Query) (batches : List (List LineOrder)) (old new : Unread)
-    (accepted : Accepted) (fold : FoldState) (rows : List LineOrder) : Type 0 where
+    (accepted : Accepted) (met : Met) (fold : FoldState) (rows : List LineOrder) : Type 0 where
   pub some : 1 ≤ length rows
   pub read : TakesBatch lineorder_row most_batch_rows old new rows
-  pub passes : refusal dimensions batches (length batches + 1) rows ≡ None
+  pub passes : moded_refusal dimensions batches (length batches + 1) rows ≡ None
   pub taken : AreTaken dimensions query accepted fold (batches ++ rows ∷ [])
+  pub modes : HasMet met (modes_in (all_rows (batches ++ rows ∷ []))) []
 
 -- the next batch of a text, with a row or more, was read and is refused
 pub record IsRefusedBatch (dimensions : DimRows) (batches : List (List LineOrder)) (old new : Unread) (fault : Fault)
     (rows : List LineOrder) : Type 0 where
   pub some : 1 ≤ length rows
   pub read : TakesBatch lineorder_row most_batch_rows old new rows
-  pub refused : refusal dimensions batches (length batches + 1) rows ≡ Some fault
+  pub refused : moded_refusal dimensions batches (length batches + 1) rows ≡ Some fault
 
 -- The next batch was taken, or no row was left. Or memory was refused, a read failed, one of its lines is refused, or
 -- it is refused itself
-abbrev pub TakesNextBatch : DimRows → Query → List (List LineOrder) → Unread → Unread → Accepted → FoldState
+abbrev pub TakesNextBatch : DimRows → Query → List (List LineOrder) → Unread → Unread → Accepted → Met → FoldState
     → Result Bool Fault → Type 0
-TakesNextBatch dimensions query batches old new accepted fold (Ok true) = (rows : List LineOrder)
-    × IsNextBatch dimensions query batches old new accepted fold rows
-TakesNextBatch dimensions query batches old new accepted fold (Ok false) =
+TakesNextBatch dimensions query batches old new accepted met fold (Ok true) = (rows : List LineOrder)
+    × IsNextBatch dimensions query batches old new accepted met fold rows
+TakesNextBatch dimensions query batches old new accepted met fold (Ok false) =
     TakesBatch lineorder_row most_batch_rows old new [] × AreTaken dimensions query accepted fold batches
-TakesNextBatch dimensions query batches old new accepted fold (Err fault) =
+TakesNextBatch dimensions query batches old new accepted met fold (Err fault) =
     (fault ≡ Memory)
     ⊎ ((fault ≡ Input)
     ⊎ (IsFirstFault lineorder_row most_batch_rows old.number old.left fault

@@ -12,7 +12,7 @@ use Rattle.cube_model.specs.declared.fault.Fault.TheVariants.{Memory, Input, Out
 use Rattle.cube_model.specs.declared.query.Query.{Query}
 use Rattle.cube_model.specs.declared.rows.DimRows.{DimRows}
 use Rattle.cube_model.specs.declared.rows.LineOrder.{LineOrder}
-use Rattle.cube_model.specs.Admission.{all_rows, refusal}
+use Rattle.cube_model.specs.Admission.{all_rows, moded_refusal}
 use Rattle.cube_model.specs.Limits.{most_batch_rows}
 use Rattle.cube_model.specs.Answers.{answer}
 use Rattle.cube_model.specs.Validity.{invalid_cause}
@@ -54,12 +54,12 @@ abbrev pub dimensions_of : Texts → Result DimRows Fault
 dimensions_of texts = and_then (tables_of texts) valid_rows
 
 -- the fact rows of the lines of batches, after batches that were accepted: the lines of a batch are read, and then it
--- is admitted. The number is that of the next line
+-- is admitted, ship modes being the members of an axis. The number is that of the next line
 abbrev pub facts_after : DimRows → List (List LineOrder) → ℕ → List (List (List ℕ)) → Result (List LineOrder) Fault
 facts_after dimensions batches number [] = Ok (all_rows batches)
 facts_after dimensions batches number (lines ∷ others) =
     and_then (rows_of lineorder_row number lines) (λ rows.
-    unless (refusal dimensions batches (length batches + 1) rows)
+    unless (moded_refusal dimensions batches (length batches + 1) rows)
     (facts_after dimensions (batches ++ rows ∷ []) (number_after (length rows) number) others))
 
 -- the fact rows of a text, in batches of 65,536 lines

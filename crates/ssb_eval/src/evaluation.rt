@@ -14,7 +14,7 @@ use std::io::{Read, Write};
 ///
 /// The first refusal decides, and nothing is written then: the query; the texts of customer,
 /// supplier, part and date; the dimensions; and then, for each batch of 65,536 fact rows, its
-/// lines and the check of the batch. Memory does not grow with the fact rows.
+/// lines and the check of the batch, its ship modes too. Memory grows with these, not with the rows.
 pub fn eval_texts<
     C: Read + Drop,
     S: Read + Drop,

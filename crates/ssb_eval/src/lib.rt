@@ -8,6 +8,7 @@ mod facts;
 mod formatting;
 mod laws;
 mod partial;
+mod ship_modes;
 mod star;
 mod tables;
 mod unknown;

@@ -132,6 +132,13 @@ impl<C: Read + Drop, S: Read + Drop, P: Read + Drop, D: Read + Drop, L: Read + D
         self.lineorder.line()
     }
 
+    /// The number of the line of the fact table that was read last, from 1, or 0 where none was.
+    pub fn fact_number(&self) -> u64
+        ensures { result ≡ self.now.lineorder.number }
+    {
+        self.lineorder.number()
+    }
+
     /// The rows of the dimensions, where they break a rule.
     pub fn broken(&self) -> Option<&DimRows>
         ensures some { IfSome result (λ rows. self.now.broken ≡ Some rows.now) }

@@ -1,6 +1,6 @@
 -- Whether cells are the grouping of batches.
 use Rattle.std.proofs.Common.{◌∙◌, ◌⊎◌, inl, inr, zero, suc, ◌∷◌, Result, Ok, Err, IfOk, IfErr, ◌≡◌, ◌<◌, ◌↔◌, sym, ap}
-use Rattle.std.proofs.Common.{refl, subst, arith, ℕ, true, false, List, [], length, map, take, get_or, Some}
+use Rattle.std.proofs.Common.{refl, subst, arith, ℕ, List, [], length, map, take, get_or, Some}
 use Rattle.std.proofs.lemmas.List.{get_or-map, length-map}
 use Rattle.cube_model.specs.Admission.{all_rows}
 use Rattle.cube_model.specs.declared.fault.Fault.{Fault}
@@ -8,19 +8,18 @@ use Rattle.cube_model.specs.declared.fault.Fault.TheVariants.{BadLayout, Device,
 use Rattle.cube_model.specs.declared.rows.DimRows.{DimRows}
 use Rattle.cube_model.specs.declared.rows.LineOrder.{LineOrder}
 use Rattle.object_store.specs.Content.{Content}
-use Rattle.lattice.specs.declared.view.View.{View}
-use Rattle.lattice.specs.Views.{index_of, mode_number}
+use Rattle.lattice.specs.Views.{index_of}
 use Rattle.cuboid_cells.specs.Cells.{AreProper, PlainCells}
 use Rattle.cuboid_upkeep.specs.Grouping.{RepresentRows}
 use Rattle.cuboid_upkeep.specs.Lawful.{CellsAreTheOne}
 use Rattle.cuboid_upkeep.specs.Steps.{HaveTooMany}
 use Rattle.warehouse_root.specs.declared.cuboid.StoredCuboid.{StoredCuboid}
-use Rattle.warehouse_objects.proofs.CallerLemmas.{own_view}
+use Rattle.warehouse_root.specs.Layouts.{views_of}
+use Rattle.warehouse_objects.proofs.CallerLemmas.{own_view, view_within}
 use Rattle.warehouse_objects.specs.Represents.{IsLaidOut, said_of}
-use Rattle.warehouse_objects.specs.Warehouse.{Cuboid, Warehouse, cuboid_at, modes_of}
+use Rattle.warehouse_objects.specs.Warehouse.{Cuboid, Warehouse, cuboid_at, ship_modes_of}
 use Rattle.stored_cuboids.specs.Merged.{HasMerge, IsSound}
 use Rattle.stored_cuboids.proofs.Merging.{merged_one}
-use Rattle.warehouse_objects.proofs.CallerLemmas.{plain_view}
 use Rattle.cuboid_cells.specs.Steps.{cells_of}
 
 -- ---- cells that group rows
@@ -45,34 +44,28 @@ not_too_many law rows modes facts cells proper large represent =
 -- ---- sound cuboids
 
 pub sound_by : (w : Warehouse) (stored : Cuboid) (mark : ℕ) (cells : PlainCells) → stored.mark ≡ mark
-    → HasMerge stored cells → RepresentRows w.rows (modes_of w) (all_rows (take mark w.batches)) cells
+    → HasMerge stored cells → RepresentRows w.rows (ship_modes_of w) (all_rows (take mark w.batches)) cells
     ↔ IsSound w stored
 sound_by w stored mark cells ends merge = (
   λ represent. record {
     cells = cells;
     merge = merge;
-    grouping = subst (λ (n : ℕ). RepresentRows w.rows (modes_of w) (all_rows (take n w.batches)) cells) (sym ends)
+    grouping = subst (λ (n : ℕ). RepresentRows w.rows (ship_modes_of w) (all_rows (take n w.batches)) cells) (sym ends)
         represent;
   },
   λ sound.
       let same : sound.cells ≡ cells =
       merged_one (cells_of stored.view []) stored.runs sound.cells cells sound.merge merge in
-      subst (λ (n : ℕ). RepresentRows w.rows (modes_of w) (all_rows (take n w.batches)) cells) ends
-      (subst (λ (m : PlainCells). RepresentRows w.rows (modes_of w) (all_rows (take stored.mark w.batches)) m) same
+      subst (λ (n : ℕ). RepresentRows w.rows (ship_modes_of w) (all_rows (take n w.batches)) cells) ends
+      (subst (λ (m : PlainCells). RepresentRows w.rows (ship_modes_of w) (all_rows (take stored.mark w.batches)) m) same
       sound.grouping),
 )
 
--- the first 256 views do not group by ship mode
-pub no_mode : (view : View) → index_of view < 256 → view.ship_mode ≡ false
-no_mode view below = elim view.ship_mode as (λ t. view.ship_mode ≡ t → t ≡ false) [
-  | true ↦ λ e. absurd (omega (arith, below, ap mode_number e))
-  | false ↦ λ e. refl
-] refl
-
-pub stored_mode : (c : Content) (w : Warehouse) (view : ℕ) (stored : Cuboid) (cells : PlainCells) → IsLaidOut c w
-    → cuboid_at view w.cuboids ≡ Some stored → index_of cells.view ≡ index_of stored.view → cells.view.ship_mode ≡ false
-stored_mode c w view stored cells laid found same =
-    no_mode cells.view (omega (arith, same, plain_view c w laid view stored found))
+-- cells of the view of a stored cuboid are of a view of the layout
+pub stored_within : (c : Content) (w : Warehouse) (view : ℕ) (stored : Cuboid) (cells : PlainCells) → IsLaidOut c w
+    → cuboid_at view w.cuboids ≡ Some stored → index_of cells.view ≡ index_of stored.view
+    → index_of cells.view < views_of w.layout
+stored_within c w view stored cells laid found same = omega (arith, same, view_within c w laid view stored found)
 
 -- ---- the cuboids of a root
 

@@ -21,8 +21,8 @@ use Rattle.lattice.specs.declared.view.View.{View}
 use Rattle.object_store.specs.Content.{Content, bytes_of}
 use Rattle.warehouse_root.specs.Objects.{run_id}
 use Rattle.warehouse_objects.proofs.CallerLemmas.{foldable, laid_of}
-use Rattle.warehouse_objects.specs.Represents.{Follow, HoldsGroupings, IsLaidOut, Represents, rows_in}
-use Rattle.warehouse_objects.specs.Warehouse.{Cuboid, StoredRun, Warehouse, cuboid_at, modes_of}
+use Rattle.warehouse_objects.specs.Represents.{AreItsMembers, Follow, HoldsGroupings, IsLaidOut, Represents, rows_in}
+use Rattle.warehouse_objects.specs.Warehouse.{Cuboid, StoredRun, Warehouse, cuboid_at, ship_modes_of}
 use Rattle.stored_cuboids.specs.Counted.{AreCounted, CountsRun}
 use Rattle.stored_cuboids.specs.Steps.{AreRead, GoesOn, HasRun, IsNextRun}
 use Rattle.stored_cuboids.specs.declared.reading.Progress.{Progress}
@@ -52,8 +52,9 @@ module _ (c : Content) (w : Warehouse) (view : ℕ) (stored : Cuboid) (represent
   holds : HoldsGroupings w stored
   holds = subst (HoldsGroupings w) at.is (represents.cuboids at.place stored at.within)
 
-  module _ (r : ℕ) (run : StoredRun) (here : slice_get stored.runs r ≡ Some run) (dims : DimRows) (same : dims ≡ w.rows)
-      (so_far : Progress) (read : AreRead stored r so_far) where
+  module _ (r : ℕ) (run : StoredRun) (here : slice_get stored.runs r ≡ Some run) (dims : DimRows)
+      (modes : List (List ℕ)) (same : AreItsMembers w dims modes) (so_far : Progress)
+      (read : AreRead stored r so_far) where
     inside : r < length stored.runs
     inside = slice_get_within stored.runs r run here
 
@@ -64,12 +65,14 @@ module _ (c : Content) (w : Warehouse) (view : ℕ) (stored : Cuboid) (represent
     span = subst (λ (x : StoredRun). IsSpan x.span) (this run) (holds.laid.spans r run inside)
 
     -- the cells of the run represent the rows of its batches
-    pub grouping : RepresentRows dims [] (rows_in w.batches run.span) (cells_of stored.view run.cells)
+    pub grouping : RepresentRows dims modes (rows_in w.batches run.span) (cells_of stored.view run.cells)
     grouping =
-        subst (λ (rows : DimRows). RepresentRows rows [] (rows_in w.batches run.span) (cells_of stored.view run.cells))
-        (sym same)
-        (subst (λ (x : StoredRun). RepresentRows w.rows (modes_of w) (rows_in w.batches x.span)
-        (cells_of stored.view x.cells)) (this run) (holds.groupings r run inside))
+        subst (λ (m : List (List ℕ)). RepresentRows dims m (rows_in w.batches run.span)
+        (cells_of stored.view run.cells)) (sym same.modes)
+        (subst (λ (rows : DimRows). RepresentRows rows (ship_modes_of w) (rows_in w.batches run.span)
+        (cells_of stored.view run.cells)) (sym same.rows)
+        (subst (λ (x : StoredRun). RepresentRows w.rows (ship_modes_of w) (rows_in w.batches x.span)
+        (cells_of stored.view x.cells)) (this run) (holds.groupings r run inside)))
 
     -- which come after those of the runs so far
     rows_next : all_rows (take so_far.end w.batches) ++ rows_in w.batches run.span
@@ -83,7 +86,8 @@ module _ (c : Content) (w : Warehouse) (view : ℕ) (stored : Cuboid) (represent
       where
         -- the run was counted
         pub counted_more : (own : View) (new : FoldState) (next : Progress)
-            → CountsRun c (run_id view r) own so_far dims fold new next → AreCounted w stored dims (suc r) new next
+            → CountsRun c (run_id view r) own so_far dims modes fold new next
+            → AreCounted w stored dims (suc r) new next
         counted_more own new next counts =
             let cells : PlainCells = cells_of stored.view run.cells in
             let there = has_run c w view stored laid found r run here in
@@ -114,7 +118,7 @@ module _ (c : Content) (w : Warehouse) (view : ℕ) (stored : Cuboid) (represent
               (
                 so_far_represents,
                 subst (λ (d : DimRows). AreFoldable d
-                    (all_rows (take so_far.end w.batches) ++ rows_in w.batches run.span)) (sym same)
+                    (all_rows (take so_far.end w.batches) ++ rows_in w.batches run.span)) (sym same.rows)
                     (subst (λ (rows : List LineOrder). AreFoldable w.rows rows) (sym rows_next)
                     (foldable w.rows w.batches represents.batches run.span.to within)),
               ),
@@ -140,29 +144,31 @@ module _ (content now : Content) (same : now ≡ content) (id : ℕ) (view : Vie
   all_left span cells is = subst (λ (text : Option (List ℕ)). AreLeft text run cells.cells) (sym text_is)
       (first span cells is).1
 
-  in_view : (span : Span) (cells : PlainCells) → HasRun content id span cells → (dims : DimRows) (rows : List LineOrder)
-      → RepresentRows dims [] rows cells → RepresentRows dims [] rows (cells_of run.head.view cells.cells)
-  in_view span cells is dims rows represent =
-      subst (λ (v : View). RepresentRows dims [] rows (cells_of v cells.cells))
+  in_view : (span : Span) (cells : PlainCells) → HasRun content id span cells → (dims : DimRows)
+      (modes : List (List ℕ)) (rows : List LineOrder) → RepresentRows dims modes rows cells
+      → RepresentRows dims modes rows (cells_of run.head.view cells.cells)
+  in_view span cells is dims modes rows represent =
+      subst (λ (v : View). RepresentRows dims modes rows (cells_of v cells.cells))
       (sym (ap (λ (head : RunHead). head.view) (first span cells is).0)) represent
 
-  pub counts_run : (next : Progress) → GoesOn view at run.head next → (dims : DimRows) (old new : FoldState)
-      → TakesRun dims [] (bytes_of now run.id) run old new
-      → CountsRun content id view at dims old new next
-  counts_run next goes dims old new takes = record {
+  pub counts_run : (next : Progress) → GoesOn view at run.head next → (dims : DimRows) (modes : List (List ℕ))
+      (old new : FoldState) → TakesRun dims modes (bytes_of now run.id) run old new
+      → CountsRun content id view at dims modes old new next
+  counts_run next goes dims modes old new takes = record {
     head = run.head;
     goes_on = goes;
     takes = λ span cells is. (
       (first span cells is).0,
-      λ rows represent. takes cells.cells (all_left span cells is) rows (in_view span cells is dims rows represent),
+      λ rows represent. takes cells.cells (all_left span cells is) rows
+          (in_view span cells is dims modes rows represent),
     );
   }
 
-  pub not_counted : (dims : DimRows) (old : FoldState)
+  pub not_counted : (dims : DimRows) (modes : List (List ℕ)) (old : FoldState)
       → ((cells : List Cell) → AreLeft (bytes_of now run.id) run cells → (rows : List LineOrder)
-      → RepresentRows dims [] rows (cells_of run.head.view cells) → CanTake dims old rows → ⊥)
+      → RepresentRows dims modes rows (cells_of run.head.view cells) → CanTake dims old rows → ⊥)
       → (cells : PlainCells) (next : Progress) (rows : List LineOrder) → IsNextRun content id view at cells next
-      → RepresentRows dims [] rows cells → CanTake dims old rows → ⊥
-  not_counted dims old refuses cells next rows goes represent can =
+      → RepresentRows dims modes rows cells → CanTake dims old rows → ⊥
+  not_counted dims modes old refuses cells next rows goes represent can =
       refuses cells.cells (all_left goes.span cells goes.there) rows
-      (in_view goes.span cells goes.there dims rows represent) can
+      (in_view goes.span cells goes.there dims modes rows represent) can

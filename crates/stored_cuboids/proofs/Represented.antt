@@ -26,7 +26,7 @@ use Rattle.cuboid_upkeep.proofs.CallerLemmas.{Climbs, ascending_apart, ascends, 
 use Rattle.cuboid_upkeep.proofs.CallerLemmas.{insert, inserted, none_after, only_one, part_small, tail_ascends}
 use Rattle.warehouse_root.specs.declared.cuboid.StoredCuboid.{StoredCuboid}
 use Rattle.warehouse_objects.specs.Represents.{Follow, HoldsGroupings, Represents, rows_in, said_of}
-use Rattle.warehouse_objects.specs.Warehouse.{Cuboid, StoredRun, Warehouse, cells_in, modes_of}
+use Rattle.warehouse_objects.specs.Warehouse.{Cuboid, StoredRun, Warehouse, cells_in, ship_modes_of}
 use Rattle.warehouse_objects.proofs.CallerLemmas.{foldable}
 use Rattle.stored_cuboids.specs.Merged.{AreMergedWith, HasMerge, IsSound}
 
@@ -53,25 +53,25 @@ rows_after batches from to le =
 module _ (law : MergesRepresentBoth) (w : Warehouse) (view : View) where
   abbrev AreGroupings : List StoredRun → Type 0
   AreGroupings runs =
-      All (λ run. RepresentRows w.rows (modes_of w) (rows_in w.batches run.span) (cells_of view run.cells)) runs
+      All (λ run. RepresentRows w.rows (ship_modes_of w) (rows_in w.batches run.span) (cells_of view run.cells)) runs
 
   abbrev Group : ℕ → PlainCells → Type 0
-  Group to cells = RepresentRows w.rows (modes_of w) (all_rows (take to w.batches)) cells
+  Group to cells = RepresentRows w.rows (ship_modes_of w) (all_rows (take to w.batches)) cells
 
   -- one run more
   next_represents : (cells next : PlainCells) (run : StoredRun) (from : ℕ) → cells.view ≡ view → Group from cells
       → run.span.from ≡ from → IsSpan run.span
-      → RepresentRows w.rows (modes_of w) (rows_in w.batches run.span) (cells_of view run.cells)
+      → RepresentRows w.rows (ship_modes_of w) (rows_in w.batches run.span) (cells_of view run.cells)
       → IsMergeOf cells (cells_of cells.view run.cells) next → Group run.span.to next
   next_represents cells next run from same so_far begins span grouping merge =
-      let both = law w.rows (modes_of w) (all_rows (take from w.batches)) (rows_in w.batches run.span) cells
+      let both = law w.rows (ship_modes_of w) (all_rows (take from w.batches)) (rows_in w.batches run.span) cells
       (cells_of cells.view run.cells) next refl so_far
-      (subst (λ (v : View). RepresentRows w.rows (modes_of w) (rows_in w.batches run.span) (cells_of v run.cells))
+      (subst (λ (v : View). RepresentRows w.rows (ship_modes_of w) (rows_in w.batches run.span) (cells_of v run.cells))
       (sym same) grouping) merge in
       let rows : all_rows (take from w.batches) ++ rows_in w.batches run.span ≡ all_rows (take run.span.to w.batches) =
       ap (λ (n : ℕ). all_rows (take n w.batches) ++ rows_in w.batches run.span) (sym begins)
       ∙ rows_after w.batches run.span.from run.span.to (omega (arith, span.some)) in
-      subst (λ (rows : List LineOrder). RepresentRows w.rows (modes_of w) rows next) rows both
+      subst (λ (rows : List LineOrder). RepresentRows w.rows (ship_modes_of w) rows next) rows both
 
   pub merged_represent : (runs : List StoredRun) (cells new : PlainCells) (from mark : ℕ) → cells.view ≡ view
       → Group from cells → AreMergedWith cells runs new → Follow from runs mark
@@ -81,11 +81,11 @@ module _ (law : MergesRepresentBoth) (w : Warehouse) (view : View) where
   merged_represent (run ∷ runs) cells new from mark same so_far are follow spans groupings =
       merged_represent runs are.0 new run.span.to mark (are.1.view ∙ same)
       (next_represents cells are.0 run from same so_far follow.0 (All-head (λ x. IsSpan x.span) run runs spans)
-      (All-head (λ x. RepresentRows w.rows (modes_of w) (rows_in w.batches x.span) (cells_of view x.cells)) run runs
-      groupings) are.1)
+      (All-head (λ x. RepresentRows w.rows (ship_modes_of w) (rows_in w.batches x.span) (cells_of view x.cells)) run
+      runs groupings) are.1)
       are.3 follow.1 (All-tail (λ x. IsSpan x.span) run runs spans)
-      (All-tail (λ x. RepresentRows w.rows (modes_of w) (rows_in w.batches x.span) (cells_of view x.cells)) run runs
-      groupings)
+      (All-tail (λ x. RepresentRows w.rows (ship_modes_of w) (rows_in w.batches x.span) (cells_of view x.cells)) run
+      runs groupings)
 
   -- no cell groups no row
   pub none_represent : Group 0 (cells_of view [])
@@ -98,7 +98,7 @@ module _ (law : MergesRepresentBoth) (w : Warehouse) (view : View) where
 -- the merge of a cuboid's runs is the grouping of its batches
 pub merge_represents : MergesRepresentBoth → (w : Warehouse) (stored : Cuboid) (cells : PlainCells)
     → HoldsGroupings w stored → HasMerge stored cells
-    → RepresentRows w.rows (modes_of w) (all_rows (take stored.mark w.batches)) cells
+    → RepresentRows w.rows (ship_modes_of w) (all_rows (take stored.mark w.batches)) cells
 merge_represents law w stored cells holds merge =
     merged_represent law w stored.view stored.runs (cells_of stored.view []) cells 0 stored.mark refl
     (none_represent law w stored.view) merge holds.laid.follow holds.laid.spans holds.groupings
@@ -245,13 +245,13 @@ module _ (law : MergesRepresentBoth) (c : Content) (w : Warehouse) (represents :
       (subst (λ (v : View). AreProper (cells_of v run.cells)) (sym same) own) in
       let next : PlainCells = cells_of cells.view (merge_lists cells.cells run.cells) in
       let grouping =
-      All-head (λ (x : StoredRun). RepresentRows w.rows (modes_of w) (rows_in w.batches x.span)
+      All-head (λ (x : StoredRun). RepresentRows w.rows (ship_modes_of w) (rows_in w.batches x.span)
       (cells_of view x.cells)) run runs groupings in
       let represent = next_represents law w view cells next run from same so_far follow.0 span grouping like.is in
       let ends = follow_up run.span.to runs mark follow.1 rest_spans in
       let folds = foldable w.rows w.batches represents.batches run.span.to (omega (arith, ends, within)) in
-      let fit = numbers_fit w.rows (modes_of w) (all_rows (take run.span.to w.batches)) next represent folds.in_range
-      folds.few in
+      let fit = numbers_fit w.rows (ship_modes_of w) (all_rows (take run.span.to w.batches)) next represent
+      folds.in_range folds.few in
       let many = sum_by-cons (λ (x : StoredRun). length x.cells) run runs in
       let next_proper : AreProper next = record {
         rules = record {
@@ -263,7 +263,7 @@ module _ (law : MergesRepresentBoth) (c : Content) (w : Warehouse) (represents :
       } in
       let rest = chain runs next run.span.to mark same next_proper represent follow.1 within rest_spans
       (All-tail (λ (x : StoredRun). AreProper (cells_of view x.cells)) run runs propers)
-      (All-tail (λ (x : StoredRun). RepresentRows w.rows (modes_of w) (rows_in w.batches x.span)
+      (All-tail (λ (x : StoredRun). RepresentRows w.rows (ship_modes_of w) (rows_in w.batches x.span)
       (cells_of view x.cells)) run runs groupings)
       (omega (arith, like.most, few, many)) in
       (rest.0, (next, like.is, next_proper, rest.1))
@@ -283,7 +283,7 @@ module _ (law : MergesRepresentBoth) (c : Content) (w : Warehouse) (represents :
       holds.laid.follow within holds.laid.spans
       (subst (λ (v : View). All (λ run. AreProper (cells_of v run.cells)) stored.runs) same holds.laid.proper)
       (subst (λ (v : View). All
-      (λ run. RepresentRows w.rows (modes_of w) (rows_in w.batches run.span) (cells_of v run.cells)) stored.runs)
+      (λ run. RepresentRows w.rows (ship_modes_of w) (rows_in w.batches run.span) (cells_of v run.cells)) stored.runs)
       same holds.groupings)
       (omega (arith, few)) in
       (there.0, subst (λ (v : View). AreMergedWith (cells_of v []) stored.runs there.0) (sym same) there.1)

@@ -21,7 +21,7 @@ use Rattle.warehouse_root.specs.Root.{IsProperCuboid}
 use Rattle.cube_model.specs.Admission.{all_rows}
 use Rattle.cuboid_upkeep.specs.Grouping.{RepresentRows}
 use Rattle.cuboid_upkeep.specs.Lawful.{MergesRepresentBoth}
-use Rattle.warehouse_objects.specs.Warehouse.{Cuboid, StoredRun, Warehouse, cells_in, cuboid_at, modes_of}
+use Rattle.warehouse_objects.specs.Warehouse.{Cuboid, StoredRun, Warehouse, cells_in, cuboid_at, ship_modes_of}
 use Rattle.warehouse_objects.specs.Represents.{Follow, HoldsGroupings, IsLaid, IsLaidOut, Represents, object_of}
 use Rattle.warehouse_objects.specs.Represents.{run_bytes, said_of}
 use Rattle.warehouse_objects.proofs.CallerLemmas.{object_run}
@@ -70,12 +70,12 @@ sound_at w view stored found all =
 pub grouping_there : MergesRepresentBoth
     → (c : Content) (w : Warehouse) (view mark : ℕ) (stored : Cuboid) (cells : PlainCells) → Represents c w
     → cuboid_at view w.cuboids ≡ Some stored → stored.mark ≡ mark
-    → HasMerge stored cells → RepresentRows w.rows (modes_of w) (all_rows (take mark w.batches)) cells
+    → HasMerge stored cells → RepresentRows w.rows (ship_modes_of w) (all_rows (take mark w.batches)) cells
 grouping_there law c w view mark stored cells represents found ends merge =
     let at = is_at w.cuboids view stored found in
     let holds : HoldsGroupings w stored =
     subst (HoldsGroupings w) at.is (represents.cuboids at.place stored at.within) in
-    subst (λ (n : ℕ). RepresentRows w.rows (modes_of w) (all_rows (take n w.batches)) cells) ends
+    subst (λ (n : ℕ). RepresentRows w.rows (ship_modes_of w) (all_rows (take n w.batches)) cells) ends
     (merge_represents law w stored cells holds merge)
 
 -- what an object is said to be, by its bytes

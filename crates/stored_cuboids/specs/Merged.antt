@@ -5,7 +5,7 @@ use Rattle.cuboid_cells.specs.Cells.{AreProper, PlainCells}
 use Rattle.cuboid_cells.specs.Merges.{IsMergeOf}
 use Rattle.cuboid_cells.specs.Steps.{cells_of}
 use Rattle.cuboid_upkeep.specs.Grouping.{RepresentRows}
-use Rattle.warehouse_objects.specs.Warehouse.{Cuboid, StoredRun, Warehouse, modes_of}
+use Rattle.warehouse_objects.specs.Warehouse.{Cuboid, StoredRun, Warehouse, ship_modes_of}
 
 -- cells with those of runs merged in, one run after another. Each merge keeps the rules of cells: no number exceeds its
 -- type
@@ -23,4 +23,4 @@ HasMerge cuboid cells = AreMergedWith (cells_of cuboid.view []) cuboid.runs cell
 pub record IsSound (w : Warehouse) (cuboid : Cuboid) : Type 0 where
   pub cells : PlainCells
   pub merge : HasMerge cuboid cells
-  pub grouping : RepresentRows w.rows (modes_of w) (all_rows (take cuboid.mark w.batches)) cells
+  pub grouping : RepresentRows w.rows (ship_modes_of w) (all_rows (take cuboid.mark w.batches)) cells

@@ -1,12 +1,15 @@
 //! Whether stored cuboids are what they are to be.
-ghost use Rattle.std.specs.Prelude.{◌≡◌, ◌≤◌, ◌⊎◌, ◌↔◌, Some, false, length, take, All, IfErr, IfOk, IsErrOf, IsTrue};
+ghost use Rattle.std.specs.Prelude.{◌≡◌, ◌<◌, ◌≤◌, ◌⊎◌, ◌↔◌, Some, false, length, take, All, IfErr, IfOk, IsErrOf};
+ghost use Rattle.std.specs.Prelude.{IsTrue};
 ghost use Rattle.cube_model.specs.declared.fault.Fault.TheVariants.{BadLayout, Device, Memory};
 ghost use Rattle.cube_model.specs.Admission.{all_rows};
 ghost use Rattle.object_store.specs.Store.{content_of, device_of, has_failed};
 ghost use Rattle.cuboid_upkeep.specs.Grouping.{RepresentRows};
-ghost use Rattle.warehouse_objects.specs.Warehouse.{Cuboid, Warehouse, cuboid_at, modes_of};
+ghost use Rattle.warehouse_objects.specs.Warehouse.{Cuboid, Warehouse, cuboid_at, ship_modes_of};
 ghost use Rattle.warehouse_objects.specs.Reads.{ReadsOnly};
-ghost use Rattle.warehouse_objects.specs.Represents.{IsLaidOut, root_of, said_of};
+ghost use Rattle.warehouse_objects.specs.Represents.{AreItsMembers, IsLaidOut, root_of, said_of};
+ghost use Rattle.warehouse_root.specs.Layouts.{views_of};
+ghost use Rattle.lattice.specs.Views.{index_of};
 ghost use Rattle.stored_cuboids.specs.Merged.{IsSound};
 
 use crate::runs::merged_runs;
@@ -18,6 +21,7 @@ use dimensions::Dims;
 use object_store::Store;
 use sector_device::Sectors;
 use std::alloc::Global;
+use warehouse_objects::ShipModes;
 use warehouse_root::{Root, StoredCuboid};
 
 /// Whether each stored cuboid is the grouping of the batches up to its mark. Each is worked out anew from the fact rows
@@ -29,14 +33,15 @@ pub fn audited<D: Sectors>(
     store: &mut Store<D>,
     root: &Root,
     dims: &Dims,
+    modes: &ShipModes,
 ) -> Result<bool, Fault>
     requires fine { has_failed store.old ≡ false }
     ensures answer { IfOk result (λ yes. D.keeps_word (device_of store.new) → (w : Warehouse)
         → IsLaidOut (content_of D.Sectors store.old) w
-        → root.now ≡ root_of w → dims.now ≡ w.rows → IsTrue yes ↔ All (IsSound w) w.cuboids) }
+        → root.now ≡ root_of w → AreItsMembers w dims.now modes.now → IsTrue yes ↔ All (IsSound w) w.cuboids) }
     ensures refused { IsErrOf result BadLayout → D.keeps_word (device_of store.new) → (w : Warehouse)
         → IsLaidOut (content_of D.Sectors store.old) w
-        → root.now ≡ root_of w → dims.now ≡ w.rows → ⊥ }
+        → root.now ≡ root_of w → AreItsMembers w dims.now modes.now → ⊥ }
 
     // The content stays, at each moment.
     ensures reads { ReadsOnly D.Sectors store.old store.new result }
@@ -45,7 +50,7 @@ pub fn audited<D: Sectors>(
     let _usable = store.is_broken();
     let _layout = root.layout();
     for cuboid in root.cuboids() {
-        let sound = is_sound(alloc, store, root, dims, *cuboid)?;
+        let sound = is_sound(alloc, store, root, dims, modes, *cuboid)?;
         if !sound {
             return Ok(false);
         }
@@ -61,23 +66,24 @@ pub fn is_sound<D: Sectors>(
     store: &mut Store<D>,
     root: &Root,
     dims: &Dims,
+    modes: &ShipModes,
     cuboid: StoredCuboid,
 ) -> Result<bool, Fault>
     requires fine { has_failed store.old ≡ false }
     requires within { cuboid.mark ≤ length root.now.batches }
     ensures answer { IfOk result (λ yes. D.keeps_word (device_of store.new) → (w : Warehouse) (stored : Cuboid)
         → IsLaidOut (content_of D.Sectors store.old) w
-        → root.now ≡ root_of w → dims.now ≡ w.rows → cuboid_at cuboid.view w.cuboids ≡ Some stored
+        → root.now ≡ root_of w → AreItsMembers w dims.now modes.now → cuboid_at cuboid.view w.cuboids ≡ Some stored
         → said_of stored ≡ cuboid → IsTrue yes ↔ IsSound w stored) }
     ensures refused { IsErrOf result BadLayout → D.keeps_word (device_of store.new) → (w : Warehouse) (stored : Cuboid)
         → IsLaidOut (content_of D.Sectors store.old) w
-        → root.now ≡ root_of w → dims.now ≡ w.rows → cuboid_at cuboid.view w.cuboids ≡ Some stored
+        → root.now ≡ root_of w → AreItsMembers w dims.now modes.now → cuboid_at cuboid.view w.cuboids ≡ Some stored
         → said_of stored ≡ cuboid → ⊥ }
     ensures reads { ReadsOnly D.Sectors store.old store.new result }
     ensures causes { IfErr result (λ fault. (fault ≡ Memory) ⊎ ((fault ≡ Device) ⊎ (fault ≡ BadLayout))) }
 {
     match merged_runs(alloc, store, cuboid) {
-        Ok(cells) => are_grouping(alloc, store, root, dims, &cells, cuboid.mark),
+        Ok(cells) => are_grouping(alloc, store, root, dims, modes, &cells, cuboid.mark),
         Err(Fault::BadLayout) => Ok(false),
         Err(fault) => Err(fault),
     }
@@ -89,6 +95,7 @@ fn are_grouping<D: Sectors>(
     store: &mut Store<D>,
     root: &Root,
     dims: &Dims,
+    modes: &ShipModes,
     cells: &Cells,
     mark: u32,
 ) -> Result<bool, Fault>
@@ -96,18 +103,18 @@ fn are_grouping<D: Sectors>(
     requires within { mark ≤ length root.now.batches }
     ensures answer { IfOk result (λ yes. D.keeps_word (device_of store.new) → (w : Warehouse)
         → IsLaidOut (content_of D.Sectors store.old) w
-        → root.now ≡ root_of w → dims.now ≡ w.rows → cells.now.view.ship_mode ≡ false
-        → IsTrue yes ↔ RepresentRows w.rows (modes_of w) (all_rows (take mark w.batches)) cells.now) }
+        → root.now ≡ root_of w → AreItsMembers w dims.now modes.now → index_of cells.now.view < views_of w.layout
+        → IsTrue yes ↔ RepresentRows w.rows (ship_modes_of w) (all_rows (take mark w.batches)) cells.now) }
     ensures refused { IsErrOf result BadLayout → D.keeps_word (device_of store.new) → (w : Warehouse)
         → IsLaidOut (content_of D.Sectors store.old) w
-        → root.now ≡ root_of w → dims.now ≡ w.rows → cells.now.view.ship_mode ≡ false → ⊥ }
+        → root.now ≡ root_of w → AreItsMembers w dims.now modes.now → index_of cells.now.view < views_of w.layout → ⊥ }
     ensures reads { ReadsOnly D.Sectors store.old store.new result }
     ensures causes { IfErr result (λ fault. (fault ≡ Memory) ⊎ ((fault ≡ Device) ⊎ (fault ≡ BadLayout))) }
 {
     cells_are_the_one();
     let _usable = store.is_broken();
     let span = Span { from: 0, to: mark };
-    match cells_of_batches(alloc, store, root, dims, cells.view(), span) {
+    match cells_of_batches(alloc, store, root, dims, modes, cells.view(), span) {
         Ok(own) => Ok(are_same(own.as_slice(), cells.as_slice())),
         Err(Fault::TooManyCells { .. }) => Ok(false),
         Err(fault) => Err(fault),

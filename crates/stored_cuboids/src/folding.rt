@@ -16,7 +16,7 @@ ghost use Rattle.cube_query.specs.CellRuns.{TakesRun};
 ghost use Rattle.cube_query.specs.Groups.{CanTake, IsOver, RepresentsRows};
 ghost use Rattle.warehouse_objects.specs.Warehouse.{Cuboid, Warehouse, cuboid_at};
 ghost use Rattle.warehouse_objects.specs.Reads.{ReadsOnly};
-ghost use Rattle.warehouse_objects.specs.Represents.{Represents, said_of};
+ghost use Rattle.warehouse_objects.specs.Represents.{AreItsMembers, Represents, said_of};
 ghost use Rattle.stored_cuboids.specs.Counted.{CountsRun};
 ghost use Rattle.stored_cuboids.specs.Steps.{IsNextRun};
 ghost use Rattle.stored_cuboids.specs.declared.reading.Progress.{Progress};
@@ -30,6 +30,7 @@ use lattice::View;
 use object_store::Store;
 use sector_device::Sectors;
 use std::alloc::Global;
+use warehouse_objects::ShipModes;
 use warehouse_root::{StoredCuboid, run_id};
 
 /// Counts the cells of the stored cuboid of a view into a fold that represents no row yet: its runs, one after another,
@@ -43,6 +44,7 @@ pub fn fold_runs<D: Sectors>(
     alloc: Global,
     store: &mut Store<D>,
     dims: &Dims,
+    modes: &ShipModes,
     fold: &mut Fold,
     cuboid: StoredCuboid,
     view: View,
@@ -55,13 +57,14 @@ pub fn fold_runs<D: Sectors>(
     // Then it represents the rows of the batches up to the mark.
     ensures ok { OnOk result (D.keeps_word (device_of store.new) → (w : Warehouse) (stored : Cuboid)
         → Represents (content_of D.Sectors store.old) w
-        → dims.now ≡ w.rows → cuboid_at cuboid.view w.cuboids ≡ Some stored → said_of stored ≡ cuboid
+        → AreItsMembers w dims.now modes.now → cuboid_at cuboid.view w.cuboids ≡ Some stored → said_of stored ≡ cuboid
         → RepresentsRows dims.now fold.new (all_rows (take cuboid.mark w.batches))) }
     ensures over { IsOver dims.now fold.new }
     ensures query { fold.new.query ≡ fold.old.query }
     ensures refused { IsErrOf result BadLayout → D.keeps_word (device_of store.new) → (w : Warehouse) (stored : Cuboid)
         → Represents (content_of D.Sectors store.old) w
-        → dims.now ≡ w.rows → cuboid_at cuboid.view w.cuboids ≡ Some stored → said_of stored ≡ cuboid → ⊥ }
+        → AreItsMembers w dims.now modes.now → cuboid_at cuboid.view w.cuboids ≡ Some stored → said_of stored ≡ cuboid
+        → ⊥ }
 
     // The content stays, at each moment.
     ensures reads { ReadsOnly D.Sectors store.old store.new result }
@@ -73,7 +76,16 @@ pub fn fold_runs<D: Sectors>(
         left: cuboid.cells,
     };
     for run in 0..cuboid.runs {
-        at = fold_run(alloc, store, dims, fold, view, at, run_id(cuboid.view, run))?;
+        at = fold_run(
+            alloc,
+            store,
+            dims,
+            modes,
+            fold,
+            view,
+            at,
+            run_id(cuboid.view, run),
+        )?;
     }
     if !at.is_whole(cuboid) {
         return Err(Fault::BadLayout);
@@ -86,6 +98,7 @@ fn fold_run<D: Sectors>(
     alloc: Global,
     store: &mut Store<D>,
     dims: &Dims,
+    modes: &ShipModes,
     fold: &mut Fold,
     view: View,
     at: Progress,
@@ -95,18 +108,18 @@ fn fold_run<D: Sectors>(
     requires over { IsOver dims.now fold.old }
     requires serves { Serves view fold.old.query }
     ensures ok { IfOk result (λ next. D.keeps_word (device_of store.new)
-        → CountsRun (content_of D.Sectors store.old) id view at dims.now fold.old fold.new next) }
+        → CountsRun (content_of D.Sectors store.old) id view at dims.now modes.now fold.old fold.new next) }
     ensures over { IsOver dims.now fold.new }
     ensures query { fold.new.query ≡ fold.old.query }
     ensures refused { IsErrOf result BadLayout → D.keeps_word (device_of store.new)
         → (cells : PlainCells) (next : Progress) (rows : List LineOrder)
-        → IsNextRun (content_of D.Sectors store.old) id view at cells next → RepresentRows dims.now [] rows cells
+        → IsNextRun (content_of D.Sectors store.old) id view at cells next → RepresentRows dims.now modes.now rows cells
         → CanTake dims.now fold.old rows → ⊥ }
     ensures reads { ReadsOnly D.Sectors store.old store.new result }
     ensures causes { IfErr result (λ fault. (fault ≡ Memory) ⊎ ((fault ≡ Device) ⊎ (fault ≡ BadLayout))) }
 {
     let (mut reader, next) = open_next(alloc, store, view, at, id)?;
-    fold_cells(store, dims, fold, &mut reader)?;
+    fold_cells(store, dims, modes, fold, &mut reader)?;
     Ok(next)
 }
 
@@ -114,6 +127,7 @@ fn fold_run<D: Sectors>(
 fn fold_cells<D: Sectors>(
     store: &mut Store<D>,
     dims: &Dims,
+    modes: &ShipModes,
     fold: &mut Fold,
     run: &mut RunReader,
 ) -> Result<(), Fault>
@@ -122,15 +136,16 @@ fn fold_cells<D: Sectors>(
     requires serves { Serves run.old.head.view fold.old.query }
     requires total { size_in store.old run.old.id ≡ Some (size_of_run run.old) }
     ensures ok { OnOk result (D.keeps_word (device_of store.new)
-        → TakesRun dims.now [] (bytes_of (content_of D.Sectors store.old) run.old.id) run.old fold.old fold.new) }
+        → TakesRun dims.now modes.now (bytes_of (content_of D.Sectors store.old) run.old.id) run.old fold.old
+        fold.new) }
     ensures over { IsOver dims.now fold.new }
     ensures query { fold.new.query ≡ fold.old.query }
     ensures refused { IsErrOf result BadLayout → D.keeps_word (device_of store.new)
         → (cells : List Cell) → AreLeft (bytes_of (content_of D.Sectors store.old) run.old.id) run.old cells
-        → (rows : List LineOrder) → RepresentRows dims.now [] rows (cells_of run.old.head.view cells)
+        → (rows : List LineOrder) → RepresentRows dims.now modes.now rows (cells_of run.old.head.view cells)
         → CanTake dims.now fold.old rows → ⊥ }
     ensures reads { ReadsOnly D.Sectors store.old store.new result }
     ensures causes { IfErr result (λ fault. (fault ≡ Memory) ⊎ ((fault ≡ Device) ⊎ (fault ≡ BadLayout))) }
 {
-    fold.add_run(dims, store, run, None)
+    fold.add_run(dims, store, run, Some(modes.dictionary()))
 }

@@ -7,7 +7,7 @@ ghost use Rattle.lattice.specs.Views.{index_of};
 ghost use Rattle.cuboid_cells.specs.Merges.{IsMergeOf};
 ghost use Rattle.cuboid_cells.specs.Cells.{AreProper, PlainCells};
 ghost use Rattle.cuboid_upkeep.specs.Grouping.{RepresentRows};
-ghost use Rattle.warehouse_objects.specs.Warehouse.{Cuboid, Warehouse, cuboid_at, modes_of};
+ghost use Rattle.warehouse_objects.specs.Warehouse.{Cuboid, Warehouse, cuboid_at, ship_modes_of};
 ghost use Rattle.warehouse_objects.specs.Reads.{ReadsOnly};
 ghost use Rattle.warehouse_objects.specs.Represents.{IsLaidOut, Represents, said_of};
 ghost use Rattle.stored_cuboids.specs.Merged.{HasMerge, IsSound};
@@ -46,7 +46,7 @@ pub fn merged_runs<D: Sectors>(
     ensures grouping { IfOk result (λ cells. D.keeps_word (device_of store.new) → (w : Warehouse) (stored : Cuboid)
         → Represents (content_of D.Sectors store.old) w
         → cuboid_at cuboid.view w.cuboids ≡ Some stored → said_of stored ≡ cuboid
-        → RepresentRows w.rows (modes_of w) (all_rows (take cuboid.mark w.batches)) cells) }
+        → RepresentRows w.rows (ship_modes_of w) (all_rows (take cuboid.mark w.batches)) cells) }
     ensures unsound { IsErrOf result BadLayout → D.keeps_word (device_of store.new) → (w : Warehouse) (stored : Cuboid)
         → IsLaidOut (content_of D.Sectors store.old) w
         → cuboid_at cuboid.view w.cuboids ≡ Some stored → said_of stored ≡ cuboid → IsSound w stored → ⊥ }

@@ -2,21 +2,33 @@
 use cube_model::{Answer, Fault, LineOrder};
 use cube_query::fold;
 use dimensions::Dims;
-use sample_sessions::{add, report, status, submit, with_cuboids};
-use sample_star::{FACTS, Fact, ONE_CUSTOMER, STRANGER, WIDER_STAR, dim_rows, line_orders};
+use sample_sessions::{add, report, status, store_views, submit, with_cuboids};
+use sample_star::{
+    FACTS, FIRST_FACT, Fact, ONE_CUSTOMER, STRANGER, WIDER_STAR, dim_rows, line_orders,
+};
 use sector_device::Sectors;
 use ssb_reports::{QNumber, query_of};
 use std::alloc::Global;
 use warehouse::{Layout, Session, Status, StoredCuboid};
 
 /// How many rows there are in the first batches together.
-const ROWS: [u64; 4] = [0, 3, 4, 4];
+const ROWS: [u64; 4] = [0, 3, 4, 5];
 
 /// The views of the choice.
 const VIEWS: [u16; 3] = [59, 203, 248];
 
+/// A view of the second layout, by manufacturer and ship mode.
+const BY_MODE: u16 = 507;
+
+/// The row of the third batch, by the first ship mode that no row before it has.
+const BY_SHIP: Fact<'static> = Fact {
+    shipmode: "SHIP",
+    ..FIRST_FACT
+};
+
 /// What was acknowledged: the creation, batches, the choice, how many batches the cuboids hold, whether a customer was
-/// added, and whether the warehouse was moved to the second layout.
+/// added, whether the warehouse was moved to the second layout, and, where a cuboid by ship mode is stored, how many
+/// batches it holds.
 #[derive(Clone, Copy, Debug, PartialEq, Eq)]
 pub(crate) struct Reached {
     pub(crate) created: bool,
@@ -25,6 +37,7 @@ pub(crate) struct Reached {
     pub(crate) mark: u32,
     pub(crate) added: bool,
     pub(crate) moved: bool,
+    pub(crate) by_mode: Option<u32>,
 }
 
 pub(crate) const NOTHING: Reached = Reached {
@@ -34,10 +47,12 @@ pub(crate) const NOTHING: Reached = Reached {
     mark: 0,
     added: false,
     moved: false,
+    by_mode: None,
 };
 
 /// What a warehouse lacks next. The cuboids are brought to the first batch, and to the second, which has a row of the
-/// customer that is added between the two. The third batch comes after the move to the second layout.
+/// customer that is added between the two. After the move to the second layout a cuboid by ship mode is stored and
+/// brought to these batches, and the third batch has a ship mode more.
 #[derive(Clone, Copy, Debug, PartialEq, Eq)]
 enum Lacks {
     Batch(u32),
@@ -45,17 +60,29 @@ enum Lacks {
     Upkeep,
     Addition,
     Migration,
+    ByMode,
     Nothing,
 }
 
-/// The least number of batches that a stored cuboid holds, if there is one.
+/// The least number of batches that a cuboid of the choice holds, if there is one.
 fn least_mark(status: &Status) -> Option<u32> {
     status
         .cuboids
         .iter()
         .flatten()
+        .filter(|cuboid| cuboid.view != BY_MODE)
         .map(|cuboid| cuboid.mark)
         .min()
+}
+
+/// How many batches the cuboid by ship mode holds, if it is stored.
+fn mode_mark(status: &Status) -> Option<u32> {
+    status
+        .cuboids
+        .iter()
+        .flatten()
+        .find(|cuboid| cuboid.view == BY_MODE)
+        .map(|cuboid| cuboid.mark)
 }
 
 fn lack_of(status: &Status) -> Lacks {
@@ -66,12 +93,21 @@ fn lack_of(status: &Status) -> Lacks {
         Some(_) if status.additions == 0 => Lacks::Addition,
         Some(_) if status.batches < 2 => Lacks::Batch(2),
         Some(_) if status.layout == Layout::First => Lacks::Migration,
+        Some(_) => lack_in_second(status),
+    }
+}
+
+/// What a warehouse of the second layout lacks.
+fn lack_in_second(status: &Status) -> Lacks {
+    match mode_mark(status) {
+        None => Lacks::ByMode,
+        Some(mark) if mark < 2 => Lacks::Upkeep,
         Some(_) if status.batches < 3 => Lacks::Batch(3),
         Some(_) => Lacks::Nothing,
     }
 }
 
-/// Submits the batch of a number: the three sample rows, a row of the third customer, and no row.
+/// Submits the batch of a number: the three sample rows, a row of the third customer, and one of a third ship mode.
 fn submit_next<D: Sectors>(
     alloc: Global,
     session: &mut Session<D>,
@@ -80,7 +116,7 @@ fn submit_next<D: Sectors>(
     match number {
         1 => submit(alloc, session, 1, &FACTS),
         2 => submit(alloc, session, 2, &[STRANGER]),
-        _ => submit(alloc, session, number, &[]),
+        _ => submit(alloc, session, number, &[BY_SHIP]),
     }
 }
 
@@ -102,6 +138,7 @@ fn go_on<D: Sectors>(
         Lacks::Upkeep => {
             session.upkeep(alloc)?;
             reached.mark = reached.batches;
+            reached.by_mode = reached.by_mode.map(|_| reached.batches);
         }
         Lacks::Addition => {
             add(alloc, session, 1, &ONE_CUSTOMER)?;
@@ -110,6 +147,10 @@ fn go_on<D: Sectors>(
         Lacks::Migration => {
             session.migrate(alloc)?;
             reached.moved = true;
+        }
+        Lacks::ByMode => {
+            store_views(alloc, session, &[59, 203, 248, BY_MODE])?;
+            reached.by_mode = Some(0);
         }
         Lacks::Nothing => return Ok(false),
     }
@@ -122,7 +163,7 @@ pub(crate) fn live<D: Sectors>(
     session: &mut Session<D>,
     reached: &mut Reached,
 ) -> Result<(), Fault> {
-    for _ in 0..10 {
+    for _ in 0..12 {
         if !go_on(alloc, session, reached)? {
             break;
         }
@@ -152,6 +193,9 @@ fn first_rows(alloc: Global, batches: u32) -> Result<Vec<LineOrder>, Fault> {
     }
     if batches > 1 {
         push(alloc, &mut rows, &[STRANGER])?;
+    }
+    if batches > 2 {
+        push(alloc, &mut rows, &[BY_SHIP])?;
     }
     Ok(rows)
 }
@@ -199,7 +243,8 @@ fn are_allowed(status: &Status, reached: &Reached) -> bool {
     let marks = reached.mark..=status.batches;
     let chosen = VIEWS;
     let mut views = chosen.iter();
-    for cuboid in status.cuboids.iter().flatten() {
+    let cuboids = status.cuboids.iter().flatten();
+    for cuboid in cuboids.filter(|cuboid| cuboid.view != BY_MODE) {
         if views.next() != Some(&cuboid.view) || !marks.contains(&cuboid.mark) {
             return false;
         }
@@ -229,6 +274,18 @@ fn is_layout_allowed(status: &Status, reached: &Reached) -> bool {
     }
 }
 
+/// Whether the cuboid by ship mode may hold so many batches, or not be stored: it is not before the move, and holds the
+/// first two before there is a third.
+fn is_mode_allowed(status: &Status, reached: &Reached) -> bool {
+    match mode_mark(status) {
+        None => reached.by_mode.is_none() && status.batches < 3,
+        Some(mark) => {
+            let marks = reached.by_mode.unwrap_or(0)..=2;
+            status.layout == Layout::Second && marks.contains(&mark)
+        }
+    }
+}
+
 /// Whether a status is one that may be found once so much was acknowledged: the batches, and at most the one that was
 /// being added.
 fn is_allowed(status: &Status, reached: &Reached) -> bool {
@@ -238,6 +295,7 @@ fn is_allowed(status: &Status, reached: &Reached) -> bool {
         && are_allowed(status, reached)
         && is_addition_allowed(status, reached)
         && is_layout_allowed(status, reached)
+        && is_mode_allowed(status, reached)
 }
 
 /// Whether a session is at a warehouse that may be found once so much was acknowledged, and answers and audits as it
@@ -275,8 +333,15 @@ pub(crate) fn last_status() -> Status {
         layout: Layout::Second,
         additions: 1,
         target: 2,
-        generation: 15,
-        ..status(3, 4)
+        generation: 18,
+        ..status(3, 5)
     };
-    with_cuboids(plain, &VIEWS.map(last_cuboid))
+    let [first, second, third] = VIEWS.map(last_cuboid);
+    let by_mode = StoredCuboid {
+        view: BY_MODE,
+        runs: 1,
+        mark: 2,
+        cells: 2,
+    };
+    with_cuboids(plain, &[first, second, third, by_mode])
 }

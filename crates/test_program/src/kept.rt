@@ -1,7 +1,7 @@
 //! What tables and loads keep of a refusal, and that they keep nothing where nothing is refused.
-use crate::kept::Kept::{Facts, Key, Nothing, Row, Rows};
+use crate::kept::Kept::{Facts, Key, Lines, Nothing, Row, Rows};
 use crate::words::FIRST;
-use cube_model::{Axis, Fault};
+use cube_model::{Axis, Fault, MemberPlace};
 use report_formats::{Asked, Format, Layout};
 use sample_sessions::fresh;
 use sample_star::{Pieces, TABLES, Tables, in_sevens};
@@ -21,6 +21,8 @@ enum Kept {
     /// A line of the fact table.
     Facts(&'static str),
     Key(UnknownKey),
+    /// So many lines of the fact table that were read.
+    Lines(u64),
 }
 
 /// The sample with another customer table or other facts, what comes of query 1.1 over it, and what is kept.
@@ -38,13 +40,21 @@ const STRANGERS: &[u8] =
 const BAD_SECOND: &[u8] =
     b"1|1|7|1|1|19930105|1-URGENT|0|17|1000|1000|2|980|600|0|19930201|AIR|\n2|1|2|2|2|19971202|5-LOW|0|x|2000|2000|3|1940|2000|0|19980101|RAIL|\n";
 
+/// Its second line has the ship mode ALL, and with its third line a sum is too large.
+const RESERVED: &[u8] =
+    b"1|1|1|1|1|19930105|1-URGENT|0|17|1000|1000|2|980|600|0|19930201|AIR|\n2|1|2|2|2|19971202|5-LOW|0|24|2000|2000|3|1940|2000|0|19980101|ALL|\n3|1|1|2|1|19971202|5-LOW|0|25|9223372036854775807|500|1|495|100|0|19980101|AIR|\n";
+
+/// Its first line has the ship mode ALL, and its second line a customer that there is not.
+const RESERVED_FIRST: &[u8] =
+    b"1|1|1|1|1|19930105|1-URGENT|0|17|1000|1000|2|980|600|0|19930201|ALL|\n2|1|7|2|2|19971202|5-LOW|0|24|2000|2000|3|1940|2000|0|19980101|RAIL|\n";
+
 const SECOND: UnknownKey = UnknownKey {
     axis: Axis::Customer,
     key: 7,
     line: 2,
 };
 
-static CASES: [Case; 5] = [
+static CASES: [Case; 7] = [
     (TABLES, Ok(()), Nothing),
     (
         Tables {
@@ -72,6 +82,25 @@ static CASES: [Case; 5] = [
         },
         Err(Fault::UnknownCustomer { row: 2 }),
         Key(SECOND),
+    ),
+    // A key comes before the ship modes of its batch, and they come before its sums.
+    (
+        Tables {
+            lineorder: RESERVED_FIRST,
+            ..TABLES
+        },
+        Err(Fault::UnknownCustomer { row: 2 }),
+        Key(SECOND),
+    ),
+    (
+        Tables {
+            lineorder: RESERVED,
+            ..TABLES
+        },
+        Err(Fault::ReservedMember {
+            place: MemberPlace::InBatch { row: 2 },
+        }),
+        Lines(3),
     ),
     // A line comes before the rows of its batch.
     (
@@ -103,6 +132,7 @@ fn have_kept(tables: &Read<'_>, done: Result<(), Fault>, kept: Kept) -> bool {
         },
         Facts(text) => done.is_err() && tables.fact_line() == text.as_bytes(),
         Key(key) => tables.unknown() == Some(key),
+        Lines(count) => tables.unknown().is_none() && tables.fact_number() == count,
     }
 }
 

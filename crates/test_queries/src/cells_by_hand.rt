@@ -17,6 +17,7 @@ use cube_query::Fold;
 use cuboid_cells::laws::bytes_are_one_run;
 use cuboid_cells::{Cells, Span};
 use cuboid_upkeep::GrowingCells;
+use dictionary::Dictionary;
 use dimensions::Dims;
 use group_plan::RowSlice;
 use sample_star::{
@@ -430,15 +431,18 @@ fn are_same(alloc: Global, one: &Cells, other: &Cells) -> Result<bool, Fault>
     Ok(left.as_slice() == right.as_slice())
 }
 
-// Whether cells are those of rows. Of a view that groups by ship mode this is not looked at: no call makes its cells.
-fn are_of_rows(alloc: Global, dims: &Dims, cells: &Cells, rows: &[LineOrder]) -> Result<bool, Fault>
+// Whether cells are those of rows, with ship modes or with none.
+fn are_of_rows(
+    alloc: Global,
+    dims: &Dims,
+    cells: &Cells,
+    rows: &[LineOrder],
+    modes: Option<&Dictionary>,
+) -> Result<bool, Fault>
     requires few { length rows.now ≤ most_batch_rows }
 {
-    if cells.view().ship_mode {
-        return Ok(true);
-    }
     let mut grouped = GrowingCells::new(alloc, dims, cells.view())?;
-    grouped.add_rows(alloc, dims, &RowSlice(rows))?;
+    grouped.add_rows(alloc, dims, &RowSlice(rows), modes)?;
     let grouped = grouped.finish(alloc)?;
     are_same(alloc, cells, &grouped)
 }
@@ -463,7 +467,7 @@ fn count_in(
         Some(batch) => Some(batch.coded(TextColumn::ShipMode).0),
         None => None,
     };
-    let is_same = are_of_rows(alloc, dims, cells, rows)?;
+    let is_same = are_of_rows(alloc, dims, cells, rows, modes)?;
     match fold.add_cells(dims, cells, modes) {
         Ok(()) => {
             if is_same {

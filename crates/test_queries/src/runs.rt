@@ -68,7 +68,7 @@ fn run_of(alloc: Global, dims: &Dims, rows: &[LineOrder]) -> Result<Vec<u8>, Fau
         return Err(Fault::BadQuery);
     }
     let mut cells = GrowingCells::new(alloc, dims, view)?;
-    cells.add_rows(alloc, dims, &RowSlice(rows))?;
+    cells.add_rows(alloc, dims, &RowSlice(rows), None)?;
     let cells = cells.finish(alloc)?;
     cells.encode(alloc, Span { from: 0, to: 1 })
 }

@@ -43,8 +43,8 @@ fn again(alloc: Global, disk: MemDisk, number: u32) -> Result<Session<MemDisk>, 
     Ok(session)
 }
 
-/// A session that was moved to the second layout. A move that answers `Memory` is made again, and after `Device` the disk
-/// is opened again.
+/// A session that was moved to the second layout. A move that answers `Memory` is made again, and after `Device` the
+/// disk is opened again.
 fn moved(alloc: Global, mut session: Session<MemDisk>) -> Result<Session<MemDisk>, Fault> {
     match session.migrate(alloc) {
         Ok(()) => Ok(session),

@@ -11,17 +11,19 @@ const RESERVED: Fact<'static> = Fact {
     ..FIRST_FACT
 };
 
-/// How a move of a warehouse with three cuboids ended, and a second one, what an audit says, and the status of the
-/// warehouse that is opened then.
-type Moved = (Option<Fault>, Option<Fault>, bool, Status);
+/// How a move of a warehouse with three cuboids ended, and a second one, what an audit says, how many ship modes there
+/// were before and are after, and the status of the warehouse that is opened then.
+type Moved = (Option<Fault>, Option<Fault>, bool, [Option<u32>; 2], Status);
 
 fn moved_twice(alloc: Global) -> Result<Moved, Fault> {
     let mut session = with_three(alloc, 1)?;
+    let before = session.ship_mode_count();
     let first = session.migrate(alloc).err();
     let second = session.migrate(alloc).err();
     let audit = session.audit(alloc)?;
     let session = opened(alloc, session.close())?;
-    Ok((first, second, audit, session.status()?))
+    let modes = [before, session.ship_mode_count()];
+    Ok((first, second, audit, modes, session.status()?))
 }
 
 #[test]
@@ -31,7 +33,8 @@ fn a_move_keeps_batches_and_cuboids_and_is_made_once(rt: HostRuntime) {
         generation: 8,
         ..status_of_three()
     };
-    assert_eq!(rt; moved_twice(rt.alloc()), Ok((None, None, true, status)));
+    let moved = moved_twice(rt.alloc());
+    assert_eq!(rt; moved, Ok((None, None, true, [None, Some(2)], status)));
 }
 
 /// Batches, the first row for which they cannot be moved, and how many batches and rows they are.

@@ -1,14 +1,15 @@
 -- Words that name views one by one.
-use Rattle.std.proofs.Common.{◌≡◌, ◌⊎◌, ⊎_elim, inr, ℕ, zero, suc, ◌+◌, ◌<◌, List, [], ◌∷◌, ◌++◌, length, map, take}
+use Rattle.std.proofs.Common.{◌≡◌, ⊎_elim, inl, inr, ℕ, zero, suc, ◌+◌, ◌<◌, List, [], ◌∷◌, ◌++◌, length, map, take}
 use Rattle.std.proofs.Common.{get_or, refl, sym, ◌∙◌, ap, subst, add-one, arith, Option, None, Some, Bor, Bool, IsTrue}
 use Rattle.std.proofs.Common.{◌↔◌}
-use Rattle.std.specs.List.{All, AllPairs, AllZip, Contains}
+use Rattle.std.specs.List.{AllZip, Contains}
 use Rattle.std.specs.Option.{MatchOption}
 use Rattle.std.proofs.lemmas.List.{length-map, length-take-le, get_or-take, get_or-map, get_or_default}
 use Rattle.std.proofs.lemmas.List.Quantifiers.{all_pairs_push}
 use Rattle.lattice.specs.declared.view.View.{View}
+use Rattle.lattice.specs.Names.{mode_name}
 use Rattle.lattice.specs.Views.{index_of}
-use Rattle.view_words.specs.Words.{AreNamed, IsNumber, IsTwiceAt, Names, level_names, parts_of}
+use Rattle.view_words.specs.Words.{AreNamed, IsNumber, IsTwiceAt, NameLevels, Names, level_names, parts_of}
 
 zip_next : {A X : Type 0} (Spells : List ℕ → A → Type 0) (text : X → List ℕ) (parts : List X) (i : ℕ) (d : X)
     (value : A) (values : List A) → i < length parts → AllZip Spells (map text (take i parts)) values
@@ -44,20 +45,13 @@ zip_at R (word ∷ words) [] k d e all below = absurd all
 zip_at R (word ∷ words) (value ∷ values) zero d e all below = all.0
 zip_at R (word ∷ words) (value ∷ values) (suc k) d e all below = zip_at R words values k d e all.1 (omega arith)
 
--- views that are named do not group by ship mode
-pub zip_plain : (words : List (List ℕ)) (views : List View) → AllZip Names words views
-    → All (λ view. index_of view < 256) views
-zip_plain words views all = λ k d lt. (zip_at Names words views k [] d all lt).plain
-
--- a word that is no number up to 255 names a view by its levels, or none
-pub by_levels : (word : List ℕ) (found : Option View) → ((n : ℕ) → IsNumber word n → 255 < n)
-    → MatchOption found ((view : View) → index_of view < 256 → parts_of word ≡ level_names view → ⊥)
-    (λ view. (index_of view < 256) × (parts_of word ≡ level_names view))
+-- a word that is the number of no view names a view by its levels, or none
+pub by_levels : (word : List ℕ) (found : Option View) → ((view : View) → IsNumber word (index_of view) → ⊥)
+    → MatchOption found ((view : View) → NameLevels (parts_of word) view → ⊥)
+    (λ view. NameLevels (parts_of word) view)
     → MatchOption found ((view : View) → Names word view → ⊥) (λ view. Names word view)
-by_levels word None big none =
-    λ view names. ⊎_elim (λ number. absurd (omega (arith, big (index_of view) number, names.plain)))
-    (λ levels. none view names.plain levels) names.said
-by_levels word (Some view) big some = record { plain = some.0; said = inr some.1 }
+by_levels word None other none = λ view names. ⊎_elim (other view) (none view) names
+by_levels word (Some view) other some = inr some
 
 -- the texts of words
 abbrev texts : List (Bor (List ℕ)) → List (List ℕ)
@@ -102,20 +96,25 @@ named_more words views place view d below before new names = record {
       (λ k e lt same. new (k, lt, get_or_default views k view e lt ∙ same));
 }
 
-four_texts : (parts : List (Bor (List ℕ))) (d : Bor (List ℕ)) → length parts ≡ 4
+five_texts : (parts : List (Bor (List ℕ))) (d : Bor (List ℕ)) → length parts ≡ 5
     → texts parts ≡ (get_or parts 0 d).now ∷ (get_or parts 1 d).now ∷ (get_or parts 2 d).now ∷ (get_or parts 3 d).now
-    ∷ []
-four_texts (p ∷ q ∷ r ∷ s ∷ []) d len = refl
-four_texts [] d len = absurd (omega arith)
-four_texts (p ∷ []) d len = absurd (omega arith)
-four_texts (p ∷ q ∷ []) d len = absurd (omega arith)
-four_texts (p ∷ q ∷ r ∷ []) d len = absurd (omega arith)
-four_texts (p ∷ q ∷ r ∷ s ∷ t ∷ more) d len = absurd (omega arith)
+    ∷ (get_or parts 4 d).now ∷ []
+five_texts (p ∷ q ∷ r ∷ s ∷ t ∷ []) d len = refl
+five_texts [] d len = absurd (omega arith)
+five_texts (p ∷ []) d len = absurd (omega arith)
+five_texts (p ∷ q ∷ []) d len = absurd (omega arith)
+five_texts (p ∷ q ∷ r ∷ []) d len = absurd (omega arith)
+five_texts (p ∷ q ∷ r ∷ s ∷ []) d len = absurd (omega arith)
+five_texts (p ∷ q ∷ r ∷ s ∷ t ∷ u ∷ more) d len = absurd (omega arith)
 
--- four words, of which three are known, are a list exactly where the last one is its last
-pub four_decide : (parts : List (Bor (List ℕ))) (a b c e : List ℕ) (r : Bool) (d : Bor (List ℕ)) → length parts ≡ 4
-    → (get_or parts 0 d).now ≡ a → (get_or parts 1 d).now ≡ b → (get_or parts 2 d).now ≡ c → IsTrue r
-    ↔ ((get_or parts 3 d).now ≡ e) → IsTrue r ↔ (texts parts ≡ a ∷ b ∷ c ∷ e ∷ [])
-four_decide parts a b c e r d len one two three last =
-    let all = four_texts parts d len in
-    (λ yes. let four = last.0 yes in all ∙ cc, λ same. let whole = sym all ∙ same in last.1 (cc))
+-- five words, of which the last is that of ship mode, name the levels of a view exactly where the first four do
+pub five_decide : (parts : List (Bor (List ℕ))) (view : View) (r : Bool) (d : Bor (List ℕ)) → length parts ≡ 5
+    → (get_or parts 4 d).now ≡ mode_name view.ship_mode → IsTrue r
+    ↔ ((get_or parts 0 d).now ∷ (get_or parts 1 d).now ∷ (get_or parts 2 d).now ∷ (get_or parts 3 d).now ∷ []
+    ≡ level_names view) → IsTrue r ↔ NameLevels (texts parts) view
+five_decide parts view r d len mode four =
+    let all = five_texts parts d len in (
+      λ yes. let same = four.0 yes in inl (all ∙ cc),
+      λ named. ⊎_elim (λ five. let whole = sym all ∙ five in four.1 (cc))
+          (λ less. absurd (omega (arith, ap length (sym all ∙ less.1)))) named,
+    )

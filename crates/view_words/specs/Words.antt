@@ -1,10 +1,11 @@
 -- The words of views. The grammar is our own; the names are those of the levels.
-use Rattle.std.specs.Prelude.{◌≡◌, ◌⊎◌, ◌<◌, ◌==◌, ℕ, List, [], ◌∷◌, length, slice_index_or}
+use Rattle.std.specs.Prelude.{◌≡◌, ◌⊎◌, ◌<◌, ◌==◌, ℕ, false, List, [], ◌∷◌, ◌++◌, length, slice_index_or}
 use Rattle.std.specs.List.{AllPairs, AllZip, slice_split}
 use Rattle.std.specs.Str.Parse.{IsNumeral, digits_value}
 use Rattle.cube_model.specs.declared.attr.Axis.TheVariants.{Customer, Supplier, Part, Date}
 use Rattle.lattice.specs.declared.view.View.{View}
 use Rattle.lattice.specs.Levels.{level_name}
+use Rattle.lattice.specs.Names.{mode_name}
 use Rattle.lattice.specs.Views.{index_of}
 use Rattle.view_words.specs.declared.refused.Refused.{Refused}
 use Rattle.view_words.specs.declared.refused.Refused.TheVariants.{Memory, TooMany, Unknown, Twice}
@@ -14,20 +15,25 @@ pub record IsNumber (word : List ℕ) (number : ℕ) : Type 0 where
   pub digits : IsNumeral 10 word
   pub value : number ≡ digits_value 10 word
 
--- the names of the levels of a view
+-- the names of the levels of a view on the four dimensions
 abbrev pub level_names : View → List (List ℕ)
 level_names view =
     level_name Customer view.customer ∷ level_name Supplier view.supplier ∷ level_name Part view.part
     ∷ level_name Date view.date ∷ []
 
+-- parts name the levels of a view: these four and the name for ship mode, which may be left out where it is ALL
+abbrev pub NameLevels : List (List ℕ) → View → Type 0
+NameLevels parts view =
+    (parts ≡ level_names view ++ mode_name view.ship_mode ∷ [])
+    ⊎ ((view.ship_mode ≡ false) × (parts ≡ level_names view))
+
 -- the parts of a word between commas (44)
 abbrev pub parts_of : List ℕ → List (List ℕ)
 parts_of word = slice_split (λ byte. byte == 44) word
 
--- a word names a view without ship mode: by its number, or by the names of its levels, separated by commas
-pub record Names (word : List ℕ) (view : View) : Type 0 where
-  pub plain : index_of view < 256
-  pub said : IsNumber word (index_of view) ⊎ (parts_of word ≡ level_names view)
+-- a word names a view: by its number, or by the names of its levels, separated by commas
+abbrev pub Names : List ℕ → View → Type 0
+Names word view = IsNumber word (index_of view) ⊎ NameLevels (parts_of word) view
 
 -- words name views one by one, and each view once
 pub record AreNamed (words : List (List ℕ)) (views : List View) : Type 0 where

@@ -1,6 +1,5 @@
 //! The views that words name.
-ghost use Rattle.std.specs.Prelude.{◌<◌, ◌≤◌, ◌+◌, ◌↔◌, All, Contains, IsTrue, IfOk, IfErr, OnOk, length, map, take};
-ghost use Rattle.lattice.specs.Views.{index_of};
+ghost use Rattle.std.specs.Prelude.{◌<◌, ◌≤◌, ◌+◌, ◌↔◌, Contains, IsTrue, IfOk, IfErr, OnOk, length, map, take};
 ghost use Rattle.view_words.specs.Words.{AreNamed, Refuses};
 
 use crate::refused::Refused;
@@ -11,11 +10,11 @@ use std::alloc::Global;
 /// How many views a warehouse stores at most.
 const MOST_VIEWS: usize = 16;
 
-/// The views that words name, each by its number, 0 to 255, or by its levels, such as `nation,nation,ALL,year`.
+/// The views that words name, each by its number, 0 to 511, or by its levels, such as `nation,nation,ALL,year`, where a
+/// fifth, `shipmode` or `ALL`, may follow.
 pub fn read_views(alloc: Global, words: &[&str]) -> Result<Vec<View>, Refused>
     ensures ok { IfOk result (λ views. AreNamed (map (λ word. word.now) words.now) views.items) }
     ensures few { IfOk result (λ views. length views.items ≤ 16) }
-    ensures plain { IfOk result (λ views. All (λ view. index_of view < 256) views.items) }
     ensures err { IfErr result (Refuses (map (λ word. word.now) words.now)) }
 {
     if words.len() > MOST_VIEWS {

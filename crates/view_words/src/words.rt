@@ -1,36 +1,49 @@
 //! The view that a word names.
-ghost use Rattle.std.specs.Prelude.{◌≡◌, ◌↔◌, ◌<◌, ℕ, IsTrue, IfOk, MatchOption, map};
+ghost use Rattle.std.specs.Prelude.{◌≡◌, ◌↔◌, ◌<◌, ◌∷◌, [], ℕ, IsTrue, IfOk, MatchOption, map};
 ghost use Rattle.lattice.specs.declared.view.View.{View};
+ghost use Rattle.lattice.specs.Names.{mode_name};
 ghost use Rattle.lattice.specs.Views.{index_of};
-ghost use Rattle.view_words.specs.Words.{IsNumber, Names, level_names, parts_of};
+ghost use Rattle.view_words.specs.Words.{IsNumber, NameLevels, Names, level_names, parts_of};
 
 use cube_model::Axis;
 use lattice::{View, indexes_name_views};
 use std::alloc::{AllocError, Global};
 
-/// How many views there are without ship mode. They have the numbers below it.
-const VIEWS: u16 = 256;
+/// How many views there are. They have the numbers below it.
+const VIEWS: u16 = 512;
 
-/// The view that a word names: by its number, such as `59`, or by its levels, such as `city,ALL,mfgr,ALL`. It fails
-/// only when out of memory.
+/// The view that a word names: by its number, such as `59`, or by its levels, such as `city,ALL,mfgr,ALL` or
+/// `ALL,ALL,mfgr,ALL,shipmode`. It fails only when out of memory.
 pub(crate) fn read_view(alloc: Global, word: &str) -> Result<Option<View>, AllocError>
     ensures { IfOk result
         (λ found. MatchOption found ((view : View) → Names word.now view → ⊥) (λ view. Names word.now view)) }
 {
-    match number(word) {
-        Some(number) => Ok(View::new(u16::from(number))),
+    match view_of_number(word) {
+        Some(view) => Ok(Some(view)),
         None => view_of_levels(alloc, word),
     }
 }
 
-// One or more digits, whose value is at most 255. Leading zeros are accepted, a sign is not.
-fn number(word: &str) -> Option<u8>
-    ensures { MatchOption result ((n : ℕ) → IsNumber word.now n → 255 < n) (λ n. IsNumber word.now n) }
+// The view whose number a word is.
+fn view_of_number(word: &str) -> Option<View>
+    ensures { MatchOption result ((view : View) → IsNumber word.now (index_of view) → ⊥)
+        (λ view. IsNumber word.now (index_of view)) }
+{
+    indexes_name_views();
+    match number(word) {
+        Some(number) => View::new(number),
+        None => None,
+    }
+}
+
+// One or more digits, whose value is at most 65,535. Leading zeros are accepted, a sign is not.
+fn number(word: &str) -> Option<u16>
+    ensures { MatchOption result ((n : ℕ) → IsNumber word.now n → 65535 < n) (λ n. IsNumber word.now n) }
 {
     if word.starts_with('+') {
         return None;
     }
-    match word.parse::<u8>() {
+    match word.parse::<u16>() {
         Ok(number) => Some(number),
         Err(_) => None,
     }
@@ -38,9 +51,8 @@ fn number(word: &str) -> Option<u8>
 
 // The view whose levels a word names.
 fn view_of_levels(alloc: Global, word: &str) -> Result<Option<View>, AllocError>
-    ensures { IfOk result
-        (λ found. MatchOption found ((view : View) → index_of view < 256 → parts_of word.now ≡ level_names view → ⊥)
-        (λ view. (index_of view < 256) × (parts_of word.now ≡ level_names view))) }
+    ensures { IfOk result (λ found. MatchOption found ((view : View) → NameLevels (parts_of word.now) view → ⊥)
+        (λ view. NameLevels (parts_of word.now) view)) }
 {
     let parts = parts(alloc, word)?;
     Ok(view_of_parts(parts.as_slice()))
@@ -55,9 +67,8 @@ fn parts(alloc: Global, word: &str) -> Result<Vec<&str>, AllocError>
 
 // The view of the names of its levels.
 fn view_of_parts(parts: &[&str]) -> Option<View>
-    ensures { MatchOption result ((view : View) → index_of view < 256
-        → map (λ part. part.now) parts.now ≡ level_names view → ⊥)
-        (λ view. (index_of view < 256) × (map (λ part. part.now) parts.now ≡ level_names view)) }
+    ensures { MatchOption result ((view : View) → NameLevels (map (λ part. part.now) parts.now) view → ⊥)
+        (λ view. NameLevels (map (λ part. part.now) parts.now) view) }
 {
     indexes_name_views();
     for index in 0..VIEWS {
@@ -72,19 +83,32 @@ fn view_of_parts(parts: &[&str]) -> Option<View>
 
 // Whether words are the names of the levels of a view.
 fn are_names(parts: &[&str], view: View) -> bool
-    ensures { IsTrue result ↔ (map (λ part. part.now) parts.now ≡ level_names view) }
+    ensures { IsTrue result ↔ NameLevels (map (λ part. part.now) parts.now) view }
 {
-    let [customer, supplier, part, date] = parts else {
-        return false;
-    };
-    if *customer != view.customer.name(Axis::Customer) {
-        return false;
+    match parts {
+        [customer, supplier, part, date] => {
+            !view.ship_mode && are_levels(view, customer, supplier, part, date)
+        }
+        [customer, supplier, part, date, mode] => {
+            *mode == mode_name(view.ship_mode) && are_levels(view, customer, supplier, part, date)
+        }
+        _ => false,
     }
-    if *supplier != view.supplier.name(Axis::Supplier) {
-        return false;
-    }
-    if *part != view.part.name(Axis::Part) {
-        return false;
-    }
-    *date == view.date.name(Axis::Date)
+}
+
+// Whether words are the names of the levels of a view on the four dimensions.
+fn are_levels(view: View, customer: &str, supplier: &str, part: &str, date: &str) -> bool
+    ensures { IsTrue result ↔ (customer.now ∷ supplier.now ∷ part.now ∷ date.now ∷ [] ≡ level_names view) }
+{
+    customer == view.customer.name(Axis::Customer)
+        && supplier == view.supplier.name(Axis::Supplier)
+        && part == view.part.name(Axis::Part)
+        && date == view.date.name(Axis::Date)
+}
+
+/// The name for ship mode in a view: `shipmode` where it groups by it, or `ALL`.
+pub(crate) fn mode_name(ship_mode: bool) -> &'static str
+    ensures { result.now ≡ mode_name ship_mode }
+{
+    if ship_mode { "shipmode" } else { "ALL" }
 }

@@ -1,6 +1,7 @@
 -- A move to the second layout, over what its commit did.
 use Rattle.std.proofs.Common.{◌≡◌, ⊎_elim, inl, inr, ℕ, ◌+◌, ◌-◌, ◌<◌, ◌≤◌, ◌==◌, nat_lt, if◌then◌else◌, Bool}
-use Rattle.std.proofs.Common.{true, false, Option, Some, None, List, [], ◌∷◌, length, refl, sym, ◌∙◌, ap, subst, arith}
+use Rattle.std.proofs.Common.{true, false, Option, Some, None, List, [], ◌∷◌, length, get_or, refl, sym, ◌∙◌, ap}
+use Rattle.std.proofs.Common.{subst, arith}
 use Rattle.std.proofs.lemmas.Bool.Decides.{nat_tests}
 use Rattle.cube_model.specs.declared.attr.Axis.TheVariants.{Customer, Supplier, Part, Date}
 use Rattle.cube_model.specs.declared.fault.Fault.{Fault}
@@ -26,6 +27,7 @@ use Rattle.warehouse_objects.specs.Migration.{migration_refusal}
 use Rattle.warehouse_objects.specs.Represents.{HasModes, Represents, dimension_of, modes_object, object_of, root_of}
 use Rattle.warehouse_objects.specs.Represents.{run_after, segment_after}
 use Rattle.warehouse_objects.specs.Warehouse.{Warehouse, migrated, ship_modes_of}
+use Rattle.warehouse_objects.proofs.CallerLemmas.{groupings_moved}
 use Rattle.warehouse.specs.Migrating.{RefusesMove, IsMigration, IsMigrationOf, MigratedOrNot, migration_puts}
 use Rattle.warehouse.specs.declared.migration.Migration.{Migration}
 
@@ -137,11 +139,7 @@ module _ (c : Content) (root : PlainRoot) (m : Migration) (is : IsMigration root
       rows = represents.rows;
       batches = represents.batches;
       modes = subst AreModes of.modes_are is.are;
-      plain = represents.plain;
-      cuboids = λ k d within. let holds = represents.cuboids k d within in record {
-        laid = record { follow = holds.laid.follow; spans = holds.laid.spans; proper = holds.laid.proper };
-        groupings = holds.groupings;
-      };
+      cuboids = λ k d within. groupings_moved w (get_or w.cuboids k d) (represents.cuboids k d within);
     }
 
     -- it may be there

@@ -16,9 +16,11 @@ use Rattle.lattice.specs.declared.view.View.{View}
 use Rattle.view_choice.specs.Choice.{IsGreedy, Lattice, benefits}
 use Rattle.view_choice.specs.Cuboids.{cuboids, cuboids_for, most_demanded}
 use Rattle.object_store.specs.Store as stores
+use Rattle.warehouse_root.specs.declared.layout.Layout.{Layout}
+use Rattle.warehouse_root.specs.declared.layout.Layout.TheVariants.{First, Second}
 use Rattle.warehouse_root.specs.Limits.{most_cuboids}
 use Rattle.warehouse_root.specs.Root as roots
-use Rattle.warehouse_objects.specs.Warehouse.{Warehouse, dropped_ids, with_views}
+use Rattle.warehouse_objects.specs.Warehouse.{Warehouse, dropped_ids, ship_modes_of, with_views}
 use Rattle.warehouse_objects.specs.Represents.{root_of}
 use Rattle.warehouse.specs.declared.chosen.Chosen.{Chosen}
 use Rattle.warehouse.specs.declared.session.Session.{Session}
@@ -32,23 +34,32 @@ members_on rows lowest middle highest = record {
   highest = length (attr_members rows highest);
 }
 
--- how many members the levels of the four axes have
-abbrev pub counts_of : DimRows → Counts
-counts_of rows = record {
+-- the count of ship modes in a layout: none in the first, where they are no members
+abbrev pub modes_counted : Layout → List (List ℕ) → Option ℕ
+modes_counted First modes = None
+modes_counted Second modes = Some (length modes)
+
+-- how many members the levels of the axes have, with a count of ship modes
+abbrev pub members_counted : DimRows → Option ℕ → Counts
+members_counted rows ship_modes = record {
   customer = members_on rows CustomerCity CustomerNation CustomerRegion;
   supplier = members_on rows SupplierCity SupplierNation SupplierRegion;
   part = members_on rows PartBrand1 PartCategory PartMfgr;
   date = members_on rows DateKey DateYearmonthnum DateYear;
-  ship_modes = None;
+  ship_modes = ship_modes;
 }
+
+-- those of a warehouse
+abbrev pub counts_of : Warehouse → Counts
+counts_of w = members_counted w.rows (modes_counted w.layout (ship_modes_of w))
 
 -- the views of a warehouse, with what a choice among them looks at: its fact rows, and the members of its levels
 abbrev pub choices : Warehouse → Lattice View
-choices w = cuboids (length (all_rows w.batches)) (counts_of w.rows)
+choices w = cuboids (length (all_rows w.batches)) (counts_of w)
 
 -- the same where only some views are asked for, each as often as it is among them
 abbrev pub choices_for : Warehouse → List View → Lattice View
-choices_for w demanded = cuboids_for (length (all_rows w.batches)) (counts_of w.rows) demanded
+choices_for w demanded = cuboids_for (length (all_rows w.batches)) (counts_of w) demanded
 
 -- what is chosen from where all views are asked for, or some
 abbrev pub lattice_asked : ℕ → Counts → Option (List View) → Lattice View
@@ -56,7 +67,7 @@ lattice_asked rows counts None = cuboids rows counts
 lattice_asked rows counts (Some demanded) = cuboids_for rows counts demanded
 
 abbrev pub choices_asked : Warehouse → Option (List View) → Lattice View
-choices_asked w asked = lattice_asked (length (all_rows w.batches)) (counts_of w.rows) asked
+choices_asked w asked = lattice_asked (length (all_rows w.batches)) (counts_of w) asked
 
 -- more are to be chosen than may be stored, or more are asked for than are counted
 abbrev pub AreTooMany : ℕ → Option (List View) → Type 0

@@ -59,7 +59,7 @@ impl<D: Sectors> Session<D> {
             return Err(Fault::Failed);
         }
         kept_is_represented(&self.dims, &self.root);
-        match checked(alloc, &mut self.store, &self.root, &self.dims) {
+        match checked(alloc, &mut self.store, &self.root, &self.dims, &self.modes) {
             Ok(found) => Ok(found),
             Err(fault) => Err(fault),
         }

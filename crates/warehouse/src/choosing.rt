@@ -1,9 +1,8 @@
 //! Which cuboids a warehouse stores.
-ghost use Rattle.std.specs.Prelude.{◌≡◌, ◌≢◌, ◌⊎◌, ◌↔◌, ◌<◌, ◌≤◌, All, Err, List, true, false, length, map, IfErr};
+ghost use Rattle.std.specs.Prelude.{◌≡◌, ◌≢◌, ◌⊎◌, ◌↔◌, ◌<◌, ◌≤◌, Err, List, true, false, length, map, IfErr};
 ghost use Rattle.std.specs.Prelude.{IfOk, IsErrOf, IsTrue, OnOk};
 ghost use Rattle.std.specs.Option.{option_map};
 ghost use Rattle.cube_model.specs.declared.fault.Fault.TheVariants.{BadQuery, Device, Failed, Memory};
-ghost use Rattle.lattice.specs.Views.{index_of};
 ghost use Rattle.view_choice.specs.Choice.{IsGreedy, benefits};
 ghost use Rattle.view_choice.specs.Cuboids.{most_demanded, most_fact_rows};
 ghost use Rattle.object_store.specs.Disk.{Leaves};
@@ -11,8 +10,8 @@ ghost use Rattle.warehouse_root.specs.Limits.{most_cuboids};
 ghost use Rattle.warehouse_objects.specs.Warehouse.{Warehouse, with_views};
 ghost use Rattle.warehouse_objects.specs.Represents.{Represents};
 ghost use Rattle.warehouse.specs.Choosing.{AreTooMany, ChooseForRefuses, ChooseRefuses, IsChoice, IsChoiceFor};
-ghost use Rattle.warehouse.specs.Choosing.{IsChosenFrom, ViewsRefuse, choices_asked, counts_of, lattice_asked};
-ghost use Rattle.warehouse.specs.Choosing.{members_on, views_of};
+ghost use Rattle.warehouse.specs.Choosing.{IsChosenFrom, ViewsRefuse, choices_asked, lattice_asked};
+ghost use Rattle.warehouse.specs.Choosing.{members_counted, members_on, views_of};
 ghost use Rattle.warehouse.specs.declared.chosen.Chosen.{Chosen};
 ghost use Rattle.warehouse.specs.Session.{Breaks, CommitsOnce, IsAt, KeepsContent, device_of, disk_of, has_failed};
 
@@ -30,13 +29,12 @@ use warehouse_root::limits::MOST_CUBOIDS;
 
 impl<D: Sectors> Session<D> {
     /// Stores the cuboids of some views, and no others, in one commit. A stored cuboid of one of them stays as it is,
-    /// another one holds no batch yet, and the target becomes 0. It always commits. At most 16 views, without ship
-    /// mode.
+    /// another one holds no batch yet, and the target becomes 0. It always commits. At most 16 views; one that
+    /// the layout lacks is left out.
     ///
     /// It can fail when out of memory or room, at the last generation, and because the device does.
     pub fn set_views(&mut self, alloc: Global, views: &[View]) -> Result<(), Fault>
         requires few { length views.now ≤ most_cuboids }
-        requires known { All (λ view. index_of view < 256) views.now }
 
         // A crash leaves the cuboids as they were, or these.
         ensures leaves { (w : Warehouse) → IsAt D.Sectors self.old w
@@ -59,7 +57,14 @@ impl<D: Sectors> Session<D> {
         ensures device { IsErrOf result Device → Breaks D.Sectors self.old self.new }
         ensures word { D.keeps_word (device_of self.new) → D.keeps_word (device_of self.old) }
     {
-        self.store_views(alloc, views)
+        if self.is_broken() {
+            return Err(Fault::Failed);
+        }
+        kept_is_represented(&self.dims, &self.root);
+        match cuboid_commits::set_views(alloc, &mut self.store, &mut self.root, views) {
+            Ok(()) => Ok(()),
+            Err(fault) => Err(fault),
+        }
     }
 
     /// Stores the cuboids of the greedy list of k views over the fact rows and the members of now, as `set_views` does,
@@ -97,7 +102,7 @@ impl<D: Sectors> Session<D> {
             Ok(chosen) => chosen,
             Err(fault) => return Err(fault),
         };
-        match self.store_views(alloc, chosen.views.as_slice()) {
+        match self.set_views(alloc, chosen.views.as_slice()) {
             Ok(()) => Ok(chosen.chosen),
             Err(fault) => Err(fault),
         }
@@ -146,37 +151,8 @@ impl<D: Sectors> Session<D> {
             Ok(choice) => choice,
             Err(fault) => return Err(fault),
         };
-        match self.store_views(alloc, choice.views.as_slice()) {
+        match self.set_views(alloc, choice.views.as_slice()) {
             Ok(()) => Ok(choice.chosen),
-            Err(fault) => Err(fault),
-        }
-    }
-
-    // Stores the cuboids of those of some views that do not group by ship mode, and no others.
-    fn store_views(&mut self, alloc: Global, views: &[View]) -> Result<(), Fault>
-        requires few { length views.now ≤ most_cuboids }
-        ensures leaves { (w : Warehouse) → IsAt D.Sectors self.old w
-            → Leaves (disk_of D.Sectors self.old) (disk_of D.Sectors self.new)
-            (λ c. Represents c w ⊎ Represents c (with_views w views.now)) }
-        ensures ok { OnOk result ((w : Warehouse) → IsAt D.Sectors self.old w
-            → IsAt D.Sectors self.new (with_views w views.now) × CommitsOnce D.Sectors self.old self.new) }
-        ensures refused { IfErr result (λ fault. fault ≢ Device → (w : Warehouse) → IsAt D.Sectors self.old w →
-            IsAt D.Sectors self.new w × KeepsContent D.Sectors self.old self.new
-            × Leaves (disk_of D.Sectors self.old) (disk_of D.Sectors self.new) (λ c. Represents c w)) }
-        ensures causes { IfErr result (λ fault. fault ≢ Device → (w : Warehouse) → IsAt D.Sectors self.old w
-            → D.keeps_word (device_of self.new)
-            → ViewsRefuse D.Sectors self.old w views.now fault) }
-        ensures failed { IsErrOf result Failed ↔ (has_failed self.old ≡ true) }
-        ensures unmoved { IsErrOf result Failed → self.new ≡ self.old }
-        ensures device { IsErrOf result Device → Breaks D.Sectors self.old self.new }
-        ensures word { D.keeps_word (device_of self.new) → D.keeps_word (device_of self.old) }
-    {
-        if self.is_broken() {
-            return Err(Fault::Failed);
-        }
-        kept_is_represented(&self.dims, &self.root);
-        match cuboid_commits::set_views(alloc, &mut self.store, &mut self.root, views) {
-            Ok(()) => Ok(()),
             Err(fault) => Err(fault),
         }
     }
@@ -206,7 +182,8 @@ impl<D: Sectors> Session<D> {
         }
         kept_is_represented(&self.dims, &self.root);
         let rows = row_total(self.root.batches());
-        match Choice::of(alloc, rows, &counts_of(&self.dims), k, asked) {
+        let counts = counts_of(&self.dims, self.ship_mode_count());
+        match Choice::of(alloc, rows, &counts, k, asked) {
             Ok(choice) => Ok(choice),
             Err(fault) => Err(fault),
         }
@@ -317,9 +294,9 @@ fn paired(alloc: Global, views: &[View], benefits: &[u64]) -> Result<Vec<Chosen>
     Ok(chosen)
 }
 
-// How many members the levels of the axes have.
-fn counts_of(dims: &Dims) -> Counts
-    ensures { result ≡ counts_of dims.now }
+// How many members the levels of the axes have, with a count of ship modes.
+fn counts_of(dims: &Dims, ship_modes: Option<u32>) -> Counts
+    ensures { result ≡ members_counted dims.now ship_modes }
 {
     Counts {
         customer: members_on(
@@ -336,7 +313,7 @@ fn counts_of(dims: &Dims) -> Counts
         ),
         part: members_on(dims, Attr::PartBrand1, Attr::PartCategory, Attr::PartMfgr),
         date: members_on(dims, Attr::DateKey, Attr::DateYearmonthnum, Attr::DateYear),
-        ship_modes: None,
+        ship_modes,
     }
 }
 

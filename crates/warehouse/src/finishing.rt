@@ -35,7 +35,13 @@ impl<D: Sectors> Session<D> {
     {
         let _broken = self.is_broken();
         kept_is_represented(&self.dims, &self.root);
-        let caught = catch_up(alloc, &mut self.store, &self.dims, &mut self.root);
+        let caught = catch_up(
+            alloc,
+            &mut self.store,
+            &self.dims,
+            &self.modes,
+            &mut self.root,
+        );
         unless_no_room(caught)
     }
 }

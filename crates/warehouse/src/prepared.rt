@@ -8,7 +8,7 @@ ghost use Rattle.warehouse_root.specs.Root.{AreProperTotals, IsProper};
 ghost use Rattle.object_store.specs.Commit.{ArePuts};
 ghost use Rattle.object_store.specs.Content.{Content};
 ghost use Rattle.warehouse_objects.specs.Lawful.{beginning_puts};
-ghost use Rattle.warehouse_objects.specs.Represents.{IsLaidOut, Represents, root_of, stored};
+ghost use Rattle.warehouse_objects.specs.Represents.{AreItsMembers, IsLaidOut, Represents, root_of, stored};
 ghost use Rattle.warehouse_objects.specs.Warehouse.{Warehouse, AreStorable};
 ghost use Rattle.warehouse.specs.Growing.{totals_in};
 ghost use Rattle.warehouse_objects.specs.Loaded.{IsLoaded};
@@ -128,6 +128,8 @@ pub(crate) fn kept_is_represented(dims: &Rc<Dims>, root: &Root)
         → Represents c w → Agrees w dims.now.value root.now }
     ensures laid { (c : Content) (w : Warehouse) (modes : List (List ℕ)) → IsLoaded c dims.now.value modes root.now
         → IsLaidOut c w → Agrees w dims.now.value root.now }
+    ensures members { (c : Content) (w : Warehouse) (modes : List (List ℕ)) → IsLoaded c dims.now.value modes root.now
+        → IsLaidOut c w → AreItsMembers w dims.now.value modes }
 {
     rows_are_one();
     objects_are_storable();

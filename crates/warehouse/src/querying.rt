@@ -96,7 +96,15 @@ impl<D: Sectors> Session<D> {
         if let Err(fault) = check(query, as_of, self.root.batches().len() as u32) {
             return Err(fault);
         }
-        match groups_by_plan(alloc, &mut self.store, &self.root, &self.dims, as_of, query) {
+        match groups_by_plan(
+            alloc,
+            &mut self.store,
+            &self.root,
+            &self.dims,
+            &self.modes,
+            as_of,
+            query,
+        ) {
             Ok(found) => Ok(found),
             Err(fault) => Err(fault),
         }

@@ -69,7 +69,15 @@ impl<D: Sectors> Session<D> {
         if let Err(fault) = check(query, as_of, self.root.batches().len() as u32) {
             return Err(fault);
         }
-        match Running::begin(alloc, &mut self.store, &self.root, &self.dims, as_of, query) {
+        match Running::begin(
+            alloc,
+            &mut self.store,
+            &self.root,
+            &self.dims,
+            &self.modes,
+            as_of,
+            query,
+        ) {
             Ok(running) => Ok(running),
             Err(fault) => Err(fault),
         }

@@ -1,6 +1,7 @@
-//! The dimension tables of a warehouse, and its layout.
+//! The dimension tables of a warehouse, its layout, and its ship modes.
 ghost use Rattle.std.specs.Prelude.{◌≡◌};
-ghost use Rattle.warehouse_objects.specs.Warehouse.{Warehouse};
+ghost use Rattle.warehouse_objects.specs.Warehouse.{Warehouse, ship_modes_of};
+ghost use Rattle.warehouse.specs.Choosing.{modes_counted};
 ghost use Rattle.warehouse.specs.Session.{device_of, IsAt};
 
 use crate::prepared::kept_is_represented;
@@ -26,5 +27,17 @@ impl<D: Sectors> Session<D> {
     {
         kept_is_represented(&self.dims, &self.root);
         self.root.layout()
+    }
+
+    /// How many ship modes there are, where ship mode is an axis. It makes no device call.
+    pub fn ship_mode_count(&self) -> Option<u32>
+        ensures { (w : Warehouse) → IsAt D.Sectors self.now w → D.keeps_word (device_of self.now)
+            → result ≡ modes_counted w.layout (ship_modes_of w) }
+    {
+        kept_is_represented(&self.dims, &self.root);
+        match self.root.layout() {
+            Layout::First => None,
+            Layout::Second => Some(self.modes.len() as u32), // at most 65,535
+        }
     }
 }

@@ -52,7 +52,13 @@ impl<D: Sectors> Session<D> {
             return Err(Fault::Failed);
         }
         kept_is_represented(&self.dims, &self.root);
-        match keep_up(alloc, &mut self.store, &self.dims, &mut self.root) {
+        match keep_up(
+            alloc,
+            &mut self.store,
+            &self.dims,
+            &self.modes,
+            &mut self.root,
+        ) {
             Ok(passed) => match passed {
                 None => Ok(()),
                 Some(view) => Err(Fault::TooManyCells { view: view.index() }),
@@ -93,7 +99,7 @@ impl<D: Sectors> Session<D> {
         }
         kept_is_represented(&self.dims, &self.root);
         kept_cuboids_are_sound();
-        match audited(alloc, &mut self.store, &self.root, &self.dims) {
+        match audited(alloc, &mut self.store, &self.root, &self.dims, &self.modes) {
             Ok(yes) => Ok(yes),
             Err(fault) => Err(fault),
         }

@@ -4,7 +4,7 @@ ghost use Rattle.cube_model.specs.declared.fault.Fault.TheVariants.{BadLayout, D
 ghost use Rattle.object_store.specs.Store.{content_of, device_of, has_failed};
 ghost use Rattle.warehouse_objects.specs.Warehouse.{Warehouse};
 ghost use Rattle.warehouse_objects.specs.Reads.{ReadsOnly};
-ghost use Rattle.warehouse_objects.specs.Represents.{HasItsObjects, IsLaidOut, Represents, root_of};
+ghost use Rattle.warehouse_objects.specs.Represents.{AreItsMembers, HasItsObjects, IsLaidOut, Represents, root_of};
 ghost use Rattle.stored_cuboids.specs.Merged.{IsSound};
 ghost use Rattle.warehouse_check.specs.Checked.{HasBatches};
 
@@ -18,13 +18,13 @@ use object_store::Store;
 use sector_device::Sectors;
 use std::alloc::Global;
 use stored_cuboids::laws::kept_cuboids_are_sound;
-use warehouse_objects::has_its_objects;
+use warehouse_objects::{ShipModes, has_its_objects};
 use warehouse_root::Root;
 
-/// The first thing that is wrong with the content of a store, by its root and its dimensions, if anything is: the
-/// objects, then each batch and the totals, then in the second layout the ship modes, then each stored cuboid. Each
-/// segment is read whole, in the second layout twice, and each run. One batch is in memory at a time, and the cells of
-/// one cuboid.
+/// The first thing that is wrong with the content of a store, by its root, its dimensions and its ship modes, if
+/// anything is: the objects, then each batch and the totals, then in the second layout the ship modes, then each stored
+/// cuboid. Each segment is read whole, in the second layout twice, and each run. One batch is in memory at a time, and
+/// the cells of one cuboid.
 ///
 /// That the ship modes are those of the batches where nothing is found is only tested.
 ///
@@ -35,6 +35,7 @@ pub fn checked<D: Sectors>(
     store: &mut Store<D>,
     root: &Root,
     dims: &Dims,
+    modes: &ShipModes,
 ) -> Result<Option<Finding>, Fault>
     requires fine { has_failed store.old ≡ false }
 
@@ -48,15 +49,15 @@ pub fn checked<D: Sectors>(
     // And where its cuboids are laid out by the rules, each is the grouping of its batches.
     ensures cuboids { IfOk result (λ found. found ≡ None → D.keeps_word (device_of store.new) → (w : Warehouse)
         → IsLaidOut (content_of D.Sectors store.old) w
-        → root.now ≡ root_of w → dims.now ≡ w.rows → All (IsSound w) w.cuboids) }
+        → root.now ≡ root_of w → AreItsMembers w dims.now modes.now → All (IsSound w) w.cuboids) }
 
     // Something is found, or it is refused: then the content represents no warehouse.
     ensures found { IfOk result (λ found. IsTrue (is_some found) → D.keeps_word (device_of store.new) → (w : Warehouse)
         → Represents (content_of D.Sectors store.old) w
-        → root.now ≡ root_of w → dims.now ≡ w.rows → ⊥) }
+        → root.now ≡ root_of w → AreItsMembers w dims.now modes.now → ⊥) }
     ensures refused { IsErrOf result BadLayout → D.keeps_word (device_of store.new) → (w : Warehouse)
         → Represents (content_of D.Sectors store.old) w
-        → root.now ≡ root_of w → dims.now ≡ w.rows → ⊥ }
+        → root.now ≡ root_of w → AreItsMembers w dims.now modes.now → ⊥ }
 
     // The content stays, at each moment.
     ensures reads { ReadsOnly D.Sectors store.old store.new result }
@@ -73,5 +74,5 @@ pub fn checked<D: Sectors>(
     if !has_own_ship_modes(alloc, store, root)? {
         return Ok(Some(Finding::ShipModes));
     }
-    check_cuboids(alloc, store, root, dims)
+    check_cuboids(alloc, store, root, dims, modes)
 }

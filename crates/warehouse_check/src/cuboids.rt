@@ -4,7 +4,7 @@ ghost use Rattle.cube_model.specs.declared.fault.Fault.TheVariants.{BadLayout, D
 ghost use Rattle.object_store.specs.Store.{content_of, device_of, has_failed};
 ghost use Rattle.warehouse_objects.specs.Warehouse.{Warehouse};
 ghost use Rattle.warehouse_objects.specs.Reads.{ReadsOnly};
-ghost use Rattle.warehouse_objects.specs.Represents.{IsLaidOut, root_of};
+ghost use Rattle.warehouse_objects.specs.Represents.{AreItsMembers, IsLaidOut, root_of};
 ghost use Rattle.stored_cuboids.specs.Merged.{IsSound};
 
 use crate::finding::Finding;
@@ -14,6 +14,7 @@ use object_store::Store;
 use sector_device::Sectors;
 use std::alloc::Global;
 use stored_cuboids::is_sound;
+use warehouse_objects::ShipModes;
 use warehouse_root::Root;
 
 /// The first stored cuboid that is not the grouping of the batches up to its mark, if there is one. Each is worked out
@@ -25,21 +26,22 @@ pub(crate) fn check_cuboids<D: Sectors>(
     store: &mut Store<D>,
     root: &Root,
     dims: &Dims,
+    modes: &ShipModes,
 ) -> Result<Option<Finding>, Fault>
     requires fine { has_failed store.old ≡ false }
     ensures answer { IfOk result (λ found. D.keeps_word (device_of store.new) → (w : Warehouse)
         → IsLaidOut (content_of D.Sectors store.old) w
-        → root.now ≡ root_of w → dims.now ≡ w.rows → (found ≡ None) ↔ All (IsSound w) w.cuboids) }
+        → root.now ≡ root_of w → AreItsMembers w dims.now modes.now → (found ≡ None) ↔ All (IsSound w) w.cuboids) }
     ensures refused { IsErrOf result BadLayout → D.keeps_word (device_of store.new) → (w : Warehouse)
         → IsLaidOut (content_of D.Sectors store.old) w
-        → root.now ≡ root_of w → dims.now ≡ w.rows → ⊥ }
+        → root.now ≡ root_of w → AreItsMembers w dims.now modes.now → ⊥ }
     ensures reads { ReadsOnly D.Sectors store.old store.new result }
     ensures causes { IfErr result (λ fault. (fault ≡ Memory) ⊎ ((fault ≡ Device) ⊎ (fault ≡ BadLayout))) }
 {
     let _usable = store.is_broken();
     let _layout = root.layout();
     for cuboid in root.cuboids() {
-        let sound = is_sound(alloc, store, root, dims, *cuboid)?;
+        let sound = is_sound(alloc, store, root, dims, modes, *cuboid)?;
         if !sound {
             return Ok(Some(Finding::Cuboid { view: cuboid.view }));
         }

@@ -1,10 +1,9 @@
 -- For which causes a copy is not made.
-use Rattle.std.proofs.Common.{◌≡◌, ◌⊎◌, ⊎_elim, inl, inr, ℕ, ◌<◌, All, List, Option, refl, sym, subst}
+use Rattle.std.proofs.Common.{◌≡◌, ◌⊎◌, ⊎_elim, inl, inr, ℕ, List, Option, refl, sym, subst}
 use Rattle.sector_device.specs.declared.device.Sectors.{Ghosts}
 use Rattle.cube_model.specs.declared.fault.Fault.{Fault}
 use Rattle.cube_model.specs.declared.fault.Fault.TheVariants.{AlreadyFormatted, BadLayout, Device, DeviceSize, Full}
 use Rattle.cube_model.specs.declared.fault.Fault.TheVariants.{Memory, TooManyCells, Worn}
-use Rattle.lattice.specs.Views.{index_of}
 use Rattle.warehouse_root.specs.declared.cuboid.StoredCuboid.{StoredCuboid}
 use Rattle.warehouse_objects.specs.Warehouse.{Cuboid, Warehouse}
 use Rattle.warehouse.specs.declared.session.Session.{Session}
@@ -63,11 +62,11 @@ module _ {D : Type 0} (g : Ghosts D) (session : Session D g) (w : Warehouse) (fa
 pub memory_or_device : (fault : Fault) → ((fault ≡ Device → ⊥) → fault ≡ Memory) → IsCopyFault fault
 memory_or_device fault why = or_device fault (λ no. is_fault fault Memory tt (why no))
 
--- the views of stored cuboids without ship mode are found
+-- the views of stored cuboids are found
 pub views_fault : (fault : Fault) (stored : List Cuboid) (places : List (Option StoredCuboid))
     → (fault ≡ Memory)
     ⊎ ((fault ≡ BadLayout)
-    × ((others : List Cuboid) → AreSaidOf others places → All (λ cuboid. index_of cuboid.view < 256) others → ⊥))
-    → AreSaidOf stored places → All (λ cuboid. index_of cuboid.view < 256) stored → IsCopyFault fault
-views_fault fault stored places why said low =
-    ⊎_elim (λ memory. is_fault fault Memory tt memory) (λ bad. absurd (bad.1 stored said low)) why
+    × ((others : List Cuboid) → AreSaidOf others places → ⊥))
+    → AreSaidOf stored places → IsCopyFault fault
+views_fault fault stored places why said =
+    ⊎_elim (λ memory. is_fault fault Memory tt memory) (λ bad. absurd (bad.1 stored said)) why

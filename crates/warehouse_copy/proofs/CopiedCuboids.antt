@@ -1,10 +1,8 @@
 -- The cuboids of a copy.
-use Rattle.std.proofs.Common.{◌≡◌, ◌⊎◌, ⊎_elim, inl, inr, ◌∙◌, ℕ, ◌<◌, List, [], ◌∷◌, All, get_or, length, map, take}
+use Rattle.std.proofs.Common.{◌≡◌, ◌⊎◌, ⊎_elim, inl, inr, ◌∙◌, ℕ, List, [], ◌∷◌, get_or, length, map, take}
 use Rattle.std.proofs.Common.{refl, ap, subst, arith}
 use Rattle.std.proofs.lemmas.List.{get_or-map, length-map, take_all}
 use Rattle.lattice.specs.declared.view.View.{View}
-use Rattle.lattice.specs.Views.{index_of}
-use Rattle.warehouse_objects.proofs.CallerLemmas.{plain_views}
 use Rattle.object_store.specs.Content.{Content}
 use Rattle.object_store.specs.Disk.{Disk, Leaves}
 use Rattle.object_store.specs.Moments.{leaves_then, leaves_weaker}
@@ -51,7 +49,7 @@ module _ (w : Warehouse) (views : List View) (v : Warehouse)
     rows = rows_are;
     batches = batches_are ∙ take_all (length w.batches) w.batches (omega arith);
     views = kept_views (with_views (with_first w (length w.batches)) views).cuboids v.cuboids kept.cuboids
-        ∙ new_views (in_order views) ∙ ap in_order same;
+        ∙ new_views (in_order w.layout views) ∙ ap (in_order w.layout) same;
   }
 
   pub is_part : IsPart w v
@@ -90,14 +88,10 @@ upkeep_leaves w views old mid new first second =
     (leaves_weaker (λ (c : Content). (v : Warehouse) × IsKeptUp (with_views w views) v × Represents c v) (Later w views)
     mid new (λ k c more. inr more) second)
 
--- what a session says of its stored cuboids, of which none groups by ship mode
+-- what a session says of its stored cuboids
 pub said_are : (w : Warehouse) (c : Content) → Represents c w → (generation : ℕ) (status : Status)
-    → IsStatus w generation status
-    → AreSaidOf w.cuboids status.cuboids × All (λ cuboid. index_of cuboid.view < 256) w.cuboids
-said_are w c represents generation status is = (
-  record {
-    few = omega (arith, represents.root.proper.most_cuboids, length-map w.cuboids said_of);
-    each = is.cuboids;
-  },
-  plain_views c w represents,
-)
+    → IsStatus w generation status → AreSaidOf w.cuboids status.cuboids
+said_are w c represents generation status is = record {
+  few = omega (arith, represents.root.proper.most_cuboids, length-map w.cuboids said_of);
+  each = is.cuboids;
+}

@@ -4,10 +4,11 @@ use Rattle.std.proofs.Common.{Some, None, slice_get, take, refl, sym, ap, subst,
 use Rattle.std.specs.Prelude.{slice_index_or}
 use Rattle.std.proofs.lemmas.List.{take_all, map-append}
 use Rattle.std.proofs.lemmas.Bool.{cases_lt}
-use Rattle.std.proofs.lemmas.Option.{get_or_from_slice_get, slice_get_within}
+use Rattle.std.proofs.lemmas.Option.{slice_get_within}
 use Rattle.lattice.specs.declared.view.View.{View}
 use Rattle.lattice.specs.Laws.{IndexesNameViews}
 use Rattle.lattice.specs.Views.{index_of}
+use Rattle.cuboid_cells.proofs.CallerLemmas.{views_below}
 use Rattle.warehouse_root.specs.declared.cuboid.StoredCuboid.{StoredCuboid}
 use Rattle.warehouse_objects.specs.Warehouse.{Cuboid}
 use Rattle.warehouse_objects.proofs.Batches.{get_within, some_one, take_next}
@@ -36,9 +37,6 @@ past xs n none = by (cases_lt n (length xs))
     by : (n < length xs) ⊎ (length xs ≤ n) → length xs ≤ n
     by (inl lt) = let got = get_within xs n lt in let both : None ≡ Some got.0 = sym none ∙ got.1 in absurd cc
     by (inr le) = le
-
-all_here : {A : Type 0} (P : A → Type 0) (xs : List A) (n : ℕ) (x : A) → All P xs → slice_get xs n ≡ Some x → P x
-all_here P xs n x all here = subst P (get_or_from_slice_get xs n x x here) (all n x (slice_get_within xs n x here))
 
 -- so many views are those of the first cuboids
 pub record AreFirst (stored : List Cuboid) (count : ℕ) (views : List View) : Type 0 where
@@ -74,15 +72,12 @@ module _ (stored : List Cuboid) (places : List (Option StoredCuboid)) (said_of :
         (none_there (slice_get stored count) (slice_index_or places count None) is (said_of.each count low)) in
         first.are ∙ ap (map (λ (cuboid : Cuboid). cuboid.view)) (take_all count stored end)
 
-    -- no cuboid without ship mode has a number above those views
-    pub never_high : (said : StoredCuboid) → slice_index_or places count None ≡ Some said → 256 ≤ said.view
-        → All (λ cuboid. index_of cuboid.view < 256) stored → ⊥
-    never_high said is high low_views =
+    -- no cuboid has a number above those of views
+    pub never_high : (said : StoredCuboid) → slice_index_or places count None ≡ Some said → 512 ≤ said.view → ⊥
+    never_high said is high =
         let here = said_there (slice_get stored count) (slice_index_or places count None) said is
         (said_of.each count low) in
-        let own : index_of here.0.view < 256 =
-        all_here (λ (cuboid : Cuboid). index_of cuboid.view < 256) stored count here.0 low_views here.1 in
-        omega (arith, own, here.2.view, high)
+        omega (arith, views_below here.0.view, here.2.view, high)
 
   pub first_end : (views : List View) → AreFirst stored 16 views → views ≡ map (λ cuboid. cuboid.view) stored
   first_end views first = first.are ∙ ap (map (λ (cuboid : Cuboid). cuboid.view)) (take_all 16 stored said_of.few)

@@ -21,7 +21,7 @@ pub record IsCopy (w copy : Warehouse) : Type 0 where
   pub layout : copy.layout ≡ w.layout
   pub rows : copy.rows ≡ w.rows
   pub batches : copy.batches ≡ w.batches
-  pub views : views_of copy ≡ in_order (views_of w)
+  pub views : views_of copy ≡ in_order w.layout (views_of w)
 
 -- the dimension rows of a warehouse, and its first so many batches
 pub record IsPart (w part : Warehouse) : Type 0 where

@@ -1,5 +1,5 @@
 //! Copying which cuboids a warehouse stores.
-ghost use Rattle.std.specs.Prelude.{◌≡◌, ◌⊎◌, ◌<◌, ◌≤◌, ℕ, List, All, length, map, IfErr, IfOk, OnOk};
+ghost use Rattle.std.specs.Prelude.{◌≡◌, ◌⊎◌, ◌≤◌, ℕ, List, length, map, IfErr, IfOk, OnOk};
 ghost use Rattle.cube_model.specs.declared.fault.Fault.TheVariants.{BadLayout, Memory, TooManyCells};
 ghost use Rattle.lattice.specs.Views.{index_of};
 ghost use Rattle.object_store.specs.Disk.{Leaves};
@@ -15,9 +15,6 @@ use lattice::{View, indexes_name_views};
 use sector_device::Sectors;
 use std::alloc::Global;
 use warehouse::{MOST_CUBOIDS, Session, StoredCuboid};
-
-// How many views there are without ship mode.
-const FIRST_VIEWS: u16 = 256;
 
 // Stores the cuboids of the views of a warehouse in one that has its batches, and no cuboid, and brings them to all
 // batches.
@@ -44,18 +41,16 @@ pub(crate) fn copy_cuboids<D: Sectors, E: Sectors>(
     put_views(alloc, to, views.as_slice())
 }
 
-// The views of the cuboids in places. `BadLayout` where one groups by ship mode.
+// The views of the cuboids in places. `BadLayout` where a number is that of none.
 fn views_in(
     alloc: Global,
     cuboids: &[Option<StoredCuboid>; MOST_CUBOIDS],
 ) -> Result<Vec<View>, Fault>
     ensures few { IfOk result (λ views. length views.items ≤ most_cuboids) }
-    ensures known { IfOk result (λ views. All (λ view. index_of view < 256) views.items) }
     ensures views { IfOk result (λ views. (stored : List Cuboid) → AreSaidOf stored cuboids.now
         → views.items ≡ map (λ cuboid. cuboid.view) stored) }
     ensures refused { IfErr result (λ fault. (fault ≡ Memory) ⊎ ((fault ≡ BadLayout)
-        × ((stored : List Cuboid) → AreSaidOf stored cuboids.now → All (λ cuboid. index_of cuboid.view < 256) stored
-        → ⊥))) }
+        × ((stored : List Cuboid) → AreSaidOf stored cuboids.now → ⊥))) }
 {
     indexes_name_views();
     let mut views = Vec::new(alloc);
@@ -71,24 +66,20 @@ fn views_in(
     Ok(views)
 }
 
-// The view of a number. `BadLayout` where it groups by ship mode.
+// The view of a number. `BadLayout` where there is none.
 fn view_of(number: u16) -> Result<View, Fault>
-    ensures found { IfOk result (λ view. (index_of view ≡ number) × (number < 256)) }
-    ensures refused { IfErr result (λ fault. (fault ≡ BadLayout) × (256 ≤ number)) }
+    ensures found { IfOk result (λ view. index_of view ≡ number) }
+    ensures refused { IfErr result (λ fault. (fault ≡ BadLayout) × (512 ≤ number)) }
 {
-    if number >= FIRST_VIEWS {
-        return Err(Fault::BadLayout);
-    }
     match View::new(number) {
         Some(view) => Ok(view),
-        None => Err(Fault::BadLayout), // there are more views
+        None => Err(Fault::BadLayout),
     }
 }
 
 // Stores the cuboids of some views, and brings them to all batches.
 fn put_views<E: Sectors>(alloc: Global, to: &mut Session<E>, views: &[View]) -> Result<(), Fault>
     requires few { length views.now ≤ most_cuboids }
-    requires known { All (λ view. index_of view < 256) views.now }
     ensures ok { OnOk result ((w : Warehouse) → IsAt E.Sectors to.old w
         → (v : Warehouse) × IsKeptUp (with_views w views.now) v × IsAt E.Sectors to.new v
         × (E.keeps_word (device_of to.new) → AreBroughtOn v)) }

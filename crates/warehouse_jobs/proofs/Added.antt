@@ -13,9 +13,10 @@ use Rattle.batch_loader.specs.Rows.{number_after}
 use Rattle.cube_model.specs.declared.fault.Fault.{Fault}
 use Rattle.cube_model.specs.declared.rows.DimRows.{DimRows}
 use Rattle.cube_model.specs.declared.rows.LineOrder.{LineOrder}
-use Rattle.cube_model.specs.Admission.{all_rows, refusal}
+use Rattle.cube_model.specs.Admission.{all_rows, moded_refusal, refusal}
 use Rattle.cube_model.specs.Answers.{answer}
 use Rattle.cube_model.specs.Limits.{most_batch_rows}
+use Rattle.cube_model.specs.ShipModes.{modes_in}
 use Rattle.object_store.specs.Content.{Content}
 use Rattle.object_store.specs.Disk.{disk, Leaves}
 use Rattle.object_store.specs.Moments.{all_weaker}
@@ -35,6 +36,7 @@ use Rattle.warehouse_jobs.specs.Lawful.{LoadAddsTheOthers, LoadHoldsItsBatches, 
 use Rattle.warehouse_jobs.specs.Loading.{Done, DoesAll, Loads, MayHold, TakesIn, batches_of, session_after, taken_of}
 use Rattle.warehouse_jobs.specs.Loading.{with_batch, with_batches}
 use Rattle.warehouse_jobs.specs.declared.taken.Taken.{Taken}
+use Rattle.warehouse_jobs.proofs.ShipModes.{AreFit, fit_in, moded_of}
 use Rattle.warehouse_jobs.proofs.Turns.{trace-count, trace-session, with-added, with-skipped}
 
 -- batches that are not there are added
@@ -184,7 +186,7 @@ stopped_load {D} A g shows_it w first size text old mid new before after result 
 -- each batch is admissible after those before it
 abbrev AreAdmitted : DimRows → List (List LineOrder) → List (List LineOrder) → Type 0
 AreAdmitted dimensions batches [] = Unit {0}
-AreAdmitted dimensions batches (rows ∷ others) = (refusal dimensions batches (length batches + 1) rows ≡ None)
+AreAdmitted dimensions batches (rows ∷ others) = (moded_refusal dimensions batches (length batches + 1) rows ≡ None)
     × AreAdmitted dimensions (batches ++ rows ∷ []) others
 
 get_middle : (batches : List (List LineOrder)) (rows : List LineOrder) (others : List (List LineOrder))
@@ -194,15 +196,19 @@ get_middle (batch ∷ batches) rows others = get_middle batches rows others
 
 -- batches in order are admitted
 are_admitted : (dimensions : DimRows) (batches others : List (List LineOrder))
-    → AreInOrder dimensions (batches ++ others) → AreAdmitted dimensions batches others
-are_admitted dimensions batches [] order = tt
-are_admitted dimensions batches (rows ∷ others) order =
+    → AreInOrder dimensions (batches ++ others) → AreFit (modes_in (all_rows (batches ++ others)))
+    → AreAdmitted dimensions batches others
+are_admitted dimensions batches [] order fit = tt
+are_admitted dimensions batches (rows ∷ others) order fit =
     let next = (order (length batches) rows (get_middle batches rows others)).admissible in
     let front : take (length batches) (batches ++ rows ∷ others) ≡ batches =
     take-append_seam batches (rows ∷ others) in (
-      subst (λ (bs : List (List LineOrder)). refusal dimensions bs (length bs + 1) rows ≡ None) front next,
+      moded_of dimensions batches rows others (length batches + 1) fit
+          (subst (λ (bs : List (List LineOrder)). refusal dimensions bs (length bs + 1) rows ≡ None) front next),
       are_admitted dimensions (batches ++ rows ∷ []) others
-          (subst (AreInOrder dimensions) (sym (append_assoc batches (rows ∷ []) others)) order),
+          (subst (AreInOrder dimensions) (sym (append_assoc batches (rows ∷ []) others)) order)
+          (subst (λ (bs : List (List LineOrder)). AreFit (modes_in (all_rows bs)))
+          (sym (append_assoc batches (rows ∷ []) others)) fit),
     )
 
 -- lists that have the same at each place
@@ -236,7 +242,7 @@ facts_cut dimensions batches number parts [] next cut admitted =
 facts_cut dimensions batches number [] (rows ∷ done) next cut admitted = absurd cut
 facts_cut dimensions batches number (lines ∷ parts) (rows ∷ done) next cut admitted =
     ap (λ read. and_then read
-    (λ found. unless (refusal dimensions batches (length batches + 1) found)
+    (λ found. unless (moded_refusal dimensions batches (length batches + 1) found)
     (facts_after dimensions (batches ++ found ∷ []) (number_after (length found) number) parts))) cut.0
     ∙ ap (λ cause. unless cause
     (facts_after dimensions (batches ++ rows ∷ []) (number_after (length rows) number) parts)) admitted.0
@@ -283,12 +289,16 @@ is_evaluated {D} A g w text old new before after query value loads no_more k =
     (subst (λ (r : DimRows). AreInOrder r v.batches) rows (at.represents k).batches) in
     let cut : AreCut 1 parts done loads.next [] =
     subst (λ l. AreCut 1 parts done loads.next l) loads.ends.none loads.cut in
-    let facts : facts_of w.rows text ≡ Ok (all_rows done) =
-    facts_cut w.rows [] 1 parts done loads.next cut (are_admitted w.rows [] done order) in
     let whole : take (length done) done ≡ done = take_all (length done) done (omega arith) in (
       v,
       at,
-      ap (λ found. and_then found (λ r. Ok (answer query w.rows r))) facts
+      λ may_move.
+          let fit : AreFit (modes_in (all_rows done)) =
+          subst (λ (bs : List (List LineOrder)). AreFit (modes_in (all_rows bs))) same
+          (fit_in v.layout v.batches may_move (at.represents k).modes) in
+          let facts : facts_of w.rows text ≡ Ok (all_rows done) =
+          facts_cut w.rows [] 1 parts done loads.next cut (are_admitted w.rows [] done order fit) in
+          ap (λ found. and_then found (λ r. Ok (answer query w.rows r))) facts
           ∙ ap (λ l. Ok (answer query w.rows (all_rows l))) (sym whole)
           ∙ ap (λ l. Ok (answer query w.rows (all_rows (take (length l) l)))) (sym same)
           ∙ ap (λ r. Ok (answer query r (all_rows (take (length v.batches) v.batches)))) (sym rows),

@@ -5,6 +5,7 @@ use Rattle.sector_device.specs.declared.device.Sectors.{Ghosts}
 use Rattle.cube_model.specs.declared.fault.Fault.{Fault}
 use Rattle.cube_model.specs.declared.fault.Fault.TheVariants.{Device, Memory}
 use Rattle.ssb_reports.specs.Writing.{Writes}
+use Rattle.warehouse_root.specs.Layouts.{has_modes}
 use Rattle.warehouse_objects.specs.Warehouse.{Warehouse}
 use Rattle.cuboid_commits.specs.Keeping.{IsKeptUp}
 use Rattle.warehouse.specs.declared.chosen.Chosen.{Chosen}
@@ -26,7 +27,8 @@ module _ {D : Type 0} (g : Ghosts D) (w : Warehouse) (old new : Session D g) (be
 
   pub choose-written : (IsIt : List Chosen → Type 0) (refuses : Fault → Type 0) (chosen : List Chosen)
       (result : Result Unit Fault) → IsChosen g w IsIt new chosen
-      → Writes before after result (choice_text chosen) → ChoiceEnds g w IsIt refuses new before after result
+      → Writes before after result (choice_text (has_modes w.layout) chosen)
+      → ChoiceEnds g w IsIt refuses new before after result
   choose-written IsIt refuses chosen (Ok done) is written = (chosen, is, written)
   choose-written IsIt refuses chosen (Err fault) is written = inl (written.0, chosen, is, written.1)
 

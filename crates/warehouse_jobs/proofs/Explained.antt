@@ -6,6 +6,7 @@ use Rattle.cube_model.specs.declared.query.Query.{Query}
 use Rattle.planner.specs.declared.price.Priced.{Priced}
 use Rattle.planned_queries.specs.Planned.{ArePlansOf}
 use Rattle.ssb_reports.specs.Writing.{Writes}
+use Rattle.warehouse_root.specs.Layouts.{has_modes}
 use Rattle.warehouse_objects.specs.Warehouse.{Warehouse}
 use Rattle.warehouse.specs.Session.{IsAsked, QueryRefuses}
 use Rattle.warehouse_jobs.specs.Explaining.{Explains}
@@ -21,7 +22,8 @@ explain-refused w count query before fault result refused stop = rw (stop.1, sto
 -- the plans were found, and their lines written
 pub explain-written : (w : Warehouse) (count : ℕ) (query : Query) (before after : Option (List ℕ)) (plans : List Priced)
     (result : Result Unit Fault)
-    → IsAsked w count query × ArePlansOf w count query plans → Writes before after result (plans_text count plans)
+    → IsAsked w count query × ArePlansOf w count query plans
+    → Writes before after result (plans_text (has_modes w.layout) count plans)
     → Explains w count query before after result
 explain-written w count query before after plans (Ok done) found written = (found.0, plans, found.1, written)
 explain-written w count query before after plans (Err fault) found written =

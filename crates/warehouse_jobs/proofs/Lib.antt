@@ -6,6 +6,7 @@ pub mod Stepping
 pub mod Reported
 pub mod PartlyReported
 pub mod Performed
+pub mod ShipModes
 pub mod Added
 mod Additions
 mod Cuboids

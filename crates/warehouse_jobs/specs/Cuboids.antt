@@ -7,6 +7,7 @@ use Rattle.cube_model.specs.declared.fault.Fault.TheVariants.{Device, Memory, Ou
 use Rattle.lattice.specs.declared.view.View.{View}
 use Rattle.object_store.specs.Disk.{Leaves}
 use Rattle.ssb_reports.specs.Writing.{AppendsBeginning}
+use Rattle.warehouse_root.specs.Layouts.{has_modes}
 use Rattle.warehouse_objects.specs.Warehouse.{Warehouse, with_views}
 use Rattle.warehouse_objects.specs.Represents.{Represents}
 use Rattle.cuboid_commits.specs.Keeping.{IsKeptUp}
@@ -29,10 +30,10 @@ pub record IsChosen {D : Type 0} (g : Ghosts D) (w : Warehouse) (IsIt : List Cho
 abbrev pub ChoiceEnds : {D A : Type 0} (g : Ghosts D) → Warehouse → (List Chosen → Type 0) → (Fault → Type 0)
     → (new : Session D g) → (before after : Option (List ℕ)) → Result A Fault → Type 0
 ChoiceEnds g w IsIt refuses new before after (Ok done) = (chosen : List Chosen) × IsChosen g w IsIt new chosen
-    × Appends before after (choice_text chosen)
+    × Appends before after (choice_text (has_modes w.layout) chosen)
 ChoiceEnds g w IsIt refuses new before after (Err fault) =
     ((fault ≡ Output) × (chosen : List Chosen) × IsChosen g w IsIt new chosen
-    × AppendsBeginning before after (choice_text chosen))
+    × AppendsBeginning before after (choice_text (has_modes w.layout) chosen))
     ⊎ (Keeps before after × (((fault ≡ Device) × (has_failed new ≡ true)) ⊎ (refuses fault × IsAt g new w)))
 
 -- a choice of cuboids, and why it is refused. A crash leaves the cuboids as they were, or those of the choice

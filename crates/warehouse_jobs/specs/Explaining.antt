@@ -7,6 +7,7 @@ use Rattle.cube_model.specs.declared.query.Query.{Query}
 use Rattle.planner.specs.declared.price.Priced.{Priced}
 use Rattle.planned_queries.specs.Planned.{ArePlansOf}
 use Rattle.ssb_reports.specs.Writing.{AppendsBeginning}
+use Rattle.warehouse_root.specs.Layouts.{has_modes}
 use Rattle.warehouse_objects.specs.Warehouse.{Warehouse}
 use Rattle.warehouse.specs.Session.{IsAsked, QueryRefuses}
 use Rattle.warehouse_jobs.specs.PlanLines.{plans_text}
@@ -16,8 +17,8 @@ use Rattle.warehouse_jobs.specs.PlanLines.{plans_text}
 abbrev pub Explains : {A : Type 0} → Warehouse → ℕ → Query → (before after : Option (List ℕ)) → Result A Fault → Type 0
 Explains w count query before after (Ok done) =
     IsAsked w count query × (plans : List Priced) × ArePlansOf w count query plans
-    × Appends before after (plans_text count plans)
+    × Appends before after (plans_text (has_modes w.layout) count plans)
 Explains w count query before after (Err fault) =
     ((fault ≡ Output) × IsAsked w count query × (plans : List Priced) × ArePlansOf w count query plans
-    × AppendsBeginning before after (plans_text count plans))
+    × AppendsBeginning before after (plans_text (has_modes w.layout) count plans))
     ⊎ (Keeps before after × QueryRefuses w count query fault)

@@ -10,7 +10,7 @@ use Rattle.cube_model.specs.Answers.{answer_as_of}
 use Rattle.cube_model.specs.Limits.{most_batch_rows}
 use Rattle.object_store.specs.Disk.{disk, AllShow}
 use Rattle.ssb_eval.specs.Evaluation.{answer_of}
-use Rattle.warehouse_objects.specs.Facts.{facts_in}
+use Rattle.warehouse_objects.specs.Facts.{CanMigrate, facts_in}
 use Rattle.warehouse_objects.specs.Warehouse.{Warehouse}
 use Rattle.warehouse.specs.declared.session.Session.{Session}
 use Rattle.warehouse.specs.Comparing.{numbered}
@@ -56,13 +56,13 @@ CrashedLoadIsFound {D} A g = (w : Warehouse) (first size : ℕ) (text : Option (
     → (device : D) → IsRestarted g (g.state (device_of mid)).size image device
     → IsFoundWith g w first size text lines device
 
--- A text that was loaded whole, 65,536 rows a batch from batch 1 on, into a warehouse that had no more batches: the
--- answer to a query over all batches is that of an evaluation of the text. So it is after a load that was cut off and
--- given again
+-- A text that was loaded whole, 65,536 rows a batch from batch 1 on, into a warehouse that had no more batches: where
+-- the warehouse is of the second layout, or may move to it, the answer to a query over all batches is that of an
+-- evaluation of the text. So it is after a load that was cut off and given again
 abbrev pub LoadedIsEvaluated : {D : Type 0} → Type 0 → Ghosts D → Type 0
 LoadedIsEvaluated {D} A g = (w : Warehouse) (text : List ℕ) (old new : Session D g) (before after : Option (List ℕ))
     (query : Query) (done : A)
     → (loads : Loads {A = A} g w 1 most_batch_rows (Some text) old new before after (Ok done))
     → length w.batches ≤ length loads.trace → (disk_of g new).keeps_word
-    → (v : Warehouse) × IsAt g new v
-    × (answer_of query w.rows text ≡ Ok (answer_as_of query (length v.batches) v.rows v.batches))
+    → (v : Warehouse) × IsAt g new v × (CanMigrate v
+    → answer_of query w.rows text ≡ Ok (answer_as_of query (length v.batches) v.rows v.batches))

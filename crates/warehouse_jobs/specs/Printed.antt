@@ -62,13 +62,13 @@ status_text status =
     ++ (named_line (codes "target ") status.target
     ++ (named_line (codes "generation ") status.generation ++ flat_map place_text status.cuboids)))
 
--- a view that was chosen, such as: view 59 city|ALL|mfgr|ALL benefit 8
-abbrev pub chosen_line : Chosen → List ℕ
-chosen_line one = view_text false one.view ++ named_line (codes " benefit ") one.benefit
+-- a view that was chosen, with or without a fifth axis, such as: view 59 city|ALL|mfgr|ALL benefit 8
+abbrev pub chosen_line : Bool → Chosen → List ℕ
+chosen_line ship_modes one = view_text ship_modes one.view ++ named_line (codes " benefit ") one.benefit
 
 -- and all of a choice, in the order of choice
-abbrev pub choice_text : List Chosen → List ℕ
-choice_text chosen = flat_map chosen_line chosen
+abbrev pub choice_text : Bool → List Chosen → List ℕ
+choice_text ship_modes chosen = flat_map (chosen_line ship_modes) chosen
 
 abbrev pub upkeep_text : List ℕ
 upkeep_text = codes "upkeep done\n"

@@ -24,7 +24,8 @@ pub(crate) fn choose<D: Sectors, W: Write>(
     ensures word { D.keeps_word (device_of session.new) → D.keeps_word (device_of session.old) }
 {
     let chosen = session.choose(alloc, k)?;
-    write_choice(out, chosen.as_slice())
+    let ship_modes = session.layout().has_ship_modes();
+    write_choice(out, ship_modes, chosen.as_slice())
 }
 
 /// Stores the cuboids of the greedy list of k views where only some views are asked for, and writes a line for each, in
@@ -42,5 +43,6 @@ pub(crate) fn choose_for<D: Sectors, W: Write>(
     ensures word { D.keeps_word (device_of session.new) → D.keeps_word (device_of session.old) }
 {
     let chosen = session.choose_for(alloc, k, demanded)?;
-    write_choice(out, chosen.as_slice())
+    let ship_modes = session.layout().has_ship_modes();
+    write_choice(out, ship_modes, chosen.as_slice())
 }

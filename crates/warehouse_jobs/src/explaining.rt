@@ -52,5 +52,6 @@ fn explain_over<D: Sectors, W: Write>(
         × Keeps (W.contents out.old) (W.contents out.new) }
 {
     let plans = session.plans(alloc, count, query)?;
-    write_plans(out, count, plans.as_slice())
+    let ship_modes = session.layout().has_ship_modes();
+    write_plans(out, ship_modes, count, plans.as_slice())
 }

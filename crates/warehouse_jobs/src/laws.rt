@@ -24,7 +24,8 @@ pub fn crashed_load_is_found<D: Sectors, A>()
     restarted_shows::<D>();
 }
 
-/// What is reported over a text that was loaded whole is what is evaluated over it.
+/// What is reported over a text that was loaded whole is what is evaluated over it, where the warehouse is of layout 2
+/// or may move to it: an evaluation refuses the ship modes that layout 2 refuses.
 pub fn loaded_is_evaluated<D: Sectors, A>()
     ensures { LoadedIsEvaluated A D.Sectors }
 {}

@@ -1,5 +1,5 @@
 //! The lines of plans.
-ghost use Rattle.std.specs.Prelude.{◌≡◌, ◌-◌, ◌++◌, false, codes};
+ghost use Rattle.std.specs.Prelude.{◌≡◌, ◌-◌, ◌++◌, codes};
 ghost use Rattle.std.specs.List.{flat_map};
 ghost use Rattle.std.specs.Fmt.{decimal};
 ghost use Rattle.lattice.specs.Names.{view_text};
@@ -16,60 +16,82 @@ use ssb_reports::{flush, write_bytes, write_number};
 use std::io::Write;
 
 /// Writes the lines of the plans of a query over the first batches, and flushes them.
-pub(crate) fn write_plans<W: Write>(out: &mut W, as_of: u32, plans: &[Priced]) -> Result<(), Fault>
-    ensures { Writes (W.contents out.old) (W.contents out.new) result (plans_text as_of plans.now) }
+pub(crate) fn write_plans<W: Write>(
+    out: &mut W,
+    ship_modes: bool,
+    as_of: u32,
+    plans: &[Priced],
+) -> Result<(), Fault>
+    ensures { Writes (W.contents out.old) (W.contents out.new) result (plans_text ship_modes as_of plans.now) }
 {
-    write_plan_lines(out, as_of, plans)?;
+    write_plan_lines(out, ship_modes, as_of, plans)?;
     flush(out)
 }
 
-fn write_plan_lines<W: Write>(out: &mut W, as_of: u32, plans: &[Priced]) -> Result<(), Fault>
-    ensures { Writes (W.contents out.old) (W.contents out.new) result (plans_text as_of plans.now) }
+fn write_plan_lines<W: Write>(
+    out: &mut W,
+    ship_modes: bool,
+    as_of: u32,
+    plans: &[Priced],
+) -> Result<(), Fault>
+    ensures { Writes (W.contents out.old) (W.contents out.new) result (plans_text ship_modes as_of plans.now) }
 {
     match plans {
         [] => Ok(()),
         [first, others @ ..] => {
-            write_plan(out, b"plan ", as_of, first)?;
-            write_others(out, as_of, others)
+            write_plan(out, ship_modes, b"plan ", as_of, first)?;
+            write_others(out, ship_modes, as_of, others)
         }
     }
 }
 
 // Writes the lines of plans that are not taken.
-fn write_others<W: Write>(out: &mut W, as_of: u32, others: &[Priced]) -> Result<(), Fault>
-    ensures { Writes (W.contents out.old) (W.contents out.new) result (flat_map (other_line as_of) others.now) }
+fn write_others<W: Write>(
+    out: &mut W,
+    ship_modes: bool,
+    as_of: u32,
+    others: &[Priced],
+) -> Result<(), Fault>
+    ensures { Writes (W.contents out.old) (W.contents out.new) result
+        (flat_map (other_line ship_modes as_of) others.now) }
 {
     for one in others {
-        write_plan(out, b"other ", as_of, one)?;
+        write_plan(out, ship_modes, b"other ", as_of, one)?;
     }
     Ok(())
 }
 
 // Writes the line of a plan over the first batches.
-fn write_plan<W: Write>(out: &mut W, name: &[u8], as_of: u32, one: &Priced) -> Result<(), Fault>
-    ensures { Writes (W.contents out.old) (W.contents out.new) result (plan_line name.now as_of one.now) }
+fn write_plan<W: Write>(
+    out: &mut W,
+    ship_modes: bool,
+    name: &[u8],
+    as_of: u32,
+    one: &Priced,
+) -> Result<(), Fault>
+    ensures { Writes (W.contents out.old) (W.contents out.new) result (plan_line ship_modes name.now as_of one.now) }
 {
     write_bytes(out, name)?;
-    write_source(out, one.plan)?;
+    write_source(out, ship_modes, one.plan)?;
     write_cost(out, tail_of(one.plan, as_of), one.cost)
 }
 
 // Writes from where a plan reads first.
-fn write_source<W: Write>(out: &mut W, plan: Plan) -> Result<(), Fault>
-    ensures { Writes (W.contents out.old) (W.contents out.new) result (source_text plan) }
+fn write_source<W: Write>(out: &mut W, ship_modes: bool, plan: Plan) -> Result<(), Fault>
+    ensures { Writes (W.contents out.old) (W.contents out.new) result (source_text ship_modes plan) }
 {
     match plan {
         Plan::Scan => write_bytes(out, b"scan"),
-        Plan::Cells { view, mark } => write_cells(out, view, mark),
+        Plan::Cells { view, mark } => write_cells(out, ship_modes, view, mark),
     }
 }
 
 // Writes the view of stored cells, and how many batches they hold.
-fn write_cells<W: Write>(out: &mut W, view: View, mark: u32) -> Result<(), Fault>
+fn write_cells<W: Write>(out: &mut W, ship_modes: bool, view: View, mark: u32) -> Result<(), Fault>
     ensures { Writes (W.contents out.old) (W.contents out.new) result
-        (view_text false view ++ (codes " mark " ++ decimal mark)) }
+        (view_text ship_modes view ++ (codes " mark " ++ decimal mark)) }
 {
-    write_view(out, view)?;
+    write_view(out, ship_modes, view)?;
     write_bytes(out, b" mark ")?;
     write_number(out, mark)
 }

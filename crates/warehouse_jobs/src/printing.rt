@@ -1,7 +1,7 @@
 //! The lines of jobs.
-ghost use Rattle.std.specs.Prelude.{ℕ, List, false};
+ghost use Rattle.std.specs.Prelude.{◌≡◌, ℕ, List};
 ghost use Rattle.std.specs.List.{flat_map};
-ghost use Rattle.lattice.specs.Names.{view_text};
+ghost use Rattle.lattice.specs.Names.{fifth_part, view_text};
 ghost use Rattle.ssb_reports.specs.Writing.{Writes};
 ghost use Rattle.warehouse_jobs.specs.declared.taken.Taken.TheVariants.{Added, Skipped};
 ghost use Rattle.warehouse_jobs.specs.Printed.{addition_text, audit_text, batch_line, choice_text, chosen_line};
@@ -193,36 +193,44 @@ fn write_cuboid<W: Write>(out: &mut W, cuboid: &StoredCuboid) -> Result<(), Faul
 }
 
 /// Writes the lines of a choice of views, in the order of choice, and flushes them.
-pub(crate) fn write_choice<W: Write>(out: &mut W, chosen: &[Chosen]) -> Result<(), Fault>
-    ensures { Writes (W.contents out.old) (W.contents out.new) result (choice_text chosen.now) }
+pub(crate) fn write_choice<W: Write>(
+    out: &mut W,
+    ship_modes: bool,
+    chosen: &[Chosen],
+) -> Result<(), Fault>
+    ensures { Writes (W.contents out.old) (W.contents out.new) result (choice_text ship_modes chosen.now) }
 {
-    write_chosen_lines(out, chosen)?;
+    write_chosen_lines(out, ship_modes, chosen)?;
     flush(out)
 }
 
-fn write_chosen_lines<W: Write>(out: &mut W, chosen: &[Chosen]) -> Result<(), Fault>
-    ensures { Writes (W.contents out.old) (W.contents out.new) result (choice_text chosen.now) }
+fn write_chosen_lines<W: Write>(
+    out: &mut W,
+    ship_modes: bool,
+    chosen: &[Chosen],
+) -> Result<(), Fault>
+    ensures { Writes (W.contents out.old) (W.contents out.new) result (choice_text ship_modes chosen.now) }
 {
     for one in chosen {
-        write_chosen(out, one)?;
+        write_chosen(out, ship_modes, one)?;
     }
     Ok(())
 }
 
 // Writes the line of a view that was chosen.
-fn write_chosen<W: Write>(out: &mut W, one: &Chosen) -> Result<(), Fault>
-    ensures { Writes (W.contents out.old) (W.contents out.new) result (chosen_line one.now) }
+fn write_chosen<W: Write>(out: &mut W, ship_modes: bool, one: &Chosen) -> Result<(), Fault>
+    ensures { Writes (W.contents out.old) (W.contents out.new) result (chosen_line ship_modes one.now) }
 {
-    write_view(out, one.view)?;
+    write_view(out, ship_modes, one.view)?;
     write_named(out, b" benefit ", one.benefit)
 }
 
-/// Writes a view of the lattice over the four axes.
-pub(crate) fn write_view<W: Write>(out: &mut W, view: View) -> Result<(), Fault>
-    ensures { Writes (W.contents out.old) (W.contents out.new) result (view_text false view) }
+/// Writes a view of the lattice with or without ship mode as an axis.
+pub(crate) fn write_view<W: Write>(out: &mut W, ship_modes: bool, view: View) -> Result<(), Fault>
+    ensures { Writes (W.contents out.old) (W.contents out.new) result (view_text ship_modes view) }
 {
     let mut index = Buffer::new();
-    let parts: [&[u8]; 10] = [
+    let parts: [&[u8]; 11] = [
         b"view ",
         index.format(view.index()).as_bytes(),
         b" ",
@@ -233,8 +241,20 @@ pub(crate) fn write_view<W: Write>(out: &mut W, view: View) -> Result<(), Fault>
         view.part.name(Axis::Part).as_bytes(),
         b"|",
         view.date.name(Axis::Date).as_bytes(),
+        fifth_part(ship_modes, view).as_bytes(),
     ];
     write_parts(out, &parts)
+}
+
+// The fifth part of a view, with its bar, in the lattice that has it.
+fn fifth_part(ship_modes: bool, view: View) -> &'static str
+    ensures { result.now ≡ fifth_part ship_modes view }
+{
+    match (ship_modes, view.ship_mode) {
+        (true, true) => "|shipmode",
+        (true, false) => "|ALL",
+        (false, _) => "",
+    }
 }
 
 /// Writes that upkeep is done, and flushes it.

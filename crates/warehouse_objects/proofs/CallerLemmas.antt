@@ -26,6 +26,7 @@ pub use Rattle.warehouse_objects.proofs.Contents.{
   batch_is_put,
   beginning_is_put,
   dimensions_are_puts,
+  groupings_moved,
   has_rows,
   loading_is_put,
   object_batch,
@@ -45,8 +46,8 @@ pub use Rattle.warehouse_objects.proofs.OneWarehouse.{
   one_layout,
   one_warehouse,
   own_view,
-  plain_view,
-  plain_views,
+  view_within,
+  views_within,
 }
 pub use Rattle.warehouse_objects.proofs.Asked.{few_objects}
 pub use Rattle.warehouse_objects.proofs.KeptModes.{admissible_in, admitted_in_order, no_modes}

@@ -26,11 +26,11 @@ use Rattle.lattice.specs.Views.{index_of, lattice}
 use Rattle.warehouse_root.specs.declared.cuboid.StoredCuboid.{StoredCuboid}
 use Rattle.warehouse_root.specs.declared.layout.Layout.{Layout}
 use Rattle.warehouse_root.specs.declared.layout.Layout.TheVariants.{First, Second}
-use Rattle.warehouse_root.specs.Layouts.{number_of, views_of}
+use Rattle.warehouse_root.specs.Layouts.{has_modes, number_of, views_of}
 use Rattle.warehouse_root.specs.Limits.{most_cuboids}
 use Rattle.warehouse_root.specs.Objects.{run_id, run_ids}
 use Rattle.warehouse_root.specs.Root as roots
-use Rattle.warehouse_root.specs.Root.{AreAscending, GroupNoModes, IsProperCuboid}
+use Rattle.warehouse_root.specs.Root.{AreAscending, IsProperCuboid}
 use Rattle.warehouse_objects.specs.Warehouse.{Cuboid, Warehouse, cuboid_at, dropped_ids, in_order, is_among, kept_of}
 use Rattle.warehouse_objects.specs.Warehouse.{ship_modes_of, with_views}
 use Rattle.warehouse_objects.specs.Represents.{HoldsGroupings, Represents, dimension_of, numbers_among, object_of}
@@ -178,22 +178,27 @@ numbers_by : (views vs : List View) (numbers : List ℕ) → map index_of vs ≡
     → map index_of (filter (λ view. is_among views (index_of view)) vs) ≡ filter (is_among views) numbers
 numbers_by views vs numbers same = map-filter (is_among views) index_of vs ∙ ap (filter (is_among views)) same
 
-first_numbers : map index_of (lattice false) ≡ range_with_len 0 256
-first_numbers = refl
+all_numbers : (layout : Layout) → map index_of (lattice (has_modes layout)) ≡ range_with_len 0 (views_of layout)
+all_numbers First = refl
+all_numbers Second = refl
 
-numbers_in : (views : List View) → map index_of (filter (λ view. is_among views (index_of view)) (lattice false))
-    ≡ numbers_among views 256
+numbers_in : (layout : Layout) (views : List View)
+    → map index_of (filter (λ view. is_among views (index_of view)) (lattice (has_modes layout)))
+    ≡ numbers_among views (views_of layout)
 unfolding numbers_among
-numbers_in views = numbers_by views (lattice false) (range_with_len 0 256) first_numbers
+numbers_in layout views =
+    numbers_by views (lattice (has_modes layout)) (range_with_len 0 (views_of layout)) (all_numbers layout)
 
-pub numbers_are : (views : List View) → map index_of (in_order views) ≡ numbers_among views 256
+pub numbers_are : (layout : Layout) (views : List View)
+    → map index_of (in_order layout views) ≡ numbers_among views (views_of layout)
 unfolding in_order
-numbers_are views = numbers_in views
+numbers_are layout views = numbers_in layout views
 
-among_in_order : (views : List View) (q : ℕ)
-    → is_among (in_order views) q ≡ (is_among views q && asks (range_with_len 0 256) q)
-among_in_order views q = asked_views (in_order views) q ∙ ap (λ (l : List ℕ). asks l q) (numbers_are views)
-    ∙ asked_among views 256 q
+among_in_order : (layout : Layout) (views : List View) (q : ℕ)
+    → is_among (in_order layout views) q ≡ (is_among views q && asks (range_with_len 0 (views_of layout)) q)
+among_in_order layout views q =
+    asked_views (in_order layout views) q ∙ ap (λ (l : List ℕ). asks l q) (numbers_are layout views)
+    ∙ asked_among views (views_of layout) q
 
 -- ---- what a root says of them
 
@@ -249,27 +254,25 @@ module _ (views : List View) (cuboids : List StoredCuboid) where
   abbrev said_at : ℕ → StoredCuboid
   said_at number = said_or_new number (find (λ (c : StoredCuboid). c.view == number) cuboids)
 
-  pub said_few : length views ≤ most_cuboids → length (said_with views cuboids) ≤ most_cuboids
-  said_few few = omega (arith, few, numbers_few views 256, length-map (numbers_among views 256) said_at)
+  module _ (layout : Layout) where
+    abbrev numbers : List ℕ
+    numbers = numbers_among views (views_of layout)
 
-  pub said_ascend : AreAscending (said_with views cuboids)
-  said_ascend =
-      AllPairs-mapped (λ (one : StoredCuboid) (other : StoredCuboid). one.view < other.view) said_at
-      (numbers_among views 256) (λ i j d before within.
-      let up = numbers_up views 256 i j d before within in
-      omega (
-        arith,
-        up,
-        said_view cuboids (get_or (numbers_among views 256) i d),
-        said_view cuboids (get_or (numbers_among views 256) j d),
-      ))
+    pub said_few : length views ≤ most_cuboids → length (said_with layout views cuboids) ≤ most_cuboids
+    said_few few = omega (arith, few, numbers_few views (views_of layout), length-map numbers said_at)
 
-  pub said_each : (layout : Layout) (batches : ℕ) → 256 ≤ views_of layout → All (IsProperCuboid layout batches) cuboids
-      → All (IsProperCuboid layout batches) (said_with views cuboids)
-  said_each layout batches many all =
-      All-map (IsProperCuboid layout batches) said_at (numbers_among views 256) (λ k d within.
-      said_proper cuboids (get_or (numbers_among views 256) k d) layout batches
-      (omega (arith, numbers_low views 256 k d within, many)) all)
+    pub said_ascend : AreAscending (said_with layout views cuboids)
+    said_ascend =
+        AllPairs-mapped (λ (one : StoredCuboid) (other : StoredCuboid). one.view < other.view) said_at numbers
+        (λ i j d before within.
+        let up = numbers_up views (views_of layout) i j d before within in
+        omega (arith, up, said_view cuboids (get_or numbers i d), said_view cuboids (get_or numbers j d)))
+
+    pub said_each : (batches : ℕ) → All (IsProperCuboid layout batches) cuboids
+        → All (IsProperCuboid layout batches) (said_with layout views cuboids)
+    said_each batches all =
+        All-map (IsProperCuboid layout batches) said_at numbers (λ k d within.
+        said_proper cuboids (get_or numbers k d) layout batches (numbers_low views (views_of layout) k d within) all)
 
 -- ---- stored cuboids, found by their views
 
@@ -334,15 +337,16 @@ map_twice f g h [] same = refl
 map_twice f g h (x ∷ xs) same = λ i. same x i ∷ map_twice f g h xs same i
 
 -- what the root says of the cuboids of some views
-said_of_views : (views : List View) (cuboids : List Cuboid) → map said_of (map (kept_at cuboids) (in_order views))
-    ≡ said_with views (map said_of cuboids)
-said_of_views views cuboids =
-    map_twice (kept_at cuboids) said_of (λ view. said_at views (map said_of cuboids) (index_of view)) (in_order views)
+said_of_views : (layout : Layout) (views : List View) (cuboids : List Cuboid)
+    → map said_of (map (kept_at cuboids) (in_order layout views)) ≡ said_with layout views (map said_of cuboids)
+said_of_views layout views cuboids =
+    map_twice (kept_at cuboids) said_of (λ view. said_at views (map said_of cuboids) (index_of view))
+    (in_order layout views)
     (λ view. said_kept view (cuboid_at (index_of view) cuboids)
     ∙ ap (said_or_new (index_of view)) (sym (find_said cuboids (index_of view))))
     ∙ sym (map_twice index_of (said_at views (map said_of cuboids))
-    (λ view. said_at views (map said_of cuboids) (index_of view)) (in_order views) (λ view. refl))
-    ∙ ap (map (said_at views (map said_of cuboids))) (numbers_are views)
+    (λ view. said_at views (map said_of cuboids) (index_of view)) (in_order layout views) (λ view. refl))
+    ∙ ap (map (said_at views (map said_of cuboids))) (numbers_are layout views)
 
 -- the ids of the runs that are dropped
 pub dropped_are : (w : Warehouse) (views : List View)
@@ -484,23 +488,23 @@ at_views cuboids q m (v ∷ vs) =
     kept_run (Some c) = refl
 
 -- no stored cuboid has a higher number
-none_above : (cuboids : List Cuboid) (q : ℕ) → All (λ c. index_of c.view < 256) cuboids → 256 ≤ q
+none_above : (cuboids : List Cuboid) (limit q : ℕ) → All (λ c. index_of c.view < limit) cuboids → limit ≤ q
     → cuboid_at q cuboids ≡ None
-none_above [] q all above = refl
-none_above (c ∷ cs) q all above =
-    let own : index_of c.view < 256 = All-head (λ (d : Cuboid). index_of d.view < 256) c cs all in
+none_above [] limit q all above = refl
+none_above (c ∷ cs) limit q all above =
+    let own : index_of c.view < limit = All-head (λ (d : Cuboid). index_of d.view < limit) c cs all in
     let other : (index_of c.view == q) ≡ false = apart (index_of c.view) own in
     ap (λ (b : Bool). if b then Some c else cuboid_at q cs) other
-    ∙ none_above cs q (All-tail (λ (d : Cuboid). index_of d.view < 256) c cs all) above
+    ∙ none_above cs limit q (All-tail (λ (d : Cuboid). index_of d.view < limit) c cs all) above
   where
-    apart : (n : ℕ) → n < 256 → (n == q) ≡ false
+    apart : (n : ℕ) → n < limit → (n == q) ≡ false
     apart n lt = grind (arith, nat_tests, lt, above)
 
--- views of the first lattice are found in it
-either_way : (views : List View) (q : ℕ) (o : Option (List ℕ)) → (256 ≤ q → o ≡ None)
-    → (if is_among (in_order views) q then o else None) ≡ (if is_among views q then o else None)
-either_way views q o high =
-    ap (λ (b : Bool). if b then o else None) (among_in_order views q) ∙ by (cases_lt q 256)
+-- views of a layout's lattice are found in it
+either_way : (layout : Layout) (views : List View) (q : ℕ) (o : Option (List ℕ)) → (views_of layout ≤ q → o ≡ None)
+    → (if is_among (in_order layout views) q then o else None) ≡ (if is_among views q then o else None)
+either_way layout views q o high =
+    ap (λ (b : Bool). if b then o else None) (among_in_order layout views q) ∙ by (cases_lt q (views_of layout))
   where
     none : (b : Bool) (x : Option (List ℕ)) → x ≡ None → (if b then x else None) ≡ None
     none true x e = e
@@ -510,20 +514,21 @@ either_way views q o high =
     all_of true = refl
     all_of false = refl
 
-    by : (q < 256) ⊎ (256 ≤ q) → (if (is_among views q && asks (range_with_len 0 256) q) then o else None)
+    by : (q < views_of layout) ⊎ (views_of layout ≤ q)
+        → (if (is_among views q && asks (range_with_len 0 (views_of layout)) q) then o else None)
         ≡ (if is_among views q then o else None)
     by (inl lt) =
         ap (λ (t : Bool). if (is_among views q && t) then o else None)
-        (asks_range 0 256 q (omega arith) (omega (arith, lt)))
+        (asks_range 0 (views_of layout) q (omega arith) (omega (arith, lt)))
         ∙ ap (λ (t : Bool). if t then o else None) (all_of (is_among views q))
-    by (inr le) = none (is_among views q && asks (range_with_len 0 256) q) o (high le)
+    by (inr le) = none (is_among views q && asks (range_with_len 0 (views_of layout)) q) o (high le)
         ∙ sym (none (is_among views q) o (high le))
 
-chooses : (cuboids : List Cuboid) (views : List View) (id : ℕ) → All (λ c. length c.runs ≤ 8) cuboids
-    → All (λ c. index_of c.view < 256) cuboids → 131072 ≤ id
+chooses : (layout : Layout) (cuboids : List Cuboid) (views : List View) (id : ℕ)
+    → All (λ c. length c.runs ≤ 8) cuboids → All (λ c. index_of c.view < views_of layout) cuboids → 131072 ≤ id
     → without (dropped views cuboids) id (run_after (id - 131072) cuboids)
-    ≡ run_after (id - 131072) (map (kept_at cuboids) (in_order views))
-chooses cuboids views id few views_low from =
+    ≡ run_after (id - 131072) (map (kept_at cuboids) (in_order layout views))
+chooses layout cuboids views id few views_low from =
     let q = (id - 131072) / 16 in
     let m = (id - 131072) % 16 in
     let parts : 16 * q + m ≡ id - 131072 = div-add-mod (id - 131072) 16 in
@@ -534,9 +539,9 @@ chooses cuboids views id few views_low from =
       | true ↦ λ e. stays views id q m parts low from cuboids (run_in (cuboid_at q cuboids) m) e few
       | false ↦ λ e. goes views id q m parts low from cuboids e
     ]) refl)
-    ∙ sym (either_way views q (run_in (cuboid_at q cuboids) m)
-    (λ le. ap (λ (o : Option Cuboid). run_in o m) (none_above cuboids q views_low le)))
-    ∙ sym (at_views cuboids q m (in_order views))
+    ∙ sym (either_way layout views q (run_in (cuboid_at q cuboids) m)
+    (λ le. ap (λ (o : Option Cuboid). run_in o m) (none_above cuboids (views_of layout) q views_low le)))
+    ∙ sym (at_views cuboids q m (in_order layout views))
 
 not_dropped : (views : List View) (cuboids : List Cuboid) (id : ℕ) (was : Option (List ℕ)) → id < 131072
     → without (dropped views cuboids) id was ≡ was
@@ -560,20 +565,6 @@ module _ (c : Content) (w : Warehouse) (views : List View) (represents : Represe
   abbrev bytes : List ℕ
   bytes = roots.root_of (root_of (with_views w views))
 
-  enough_views : (layout : Layout) → 256 ≤ views_of layout
-  enough_views First = omega arith
-  enough_views Second = omega arith
-
-  -- as cuboids of the first layout
-  first_each : All (IsProperCuboid First (length (map length w.batches))) (map said_of w.cuboids)
-  first_each = λ k d within. let is = represents.root.proper.each k d within in record {
-    view = represents.plain k d within;
-    mark = is.mark;
-    no_run = is.no_run;
-    most_runs = is.most_runs;
-    most_cells = is.most_cells;
-  }
-
   abbrev Proper : StoredCuboid → Type 0
   Proper = IsProperCuboid w.layout (length (map length w.batches))
 
@@ -591,46 +582,37 @@ module _ (c : Content) (w : Warehouse) (views : List View) (represents : Represe
           ∙ sym (objects_low (dimension_of w.rows Customer) (dimension_of w.rows Supplier) (dimension_of w.rows Part)
           (dimension_of w.rows Date) (modes_object w.layout (ship_modes_of w)) segment_of
           (λ place. run_after place w.cuboids)
-          (λ place. run_after place (map (kept_at w.cuboids) (in_order views))) w.batches id (object_of w id) lt
+          (λ place. run_after place (map (kept_at w.cuboids) (in_order w.layout views))) w.batches id (object_of w id)
+          lt
           refl)
       by (inr le) =
           ap (without (dropped_ids w views) id)
           (objects_high (dimension_of w.rows Customer) (dimension_of w.rows Supplier) (dimension_of w.rows Part)
           (dimension_of w.rows Date) (modes_object w.layout (ship_modes_of w)) segment_of
           (λ place. run_after place w.cuboids) w.batches id le)
-          ∙ chooses w.cuboids views id (λ k d within. (proper_each k d within).most_runs)
-          (λ k d within. omega (
-            arith,
-            ap (λ (s : StoredCuboid). s.view) (get_or-map said_of w.cuboids k d (said_of d) within),
-            represents.plain k (said_of d) (omega (arith, within, length-map w.cuboids said_of)),
-          )) le
+          ∙ chooses w.layout w.cuboids views id (λ k d within. (proper_each k d within).most_runs)
+          (λ k d within. (proper_each k d within).view) le
           ∙ sym (objects_high (dimension_of w.rows Customer) (dimension_of w.rows Supplier) (dimension_of w.rows Part)
           (dimension_of w.rows Date) (modes_object w.layout (ship_modes_of w)) segment_of
-          (λ place. run_after place (map (kept_at w.cuboids) (in_order views))) w.batches id le)
+          (λ place. run_after place (map (kept_at w.cuboids) (in_order w.layout views))) w.batches id le)
 
   proper_chosen : AreProperCuboids (with_views w views)
   proper_chosen =
-      let same : map said_of (map (kept_at w.cuboids) (in_order views)) ≡ said_with views (map said_of w.cuboids) =
-      said_of_views views w.cuboids in record {
+      let same : map said_of (map (kept_at w.cuboids) (in_order w.layout views))
+      ≡ said_with w.layout views (map said_of w.cuboids) =
+      said_of_views w.layout views w.cuboids in record {
         most = subst (λ (l : List StoredCuboid). length l ≤ most_cuboids) (sym same)
-            (said_few views (map said_of w.cuboids) few);
+            (said_few views (map said_of w.cuboids) w.layout few);
         each = subst (λ (l : List StoredCuboid). All Proper l) (sym same)
             (said_each views (map said_of w.cuboids) w.layout (length (map length w.batches))
-            (enough_views w.layout) represents.root.proper.each);
-        ascending =
-            subst (λ (l : List StoredCuboid). AreAscending l) (sym same) (said_ascend views (map said_of w.cuboids));
+            represents.root.proper.each);
+        ascending = subst (λ (l : List StoredCuboid). AreAscending l) (sym same)
+            (said_ascend views (map said_of w.cuboids) w.layout);
       }
 
-  plain_chosen : GroupNoModes (root_of (with_views w views))
-  plain_chosen =
-      subst (λ (l : List StoredCuboid). All (λ (cuboid : StoredCuboid). cuboid.view < 256) l)
-      (sym (said_of_views views w.cuboids))
-      (λ k d within. (said_each views (map said_of w.cuboids) First (length (map length w.batches)) (omega arith)
-      first_each k d within).view)
-
-  hold_chosen : All (HoldsGroupings (with_views w views)) (map (kept_at w.cuboids) (in_order views))
-  hold_chosen = All-map (HoldsGroupings (with_views w views)) (kept_at w.cuboids) (in_order views)
-      (λ k d within. holds (get_or (in_order views) k d))
+  hold_chosen : All (HoldsGroupings (with_views w views)) (map (kept_at w.cuboids) (in_order w.layout views))
+  hold_chosen = All-map (HoldsGroupings (with_views w views)) (kept_at w.cuboids) (in_order w.layout views)
+      (λ k d within. holds (get_or (in_order w.layout views) k d))
     where
       still : (cuboid : Cuboid) → HoldsGroupings w cuboid → HoldsGroupings (with_views w views) cuboid
       still cuboid holds = record {
@@ -669,18 +651,17 @@ module _ (c : Content) (w : Warehouse) (views : List View) (represents : Represe
     rows = represents.rows;
     batches = represents.batches;
     modes = represents.modes;
-    plain = plain_chosen;
     cuboids = hold_chosen;
   }
 
 -- the root of the warehouse with these views
 pub root_viewed : (w : Warehouse) (views : List View)
-    → root_of (with_views w views) ≡ roots.with_cuboids (said_with views (root_of w).cuboids) (root_of w)
+    → root_of (with_views w views) ≡ roots.with_cuboids (said_with w.layout views (root_of w).cuboids) (root_of w)
 root_viewed w views = λ i. record {
   layout = w.layout;
   batches = map length w.batches;
   target = 0;
   additions = w.additions;
   totals = (root_of w).totals;
-  cuboids = said_of_views views w.cuboids i;
+  cuboids = said_of_views w.layout views w.cuboids i;
 }

@@ -36,9 +36,10 @@ use Rattle.cuboid_cells.specs.declared.span.Span.{Span}
 use Rattle.cuboid_cells.specs.Spelled.{IsSpan}
 use Rattle.cuboid_cells.specs.Steps.{cells_of}
 use Rattle.cuboid_upkeep.specs.Grouping.{RepresentRows}
+use Rattle.cuboid_upkeep.proofs.CallerLemmas.{they_still_represent}
 use Rattle.warehouse_objects.specs.Warehouse.{AreInOrder, AreStorable, Cuboid, IsNext, StoredRun, Warehouse, aimed}
 use Rattle.warehouse_objects.specs.Facts.{Admits}
-use Rattle.warehouse_objects.specs.Warehouse.{fresh_in, loaded, modes_of, ship_modes_of}
+use Rattle.warehouse_objects.specs.Warehouse.{fresh_in, loaded, migrated, ship_modes_of}
 use Rattle.warehouse_objects.specs.Represents.{Follow, HasRows, HoldsGroupings, Represents, dimension_of, modes_object}
 use Rattle.warehouse_objects.specs.Represents.{object_of}
 use Rattle.warehouse_objects.specs.Represents.{root_of, rows_in, run_after, said_of, segment_after, stored}
@@ -49,7 +50,7 @@ use Rattle.warehouse_objects.proofs.Batches.{root_proper}
 use Rattle.warehouse_objects.proofs.Batches.{slice_get_snoc, some_one}
 use Rattle.warehouse_objects.proofs.Lengths.{dimension_least, dimension_most, segment_least, segment_most}
 use Rattle.warehouse_objects.proofs.Rows.{same_rows}
-use Rattle.warehouse_objects.proofs.KeptModes.{admissible_in, modes_more, modes_none, modes_same}
+use Rattle.warehouse_objects.proofs.KeptModes.{admissible_in, modes_begin, modes_more, modes_none, modes_same}
 use Rattle.warehouse_objects.proofs.KeptModes.{nothing_kept}
 
 -- ---- objects, by their ids
@@ -184,7 +185,6 @@ represents_created layout rows storable =
       rows = storable;
       batches = in_order_none rows;
       modes = modes_none layout;
-      plain = All-nil (λ (cuboid : StoredCuboid). cuboid.view < 256);
       cuboids = All-nil (HoldsGroupings (fresh_in layout rows));
     }
 
@@ -216,11 +216,35 @@ groupings_more : (w : Warehouse) (batch : List LineOrder) (cuboid : Cuboid) → 
 groupings_more w batch cuboid low holds = record {
   laid = record { follow = holds.laid.follow; spans = holds.laid.spans; proper = holds.laid.proper };
   groupings = λ k d within.
+      let run = get_or cuboid.runs k d in
       let ends = (ends_within 0 cuboid.mark cuboid.runs holds.laid.follow holds.laid.spans).1 k d within in
-      subst (λ (l : List LineOrder). RepresentRows w.rows (modes_of w) l
-      (cells_of cuboid.view (get_or cuboid.runs k d).cells))
-      (sym (run_in_more w batch (get_or cuboid.runs k d).span (omega (arith, ends, low))))
-      (holds.groupings k d within);
+      let more = modes_begin w.layout (all_rows w.batches) batch in
+      subst (λ (l : List LineOrder). RepresentRows w.rows (ship_modes_of (loaded w batch)) l
+      (cells_of cuboid.view run.cells))
+      (sym (run_in_more w batch run.span (omega (arith, ends, low))))
+      (subst (λ (modes : List (List ℕ)). RepresentRows w.rows modes (rows_in w.batches run.span)
+      (cells_of cuboid.view run.cells)) (sym (more_modes w batch ∙ more.1))
+      (they_still_represent w.rows (ship_modes_of w) more.0 (rows_in w.batches run.span)
+      (cells_of cuboid.view run.cells) (holds.groupings k d within)));
+}
+
+-- a layout keeps a beginning of the ship modes that the second one keeps: all or none
+beginning_kept : (layout : Layout) (rows : List LineOrder) → (rest : List (List ℕ))
+    × (kept_modes Second rows ≡ kept_modes layout rows ++ rest)
+beginning_kept First rows = (kept_modes Second rows, refl)
+beginning_kept Second rows = ([], sym (append-nil (kept_modes Second rows)))
+
+-- and where the warehouse moves to the second layout
+pub groupings_moved : (w : Warehouse) (cuboid : Cuboid) → HoldsGroupings w cuboid → HoldsGroupings (migrated w) cuboid
+groupings_moved w cuboid holds = record {
+  laid = record { follow = holds.laid.follow; spans = holds.laid.spans; proper = holds.laid.proper };
+  groupings = λ k d within.
+      let run = get_or cuboid.runs k d in
+      let more = beginning_kept w.layout (all_rows w.batches) in
+      subst (λ (modes : List (List ℕ)). RepresentRows w.rows modes (rows_in w.batches run.span)
+      (cells_of cuboid.view run.cells)) (sym more.1)
+      (they_still_represent w.rows (ship_modes_of w) more.0 (rows_in w.batches run.span)
+      (cells_of cuboid.view run.cells) (holds.groupings k d within));
 }
 
 -- the marks of stored cuboids, by the root
@@ -312,7 +336,6 @@ module _ (c : Content) (w : Warehouse) (number : ℕ) (batch : List LineOrder) (
     batches = in_order;
     modes = subst AreModes (sym (more_modes w batch))
         (modes_more w.layout w.rows w.batches number batch represents.batches represents.modes admits);
-    plain = represents.plain;
     cuboids = λ k d within. groupings_more w batch (get_or w.cuboids k d) (marks k d within)
         (represents.cuboids k d within);
   }
@@ -337,7 +360,6 @@ represents_aimed c w represents =
       rows = represents.rows;
       batches = represents.batches;
       modes = represents.modes;
-      plain = represents.plain;
       cuboids = λ k d within. let holds = represents.cuboids k d within in record {
         laid = record { follow = holds.laid.follow; spans = holds.laid.spans; proper = holds.laid.proper };
         groupings = holds.groupings;

@@ -21,7 +21,7 @@ use Rattle.warehouse_root.specs.declared.cuboid.StoredCuboid.{StoredCuboid}
 use Rattle.warehouse_root.specs.Layouts.{number_of, views_of}
 use Rattle.warehouse_root.specs.Objects.{run_id}
 use Rattle.warehouse_root.specs.Root as roots
-use Rattle.warehouse_root.specs.Root.{AreAscending, GroupNoModes, IsProperCuboid}
+use Rattle.warehouse_root.specs.Root.{AreAscending, IsProperCuboid}
 use Rattle.warehouse_objects.specs.Warehouse.{Cuboid, StoredRun, Warehouse, cuboid_at, kept, ship_modes_of, put_cuboid}
 use Rattle.warehouse_objects.specs.Represents.{Follow, HoldsGroupings, Represents, dimension_of, object_of, root_of}
 use Rattle.warehouse_objects.specs.Represents.{modes_object, run_after, run_bytes, run_in, said_of}
@@ -353,19 +353,6 @@ module _ (c : Content) (w : Warehouse) (old new : Cuboid) (represents : Represen
           omega (arith, up, at_i, at_j);
     }
 
-    plain_after : GroupNoModes (root_of (kept w new))
-    plain_after = λ k d within.
-        let many : length (map said_of (put_cuboid new w.cuboids)) ≡ length (put_cuboid new w.cuboids) =
-        length-map (put_cuboid new w.cuboids) said_of in
-        let same : length (put_cuboid new w.cuboids) ≡ length w.cuboids =
-        length-map w.cuboids (λ other. if index_of other.view == index_of new.view then new else other) in
-        let inside : k < length (put_cuboid new w.cuboids) = omega (arith, within, many) in
-        let was : k < length w.cuboids = omega (arith, inside, same) in
-        let at_k = ap (λ (s : StoredCuboid). s.view) (get_or-map said_of (put_cuboid new w.cuboids) k new d inside)
-        ∙ view_put new w.cuboids k new
-        ∙ ap (λ (s : StoredCuboid). s.view) (sym (get_or-map said_of w.cuboids k new d was)) in
-        omega (arith, at_k, represents.plain k d (omega (arith, was, length-map w.cuboids said_of)))
-
     hold_after : All (HoldsGroupings (kept w new)) (put_cuboid new w.cuboids)
     hold_after =
         one_of (HoldsGroupings (kept w new)) new w.cuboids (still new may.holds)
@@ -395,7 +382,6 @@ module _ (c : Content) (w : Warehouse) (old new : Cuboid) (represents : Represen
       rows = represents.rows;
       batches = represents.batches;
       modes = represents.modes;
-      plain = plain_after;
       cuboids = hold_after;
     }
 

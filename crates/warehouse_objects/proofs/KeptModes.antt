@@ -308,7 +308,8 @@ no_fewer xs ys =
     )
 
 -- where all are few enough, no text is one too many
-crowded_none : (earlier modes rest : List (List ℕ)) → length (members_of (earlier ++ (modes ++ rest))) ≤ most_members
+pub crowded_none : (earlier modes rest : List (List ℕ))
+    → length (members_of (earlier ++ (modes ++ rest))) ≤ most_members
     → crowded_place earlier modes ≡ None
 crowded_none earlier [] rest few = refl
 crowded_none earlier (mode ∷ modes) rest few =
@@ -325,7 +326,7 @@ crowded_none earlier (mode ∷ modes) rest few =
     enough : (n : ℕ) → n ≤ most_members → nat_lt most_members n ≡ false
     enough n le = grind (arith, nat_tests, le)
 
-somewhere : (p : List ℕ → Bool) (xs : List (List ℕ)) → list_any p xs ≡ false → position p xs ≡ None
+pub somewhere : (p : List ℕ → Bool) (xs : List (List ℕ)) → list_any p xs ≡ false → position p xs ≡ None
 somewhere p xs none = ap (λ b. cond b (Some (position_or_len p xs)) None) (sym (list_any_place p xs) ∙ none)
 
 -- ship modes that can be members give no cause to refuse some of them after others

@@ -6,8 +6,8 @@ use Rattle.warehouse_root.specs.declared.layout.Layout.{Layout}
 use Rattle.warehouse_root.specs.declared.layout.Layout.TheVariants.{First, Second}
 use Rattle.warehouse_root.specs.Modes.{AreModes, SpellModes, kept_modes, modes_spelling}
 use Rattle.warehouse_root.proofs.ModesLaws.{SpellModes-one}
-use Rattle.warehouse_objects.specs.Warehouse.{Warehouse, ship_modes_of}
-use Rattle.warehouse_objects.specs.Represents.{HasModes, Represents, modes_object}
+use Rattle.warehouse_objects.specs.Warehouse.{Cuboid, Warehouse, ship_modes_of}
+use Rattle.warehouse_objects.specs.Represents.{HasModes, Represents, RepresentsWith, modes_object}
 use Rattle.warehouse_objects.proofs.Batches.{some_one}
 
 -- the object of a layout and what is read of it
@@ -18,8 +18,8 @@ one_in c Second modes others is none has are also =
     SpellModes-one (modes_spelling modes) modes others (record { spelled = refl; are = are })
     (record { spelled = some_one (modes_spelling modes) (modes_spelling others) (sym has ∙ is); are = also })
 
-pub modes_one : (c : Content) (w : Warehouse) (modes : List (List ℕ)) → Represents c w → HasModes c w.layout modes
-    → AreModes modes → modes ≡ ship_modes_of w
+pub modes_one : {Keeps : Warehouse → Cuboid → Type 0} (c : Content) (w : Warehouse) (modes : List (List ℕ))
+    → RepresentsWith Keeps c w → HasModes c w.layout modes → AreModes modes → modes ≡ ship_modes_of w
 modes_one c w modes represents has are =
     one_in c w.layout modes (ship_modes_of w) (represents.objects 5) none has are represents.modes
   where

@@ -22,7 +22,7 @@ use Rattle.cuboid_cells.proofs.CallerLemmas.{IsRun-one}
 use Rattle.warehouse_root.specs.declared.cuboid.StoredCuboid.{StoredCuboid}
 use Rattle.warehouse_root.specs.declared.layout.Layout.{Layout}
 use Rattle.warehouse_root.specs.declared.layout.Layout.TheVariants.{First, Second}
-use Rattle.warehouse_root.specs.Layouts.{number_of}
+use Rattle.warehouse_root.specs.Layouts.{number_of, views_of}
 use Rattle.warehouse_root.specs.Objects.{run_id}
 use Rattle.warehouse_root.specs.Root.{AreAscending}
 use Rattle.warehouse_root.proofs.CallerLemmas.{root_fits, root_of-one}
@@ -202,31 +202,34 @@ module _ (law : ValidRowsKeepTheRules) (c : Content) (w v : Warehouse) (is : Rep
         cuboids = cuboids i;
       }
 
--- no stored cuboid groups by ship mode
+-- the views of stored cuboids are those of the layout
 module _ {Keeps : Warehouse → Cuboid → Type 0} (c : Content) (w : Warehouse) (represents : RepresentsWith Keeps c w)
   where
-    pub plain_views : All (λ cuboid. index_of cuboid.view < 256) w.cuboids
-    plain_views = λ k d within.
+    abbrev IsOfLayout : Cuboid → Type 0
+    IsOfLayout cuboid = index_of cuboid.view < views_of w.layout
+
+    pub views_within : All IsOfLayout w.cuboids
+    views_within = λ k d within.
+        let said = represents.root.proper.each k (said_of d) (omega (arith, within, length-map w.cuboids said_of)) in
         omega (
           arith,
           ap (λ (s : StoredCuboid). s.view) (get_or-map said_of w.cuboids k d (said_of d) within),
-          represents.plain k (said_of d) (omega (arith, within, length-map w.cuboids said_of)),
+          said.view,
         )
 
-    found_in : (cuboids : List Cuboid) (n : ℕ) (found : Cuboid) → All (λ cuboid. index_of cuboid.view < 256) cuboids
-        → cuboid_at n cuboids ≡ Some found → index_of found.view < 256
+    found_in : (cuboids : List Cuboid) (n : ℕ) (found : Cuboid) → All IsOfLayout cuboids
+        → cuboid_at n cuboids ≡ Some found → IsOfLayout found
     found_in [] n found all is = absurd (cc is)
     found_in (x ∷ xs) n found all is =
         (elim (index_of x.view == n) as
-        (λ (t : Bool). (if t then Some x else cuboid_at n xs) ≡ Some found → index_of found.view < 256) [
+        (λ (t : Bool). (if t then Some x else cuboid_at n xs) ≡ Some found → IsOfLayout found) [
           | true ↦ λ e.
-              (let same : x ≡ found = cc e in subst (λ (y : Cuboid). index_of y.view < 256) same
-              (All-head (λ (cuboid : Cuboid). index_of cuboid.view < 256) x xs all))
-          | false ↦ λ e. found_in xs n found (All-tail (λ (cuboid : Cuboid). index_of cuboid.view < 256) x xs all) e
+              (let same : x ≡ found = cc e in subst IsOfLayout same (All-head IsOfLayout x xs all))
+          | false ↦ λ e. found_in xs n found (All-tail IsOfLayout x xs all) e
         ]) is
 
-    pub plain_view : (n : ℕ) (found : Cuboid) → cuboid_at n w.cuboids ≡ Some found → index_of found.view < 256
-    plain_view n found is = found_in w.cuboids n found plain_views is
+    pub view_within : (n : ℕ) (found : Cuboid) → cuboid_at n w.cuboids ≡ Some found → IsOfLayout found
+    view_within n found is = found_in w.cuboids n found views_within is
 
 -- a warehouse that is represented is laid out
 pub laid_of : (c : Content) (w : Warehouse) → Represents c w → RepresentsWith IsLaid c w
@@ -238,7 +241,6 @@ laid_of c w represents = record {
   rows = represents.rows;
   batches = represents.batches;
   modes = represents.modes;
-  plain = represents.plain;
   cuboids = λ k d within. (represents.cuboids k d within).laid;
 }
 

@@ -25,12 +25,12 @@ use Rattle.warehouse_root.specs.declared.cuboid.StoredCuboid.{StoredCuboid}
 use Rattle.warehouse_root.specs.declared.layout.Layout.{Layout}
 use Rattle.warehouse_root.specs.declared.layout.Layout.TheVariants.{First, Second}
 use Rattle.warehouse_root.specs.declared.totals.StoredTotals.{StoredTotals}
-use Rattle.warehouse_root.specs.Layouts.{number_of}
+use Rattle.warehouse_root.specs.Layouts.{number_of, views_of}
 use Rattle.warehouse_root.specs.Modes.{AreModes, modes_id, modes_spelling}
 use Rattle.warehouse_root.specs.Objects.{object_ids, run_id, segment_id}
-use Rattle.warehouse_root.specs.Root.{GroupNoModes, IsRoot, PlainRoot}
+use Rattle.warehouse_root.specs.Root.{IsRoot, PlainRoot}
 use Rattle.warehouse_objects.specs.Warehouse.{Warehouse, AreInOrder, AreStorable, Cuboid, StoredRun, cells_in}
-use Rattle.warehouse_objects.specs.Warehouse.{cuboid_at, is_among, modes_of, ship_modes_of}
+use Rattle.warehouse_objects.specs.Warehouse.{cuboid_at, is_among, ship_modes_of}
 
 -- the bytes of the rows of a dimension
 abbrev pub dimension_of : DimRows → Axis → List ℕ
@@ -112,9 +112,9 @@ abbrev pub said_below : ℕ → List View → List StoredCuboid → List StoredC
 said_below count views cuboids = map (λ number. said_or_new number (find (λ cuboid. cuboid.view == number) cuboids))
     (numbers_among views count)
 
--- the same of all views without ship mode
-abbrev pub said_with : List View → List StoredCuboid → List StoredCuboid
-said_with views cuboids = said_below 256 views cuboids
+-- the same of all views of a layout
+abbrev pub said_with : Layout → List View → List StoredCuboid → List StoredCuboid
+said_with layout views cuboids = said_below (views_of layout) views cuboids
 
 -- the fact rows of the batches of a span
 abbrev pub rows_in : List (List LineOrder) → Span → List LineOrder
@@ -135,7 +135,7 @@ pub record IsLaid (w : Warehouse) (cuboid : Cuboid) : Type 0 where
 pub record HoldsGroupings (w : Warehouse) (cuboid : Cuboid) : Type 0 where
   pub laid : IsLaid w cuboid
   pub groupings : All
-      (λ run. RepresentRows w.rows (modes_of w) (rows_in w.batches run.span) (cells_of cuboid.view run.cells))
+      (λ run. RepresentRows w.rows (ship_modes_of w) (rows_in w.batches run.span) (cells_of cuboid.view run.cells))
       cuboid.runs
 
 -- The content is that of the warehouse, whose stored cuboids keep something.
@@ -150,8 +150,6 @@ pub record RepresentsWith (Keeps : Warehouse → Cuboid → Type 0) (c : Content
   pub rows : AreStorable w.rows
   pub batches : AreInOrder w.rows w.batches
   pub modes : AreModes (ship_modes_of w)
-  -- no cuboid groups by ship mode yet
-  pub plain : GroupNoModes (root_of w)
   pub cuboids : All (Keeps w) w.cuboids
 
 -- the content represents the warehouse
@@ -173,6 +171,11 @@ pub record HasRows (c : Content) (rows : DimRows) : Type 0 where
 abbrev pub HasModes : Content → Layout → List (List ℕ) → Type 0
 HasModes c First modes = modes ≡ []
 HasModes c Second modes = bytes_of c modes_id ≡ Some (modes_spelling modes)
+
+-- dimension rows and ship modes are those of a warehouse
+pub record AreItsMembers (w : Warehouse) (dimensions : DimRows) (ship_modes : List (List ℕ)) : Type 0 where
+  pub rows : dimensions ≡ w.rows
+  pub modes : ship_modes ≡ ship_modes_of w
 
 -- the content has just the objects that a root asks for: each of them, and no more than these
 pub record HasItsObjects (c : Content) (root : PlainRoot) : Type 0 where

@@ -17,6 +17,7 @@ use Rattle.cuboid_cells.specs.declared.cell.Cell.{Cell}
 use Rattle.cuboid_cells.specs.declared.span.Span.{Span}
 use Rattle.warehouse_root.specs.declared.layout.Layout.{Layout}
 use Rattle.warehouse_root.specs.declared.layout.Layout.TheVariants.{First, Second}
+use Rattle.warehouse_root.specs.Layouts.{has_modes}
 use Rattle.warehouse_root.specs.Modes.{kept_modes}
 use Rattle.warehouse_root.specs.Objects.{run_id}
 
@@ -45,13 +46,10 @@ pub record Warehouse : Type 0 where
   -- by ascending view
   pub cuboids : List Cuboid
 
--- the ship modes that a warehouse keeps: from the second layout on those of its batches, in the order of first use
+-- the ship modes that a warehouse keeps: from the second layout on those of its batches, in the order of first use.
+-- Their places are the fifth codes of cells
 abbrev pub ship_modes_of : Warehouse → List (List ℕ)
 ship_modes_of w = kept_modes w.layout (all_rows w.batches)
-
--- the ship modes whose places are the fifth codes of cells: none, as no stored cuboid groups by ship mode yet
-abbrev pub modes_of : Warehouse → List (List ℕ)
-modes_of w = []
 
 -- how many cells runs have together
 abbrev pub cells_in : List StoredRun → ℕ
@@ -93,9 +91,9 @@ cuboid_at number cuboids = find (λ cuboid. index_of cuboid.view == number) cubo
 abbrev pub is_among : List View → ℕ → Bool
 is_among views number = list_any (λ view. index_of view == number) views
 
--- the views without ship mode that are among some, each once, by their numbers
-unfoldable pub in_order : List View → List View
-in_order views = filter (λ view. is_among views (index_of view)) (lattice false)
+-- the views of a layout that are among some, each once, by their numbers
+unfoldable pub in_order : Layout → List View → List View
+in_order layout views = filter (λ view. is_among views (index_of view)) (lattice (has_modes layout))
 
 -- a stored cuboid of a view as it is, or one that holds no batch
 abbrev pub kept_of : View → Option Cuboid → Cuboid
@@ -104,8 +102,10 @@ kept_of view (Some cuboid) = cuboid
 
 -- with the cuboids of some views, and no others: one that is stored stays as it is, another one holds no batch
 abbrev pub with_views : Warehouse → List View → Warehouse
-with_views w views =
-    record w { target = 0; cuboids = map (λ view. kept_of view (cuboid_at (index_of view) w.cuboids)) (in_order views) }
+with_views w views = record w {
+  target = 0;
+  cuboids = map (λ view. kept_of view (cuboid_at (index_of view) w.cuboids)) (in_order w.layout views);
+}
 
 -- the ids of the runs that go then: those of the stored cuboids of other views
 abbrev pub dropped_ids : Warehouse → List View → List ℕ

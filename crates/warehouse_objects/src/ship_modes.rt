@@ -68,6 +68,14 @@ impl ShipModes {
         encode_modes(alloc, &self.texts)
     }
 
+    /// The same as a dictionary.
+    pub fn dictionary(&self) -> &Dictionary
+        ensures texts { result.now.texts ≡ self.now }
+        ensures are { AreModes self.now }
+    {
+        &self.texts
+    }
+
     /// How many there are.
     pub fn len(&self) -> usize
         ensures many { result ≡ length self.now }

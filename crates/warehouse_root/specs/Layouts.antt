@@ -1,5 +1,5 @@
 -- The layouts of what is stored on a device. Our layout.
-use Rattle.std.specs.Prelude.{ℕ}
+use Rattle.std.specs.Prelude.{ℕ, Bool, true, false}
 use Rattle.warehouse_root.specs.declared.layout.Layout.{Layout}
 use Rattle.warehouse_root.specs.declared.layout.Layout.TheVariants.{First, Second}
 
@@ -12,6 +12,11 @@ number_of Second = 2
 abbrev pub views_of : Layout → ℕ
 views_of First = 256
 views_of Second = 512
+
+-- ship mode is an axis: from the second layout on
+abbrev pub has_modes : Layout → Bool
+has_modes First = false
+has_modes Second = true
 
 -- how many objects hold dimensions: customers, suppliers, parts and days, and from the second layout on ship modes
 abbrev pub dimensions_of : Layout → ℕ

@@ -88,10 +88,6 @@ pub record IsRootOf (layout : Layout) (bytes : List ℕ) (root : PlainRoot) : Ty
   pub of_layout : root.layout ≡ layout
   pub is_root : IsRoot bytes root
 
--- no cuboid of a root groups by ship mode: the views that do come after the 256 others
-abbrev pub GroupNoModes : PlainRoot → Type 0
-GroupNoModes root = All (λ cuboid. cuboid.view < views_of First) root.cuboids
-
 -- the root of a warehouse of no batch
 abbrev pub first_root : Layout → PlainRoot
 first_root layout = record {

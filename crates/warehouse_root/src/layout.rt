@@ -12,7 +12,7 @@ pub enum Layout {
 
 impl Layout {
     ghost use Rattle.warehouse_root.specs.declared.layout.Layout.{Layout};
-    ghost use Rattle.warehouse_root.specs.Layouts.{dimensions_of, number_of, views_of};
+    ghost use Rattle.warehouse_root.specs.Layouts.{dimensions_of, has_modes, number_of, views_of};
 
     /// The layout of a number, 1 or 2, as it is stored.
     pub fn of_number(number: u32) -> Option<Layout>
@@ -43,6 +43,13 @@ impl Layout {
             Layout::First => 256,
             Layout::Second => 512,
         }
+    }
+
+    /// Whether ship mode is an axis.
+    pub fn has_ship_modes(self) -> bool
+        ensures { result ≡ has_modes self }
+    {
+        matches!(self, Layout::Second)
     }
 
     /// How many objects hold dimensions. They count from 1.

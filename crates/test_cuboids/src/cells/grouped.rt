@@ -6,6 +6,7 @@ use crate::cells::sample::{FIRST, LAST_TWO, SECOND, SPELLED, THIRD, at_day};
 use cube_model::{Fault, LineOrder};
 use cuboid_cells::{Cell, Cells, Key, Span, Summaries, Summary};
 use cuboid_upkeep::GrowingCells;
+use dictionary::Dictionary;
 use dimensions::Dims;
 use group_plan::RowSlice;
 use lattice::View;
@@ -62,11 +63,23 @@ fn cell(codes: [u16; 4], count: u64, measures: Summaries) -> Cell {
     }
 }
 
+// The same cell, of a ship mode as well.
+fn of_mode(cell: Cell, mode: u16) -> Cell {
+    Cell {
+        key: Key {
+            ship_mode: mode,
+            ..cell.key
+        },
+        ..cell
+    }
+}
+
 // Takes rows in as a batch. `TooManyRows` where they are more than a batch has.
 pub(crate) fn take_in(
     alloc: Global,
     dims: &Dims,
     rows: &[LineOrder],
+    modes: Option<&Dictionary>,
     cells: &mut GrowingCells,
 ) -> Result<(), Fault>
     requires { GrowOver dims.now cells.old }
@@ -75,7 +88,7 @@ pub(crate) fn take_in(
     if rows.len() > 65_536 {
         return Err(Fault::TooManyRows);
     }
-    cells.add_rows(alloc, dims, &RowSlice(rows))
+    cells.add_rows(alloc, dims, &RowSlice(rows), modes)
 }
 
 // Takes batches of facts in, one after another.
@@ -83,6 +96,7 @@ fn take_in_batches(
     alloc: Global,
     dims: &Dims,
     batches: &[&[Fact<'_>]],
+    modes: Option<&Dictionary>,
     cells: &mut GrowingCells,
 ) -> Result<(), Fault>
     requires { GrowOver dims.now cells.old }
@@ -90,7 +104,7 @@ fn take_in_batches(
 {
     for batch in batches {
         let rows = line_orders(alloc, batch)?;
-        take_in(alloc, dims, &rows, cells)?;
+        take_in(alloc, dims, &rows, modes, cells)?;
     }
     Ok(())
 }
@@ -101,14 +115,37 @@ fn sample_dims(alloc: Global) -> Result<Dims, Fault> {
     Dims::build(alloc, &rows)
 }
 
-// The cells of batches of facts under a view.
+// Ship modes in this order, or none.
+fn ship_modes(alloc: Global, texts: Option<&[&str]>) -> Result<Option<Dictionary>, Fault> {
+    let Some(texts) = texts else {
+        return Ok(None);
+    };
+    let mut modes = Dictionary::new(alloc, 100);
+    for text in texts {
+        modes.add(alloc, text.as_bytes())?;
+    }
+    Ok(Some(modes))
+}
+
+// The cells of batches of facts under a view, with no ship modes.
 fn grouped(alloc: Global, index: u16, batches: &[&[Fact<'_>]]) -> Result<Cells, Fault> {
+    grouped_with(alloc, index, batches, None)
+}
+
+// And with ship modes, or with none.
+fn grouped_with(
+    alloc: Global,
+    index: u16,
+    batches: &[&[Fact<'_>]],
+    modes: Option<&[&str]>,
+) -> Result<Cells, Fault> {
     let dims = sample_dims(alloc)?;
+    let modes = ship_modes(alloc, modes)?;
     let Some(view) = View::new(index) else {
         return Err(Fault::BadQuery);
     };
     let mut cells = GrowingCells::new(alloc, &dims, view)?;
-    take_in_batches(alloc, &dims, batches, &mut cells)?;
+    take_in_batches(alloc, &dims, batches, modes.as_ref(), &mut cells)?;
     cells.finish(alloc)
 }
 
@@ -217,7 +254,7 @@ static AFTER: [(u16, &[Fact<'static>], bool); 7] = [
     (59, &[STRANGER], true),
     (203, &[STRANGER], false),
     (203, &[FIRST_FACT, STRANGER], false),
-    // By ship mode.
+    // By ship mode, without ship modes.
     (511, &[], false),
 ];
 
@@ -225,6 +262,62 @@ static AFTER: [(u16, &[Fact<'static>], bool); 7] = [
 fn refuses_rows(rt: HostRuntime) -> Result<(), Fail> {
     for (view, facts, taken) in &AFTER {
         let found = grouped(rt.alloc(), *view, &[&FACTS, facts]).map(|_| ());
+        let want = if *taken {
+            Ok(())
+        } else {
+            Err(Fault::BadLayout)
+        };
+        assert_eq!(rt; found, want, "view {view}");
+    }
+    Ok(())
+}
+
+// The modes of the sample rows are AIR, RAIL and AIR: the last two are at the second day, in another order than their
+// codes.
+#[test]
+fn groups_the_sample_rows_by_ship_mode(rt: HostRuntime) -> Result<(), Fail> {
+    let cells = grouped_with(rt.alloc(), 504, &[&FACTS], Some(&["RAIL", "AIR"]))?;
+    let want = [
+        of_mode(at_day(0, 1, FIRST), 1),
+        of_mode(at_day(1, 1, SECOND), 0),
+        of_mode(at_day(1, 1, THIRD), 1),
+    ];
+    assert_eq!(rt; cells.as_slice(), want.as_slice());
+    Ok(())
+}
+
+// Ship modes, and the codes of RAIL and of AIR among them.
+static ORDERS: [(&[&str], u16, u16); 2] = [
+    (&["RAIL", "AIR"], 0, 1),
+    (&["MAIL", "RAIL", "TRUCK", "AIR"], 1, 3),
+];
+
+#[test]
+fn groups_batches_by_ship_mode(rt: HostRuntime) -> Result<(), Fail> {
+    for (modes, rail, air) in &ORDERS {
+        let cells = grouped_with(rt.alloc(), 511, &BATCHES, Some(modes))?;
+        let [others, second] = two_cells([ALL, ALL, ALL, ALL], [ALL, ALL, ALL, ALL]);
+        let want = [of_mode(second, *rail), of_mode(others, *air)];
+        assert_eq!(rt; cells.as_slice(), want.as_slice(), "codes {rail} and {air}");
+    }
+    Ok(())
+}
+
+// A view, ship modes or none, and whether the sample rows are taken.
+static WITH_MODES: [(u16, Option<&[&str]>, bool); 6] = [
+    (511, None, false),
+    (511, Some(&[]), false),
+    (511, Some(&["AIR"]), false),
+    (504, Some(&["RAIL", "AIR BAG"]), false),
+    (504, Some(&["AIR", "RAIL"]), true),
+    // Where the view does not group by ship mode they are not looked at.
+    (248, Some(&["AIR"]), true),
+];
+
+#[test]
+fn refuses_rows_of_other_ship_modes(rt: HostRuntime) -> Result<(), Fail> {
+    for (view, modes, taken) in &WITH_MODES {
+        let found = grouped_with(rt.alloc(), *view, &[&FACTS], *modes).map(|_| ());
         let want = if *taken {
             Ok(())
         } else {

@@ -22,7 +22,7 @@ fn take_in_pairs(
     ensures { OnOk result (GrowOver dims.now cells.new) }
 {
     let rows = pairs(alloc, first, count)?;
-    take_in(alloc, dims, &rows, cells)
+    take_in(alloc, dims, &rows, None, cells)
 }
 
 // Takes four batches of pairs in, each pair with a cell of its own, and the last pair once more.

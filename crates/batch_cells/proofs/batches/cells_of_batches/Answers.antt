@@ -15,27 +15,29 @@ use Rattle.cuboid_cells.specs.Cells.{PlainCells}
 use Rattle.cuboid_upkeep.specs.Grouping.{RepresentRows}
 use Rattle.cuboid_upkeep.specs.Steps.{AreUnfit, HaveTooMany, IsAddFault}
 use Rattle.warehouse_objects.specs.Represents.{IsLaidOut}
+use Rattle.warehouse_objects.specs.Warehouse.{ship_modes_of}
 use Rattle.warehouse_objects.proofs.Batches.{get_within}
 use Rattle.warehouse_objects.proofs.Folded.{err_fault, of_fault}
 use Rattle.warehouse_objects.proofs.OneMoreRead.{has_read, reads_more, same_error, still_then, then_reads}
 use Rattle.cuboid_upkeep.specs.Growing.{grown}
 use Rattle.batch_cells.proofs.Faults.{too_many_of, unfit}
-use Rattle.batch_cells.proofs.Members.{many_then, never_bad, none_represent}
+use Rattle.batch_cells.proofs.Members.{its_members, many_then, never_bad, none_represent, own_modes}
 use Rattle.batch_cells.proofs.Read.{count_here}
 use Rattle.batch_cells.proofs.Spans.{between, none_between, one_more}
 use Rattle.batch_cells.proofs.batches.cells_of_batches.Goals as goal
 
 pub loop-before-init : goal.loop-before-init
 loop-before-init g c =
-    let represent : RepresentRows c.args.dims.now [] [] (grown c.in_ok-cells.cells) =
-    none_represent c.args.dims.now c.args.view (grown c.in_ok-cells.cells) c.in_ok-cells.ensures.none in record {
+    let represent : RepresentRows c.args.dims.now c.args.modes.now [] (grown c.in_ok-cells.cells) =
+    none_represent c.args.dims.now c.args.modes.now c.args.view (grown c.in_ok-cells.cells)
+    c.in_ok-cells.ensures.none in record {
       fine = c.requires.fine;
       still = search rules;
       leaves = c.is_broken-usable.ensures.leaves c.requires.fine;
       view = ap (λ (cells : PlainCells). cells.view) c.in_ok-cells.ensures.none;
       some = ([], represent);
       own = λ k w laid. subst
-          (λ (batches : List (List LineOrder)). RepresentRows c.args.dims.now [] (all_rows batches)
+          (λ (batches : List (List LineOrder)). RepresentRows c.args.dims.now c.args.modes.now (all_rows batches)
           (grown c.in_ok-cells.cells)) (sym (none_between c.args.span.from w.batches)) represent;
       over = c.in_ok-cells.ensures.over;
     }
@@ -72,15 +74,16 @@ loop-before-preserved g c =
           let more : between w.batches from (before + 1) ≡ between w.batches from before ++ here.0 =
           ap (λ (n : ℕ). between w.batches from n) (add-one before)
           ∙ one_more w.batches from before here.0 low here.1 in
-          subst (λ (rows : List LineOrder). RepresentRows c.args.dims.now [] rows (grown c.add_batch.new.cells))
-          (sym more) (here.2.represent (between w.batches from before) (so_far.own (still.word k) w laid));
+          subst (λ (rows : List LineOrder). RepresentRows c.args.dims.now c.args.modes.now rows
+          (grown c.add_batch.new.cells)) (sym more)
+          (here.2.represent (between w.batches from before) (so_far.own (still.word k) w laid));
       over = c.in_ok-add_batch.ensures.over;
     }
 
 pub returns-in_err-add_batch-clause-large : goal.returns-in_err-add_batch-clause-large
 returns-in_err-add_batch-clause-large g c =
     let p = err_from_is_err_and c.from_residual-in_err-add_batch.result c.from_residual-in_err-add_batch.ensures.1 in
-    rw (p.1, p.2) (λ is k w laid rooted same no_modes.
+    rw (p.1, p.2) (λ is k w laid rooted same below.
     let so_far = c.loop-before.invariant in
     let before : ℕ = c.loop-before.before in
     let from : ℕ = c.args.span.from in
@@ -102,18 +105,20 @@ returns-in_err-add_batch-clause-large g c =
     let why = c.in_err-add_batch.ensures.refused
     (λ device. let no_fault : Device ≡ TooManyCells (index_of view) = sym device ∙ large in cc) k w there got.0
     got.1 many (between w.batches from before) (so_far.own word w laid) in
-    let why_here : IsAddFault c.args.dims.now [] view (between w.batches from before ++ got.0) fault =
-    subst (λ (v : View). IsAddFault c.args.dims.now [] v (between w.batches from before ++ got.0) fault) so_far.view
-    why in
-    many_then w.rows w.batches laid.batches view no_modes from to within c.rows_have_cells.ensures
+    let why_here : IsAddFault c.args.dims.now c.args.modes.now view (between w.batches from before ++ got.0) fault =
+    subst (λ (v : View). IsAddFault c.args.dims.now c.args.modes.now v (between w.batches from before ++ got.0) fault)
+    so_far.view why in
+    many_then w.rows (ship_modes_of w) w.batches laid.batches view
+    (own_modes w.layout (all_rows w.batches) view laid.modes below) from to within c.rows_have_cells.ensures
     c.more_rows_have_no_fewer_cells.ensures before got.0 high low got.1
-    (subst (λ (rows : DimRows). HaveTooMany rows [] view (between w.batches from before ++ got.0)) same
-    (too_many_of c.args.dims.now view (between w.batches from before ++ got.0) fault why_here large)))
+    (its_members w c.args.dims.now c.args.modes.now same (λ (rows : DimRows) (modes : List (List ℕ)).
+    HaveTooMany rows modes view (between w.batches from before ++ got.0))
+    (too_many_of c.args.dims.now c.args.modes.now view (between w.batches from before ++ got.0) fault why_here large)))
 
 pub returns-in_err-add_batch-clause-refused : goal.returns-in_err-add_batch-clause-refused
 returns-in_err-add_batch-clause-refused g c =
     let p = err_from_is_err_and c.from_residual-in_err-add_batch.result c.from_residual-in_err-add_batch.ensures.1 in
-    rw (p.1, p.2) (λ is k w laid rooted same no_modes.
+    rw (p.1, p.2) (λ is k w laid rooted same below.
     let so_far = c.loop-before.invariant in
     let before : ℕ = c.loop-before.before in
     let from : ℕ = c.args.span.from in
@@ -131,12 +136,16 @@ returns-in_err-add_batch-clause-refused g c =
     ∙ count_here w.batches before got.0 got.1 in
     let why = c.in_err-add_batch.ensures.refused (λ device. let no_fault : Device ≡ BadLayout = sym device ∙ bad in cc)
     k w there got.0 got.1 many (between w.batches from before) (so_far.own word w laid) in
-    let none : AreUnfit c.args.dims.now [] view (between w.batches from before ++ got.0) =
-    subst (λ (v : View). AreUnfit c.args.dims.now [] v (between w.batches from before ++ got.0)) so_far.view
-    (unfit c.args.dims.now (grown c.loop-before.cells).view (between w.batches from before ++ got.0) fault why bad) in
-    never_bad w.rows w.batches laid.batches view no_modes from (before + 1) (omega (arith, lt))
+    let none : AreUnfit c.args.dims.now c.args.modes.now view (between w.batches from before ++ got.0) =
+    subst (λ (v : View). AreUnfit c.args.dims.now c.args.modes.now v (between w.batches from before ++ got.0))
+    so_far.view
+    (unfit c.args.dims.now c.args.modes.now (grown c.loop-before.cells).view (between w.batches from before ++ got.0)
+    fault why bad) in
+    never_bad w.rows (ship_modes_of w) w.batches laid.batches view
+    (own_modes w.layout (all_rows w.batches) view laid.modes below) from (before + 1) (omega (arith, lt))
     c.rows_in_range_fit.ensures before got.0 (sym (add-one before)) low got.1
-    (subst (λ (rows : DimRows). AreUnfit rows [] view (between w.batches from before ++ got.0)) same none))
+    (its_members w c.args.dims.now c.args.modes.now same (λ (rows : DimRows) (modes : List (List ℕ)).
+    AreUnfit rows modes view (between w.batches from before ++ got.0)) none))
 
 pub returns-in_err-add_batch-clause-reads : goal.returns-in_err-add_batch-clause-reads
 returns-in_err-add_batch-clause-reads g c =
@@ -157,14 +166,14 @@ returns-in_err-add_batch-clause-causes g c =
 pub returns-in_err-cells-clause-large : goal.returns-in_err-cells-clause-large
 returns-in_err-cells-clause-large g c =
     let p = err_from_is_err_and c.from_residual.result c.from_residual.ensures.1 in
-    rw (p.1, p.2) (λ is k w laid rooted same no_modes.
+    rw (p.1, p.2) (λ is k w laid rooted same below.
     let none : Memory ≡ TooManyCells (index_of c.args.view) = sym c.in_err-cells.ensures.memory
     ∙ err_fault c.in_err-cells.field-0.0 (TooManyCells (index_of c.args.view)) is in absurd cc)
 
 pub returns-in_err-cells-clause-refused : goal.returns-in_err-cells-clause-refused
 returns-in_err-cells-clause-refused g c =
     let p = err_from_is_err_and c.from_residual.result c.from_residual.ensures.1 in
-    rw (p.1, p.2) (λ is k w laid rooted same no_modes.
+    rw (p.1, p.2) (λ is k w laid rooted same below.
     let none : Memory ≡ BadLayout = sym c.in_err-cells.ensures.memory
     ∙ err_fault c.in_err-cells.field-0.0 BadLayout is in absurd cc)
 
@@ -205,11 +214,11 @@ returns-clause-ok g c =
     let ends : c.loop-before.before ≡ c.args.span.to =
     omega (arith, c.loop-before-test.false, c.loop-before.auto.before-end, c.requires.order) in
     IfOk-weaker c.finish.result _ _ (λ cells is k w laid same.
-    subst (λ (plain : PlainCells). RepresentRows w.rows [] (between w.batches c.args.span.from c.args.span.to) plain)
-    (sym is)
-    (subst (λ (rows : DimRows). RepresentRows rows [] (between w.batches c.args.span.from c.args.span.to)
-    (grown c.loop-before.cells)) same
-    (subst (λ (n : ℕ). RepresentRows c.args.dims.now [] (between w.batches c.args.span.from n)
+    subst (λ (plain : PlainCells). RepresentRows w.rows (ship_modes_of w)
+    (between w.batches c.args.span.from c.args.span.to) plain) (sym is)
+    (its_members w c.args.dims.now c.args.modes.now same (λ (rows : DimRows) (modes : List (List ℕ)).
+    RepresentRows rows modes (between w.batches c.args.span.from c.args.span.to) (grown c.loop-before.cells))
+    (subst (λ (n : ℕ). RepresentRows c.args.dims.now c.args.modes.now (between w.batches c.args.span.from n)
     (grown c.loop-before.cells)) ends (c.loop-before.invariant.own k w laid))))
     c.finish.ensures.ok
 

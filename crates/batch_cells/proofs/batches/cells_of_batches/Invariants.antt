@@ -1,4 +1,4 @@
-use Rattle.std.proofs.Common.{◌≡◌, false, []}
+use Rattle.std.proofs.Common.{◌≡◌, false}
 use Rattle.object_store.specs.Disk.{Leaves}
 use Rattle.object_store.specs.Store.{IsStill, content_of, device_of, disk_of, has_failed}
 use Rattle.cuboid_upkeep.specs.Grouping.{RepresentRows}
@@ -16,8 +16,8 @@ invariant-loop-before g l =
       still : IsStill g.D.Sectors l.initial.store l.store;
       leaves : Leaves (disk_of g.D.Sectors l.initial.store) (disk_of g.D.Sectors l.store) (λ c. c ≡ first);
       view : (grown l.cells).view ≡ l.fn.view;
-      some : RepresentSomeRows l.dims (grown l.cells);
+      some : RepresentSomeRows l.dims l.modes (grown l.cells);
       own : g.D.Sectors.keeps_word (device_of l.store) → (w : Warehouse) → IsLaidOut first w
-          → RepresentRows l.dims [] (between w.batches l.fn.span.from l.before) (grown l.cells);
+          → RepresentRows l.dims l.modes (between w.batches l.fn.span.from l.before) (grown l.cells);
       over : GrowOver l.dims l.cells;
     }

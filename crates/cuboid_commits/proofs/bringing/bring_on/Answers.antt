@@ -33,7 +33,7 @@ returns-then-target-cuboid-clause-reached g c v at k rows cuboid is =
 pub returns-in-Ok-put_next-clause-leaves : goal.returns-in-Ok-put_next-clause-leaves
 returns-in-Ok-put_next-clause-leaves g c w at rows =
     bring_leaves g.D.Sectors c.args.store.now c.next_of.new.store (c.in-Ok.ensures.reads.stays (λ is. cc))
-    c.args.dims.now
+    c.args.dims.now c.args.modes.now
     c.args.root.now c.cuboid_at.result.0 c.args.place c.cuboid_at.ensures.at
     c.in-Ok.next c.in-Ok.ensures.ok c.put_next.new.store w at rows c.next_of.ensures.reads.leaves
     c.put_next.ensures.leaves
@@ -41,14 +41,14 @@ returns-in-Ok-put_next-clause-leaves g c w at rows =
 pub returns-in-Ok-put_next-clause-stays : goal.returns-in-Ok-put_next-clause-stays
 returns-in-Ok-put_next-clause-stays g c other w at rows =
     bring_stays g.D.Sectors c.args.store.now c.next_of.new.store (c.in-Ok.ensures.reads.stays (λ is. cc))
-    c.args.dims.now
+    c.args.dims.now c.args.modes.now
     c.args.root.now c.cuboid_at.result.0 c.args.place c.cuboid_at.ensures.at
     c.in-Ok.next c.in-Ok.ensures.ok c.put_next.new.store c.put_next.new.root w at rows c.in-Ok-put_next.ensures.ok
 
 pub returns-in-Ok-put_next-clause-reached : goal.returns-in-Ok-put_next-clause-reached
 returns-in-Ok-put_next-clause-reached g c v at k rows cuboid is =
     bring_reached g.D.Sectors c.args.store.now c.next_of.new.store (c.in-Ok.ensures.reads.stays (λ e. cc))
-    c.args.dims.now
+    c.args.dims.now c.args.modes.now
     c.args.root.now c.cuboid_at.result.0 c.args.place c.cuboid_at.ensures.at
     c.in-Ok.next c.in-Ok.ensures.ok c.put_next.new.store c.put_next.new.root c.in-Ok-put_next.ensures.root v at k cuboid
     is
@@ -56,7 +56,7 @@ returns-in-Ok-put_next-clause-reached g c v at k rows cuboid is =
 pub returns-in-Err-put_next-clause-leaves : goal.returns-in-Err-put_next-clause-leaves
 returns-in-Err-put_next-clause-leaves g c w at rows =
     bring_leaves g.D.Sectors c.args.store.now c.next_of.new.store (c.in-Ok.ensures.reads.stays (λ is. cc))
-    c.args.dims.now
+    c.args.dims.now c.args.modes.now
     c.args.root.now c.cuboid_at.result.0 c.args.place c.cuboid_at.ensures.at
     c.in-Ok.next c.in-Ok.ensures.ok c.put_next.new.store w at rows c.next_of.ensures.reads.leaves
     c.put_next.ensures.leaves
@@ -82,7 +82,8 @@ returns-in-Err-put_next-clause-reason g c no_device no_memory k w at rows =
     (λ (bad : fault ≡ BadLayout). absurd
     (c.in-Err-put_next.ensures.readable (ap (λ (f : Fault). Err f) bad) k w
     (at_still g.D.Sectors c.args.store.now c.next_of.new.store still c.args.root.now w at)))
-    (λ refuses. refused_next g.D.Sectors c.args.store.now c.next_of.new.store still c.args.dims.now c.args.root.now
+    (λ refuses. refused_next g.D.Sectors c.args.store.now c.next_of.new.store still c.args.dims.now c.args.modes.now
+    c.args.root.now
     c.cuboid_at.result.0 c.args.place c.cuboid_at.ensures.at next c.in-Ok.ensures.ok
     c.put_next.new.store w fault at rows (c.put_next.ensures.word k)
     (omega (arith, c.target.ensures, c.if-target-cuboid.false)) (c.in-Err-put_next.ensures.refused no_device)
@@ -124,6 +125,7 @@ returns-in-Err-clause-reached g c v at k rows cuboid is =
     (c.is_too_large.ensures.0 c.if-is_too_large.true) c.in-Err.ensures.causes in
     passed_over g.D.Sectors c.args.store.now c.next_of.new.store
     (c.in-Err.ensures.reads.stays (not_device c.in-Err.fault (index_of c.cuboid_at.result.1) many)) c.args.dims.now
+    c.args.modes.now
     c.args.root.now
     c.cuboid_at.result.0 c.args.place c.cuboid_at.ensures.at c.cuboid_at.result.1 c.cuboid_at.ensures.view
     (c.in-Err.ensures.large (ap (λ (f : Fault). Err f) many) k) v at k rows cuboid is
@@ -157,7 +159,8 @@ returns-in-Err-2-clause-readable g c is k w at rows =
     let still : IsStill g.D.Sectors c.args.store.now c.next_of.new.store =
     c.in-Err.ensures.reads.stays (bad_not_device c.in-Err.fault bad) in
     let k0 = still.word k in
-    let found = stored_at g.D.Sectors c.args.store.now c.next_of.new.store still c.args.dims.now c.args.root.now
+    let found = stored_at g.D.Sectors c.args.store.now c.next_of.new.store still c.args.dims.now c.args.modes.now
+    c.args.root.now
     c.cuboid_at.result.0 c.args.place c.cuboid_at.ensures.at w at k in
     c.in-Err.ensures.refused (ap (λ (f : Fault). Err f) bad) k w found.0 (at.represents k0) found.2 (rows k0)
 
@@ -167,7 +170,8 @@ returns-in-Err-2-clause-reason g c no_device no_memory k w at rows =
     let still : IsStill g.D.Sectors c.args.store.now c.next_of.new.store =
     c.in-Err.ensures.reads.stays (λ is. no_device (err_fault c.in-Err.fault Device is)) in
     let k0 = still.word k in
-    let found = stored_at g.D.Sectors c.args.store.now c.next_of.new.store still c.args.dims.now c.args.root.now
+    let found = stored_at g.D.Sectors c.args.store.now c.next_of.new.store still c.args.dims.now c.args.modes.now
+    c.args.root.now
     c.cuboid_at.result.0 c.args.place c.cuboid_at.ensures.at w at k in
     absurd (none_left fault (index_of c.cuboid_at.result.1) no_memory no_device
     (λ bad. c.in-Err.ensures.refused (ap (λ (f : Fault). Err f) bad) k w found.0 (at.represents k0) found.2 (rows k0))

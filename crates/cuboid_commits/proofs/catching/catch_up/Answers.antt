@@ -6,10 +6,10 @@ use Rattle.object_store.specs.Store as stores
 use Rattle.warehouse_root.specs.Root.{PlainRoot}
 use Rattle.warehouse_objects.specs.Warehouse.{Warehouse}
 use Rattle.warehouse_objects.specs.Represents as represents
-use Rattle.warehouse_objects.specs.Represents.{Represents, said_of}
+use Rattle.warehouse_objects.specs.Represents.{AreItsMembers, Represents, said_of}
 use Rattle.warehouse_objects.proofs.Batches.{get_within}
-use Rattle.cuboid_commits.proofs.Turns.{AreReached, all_done, leaves_first, leaves_more, lower_reached, none_yet}
-use Rattle.cuboid_commits.proofs.Turns.{one_more, rows_kept, same, still_reached, then_more}
+use Rattle.cuboid_commits.proofs.Turns.{AreReached, all_done, leaves_first, leaves_more, lower_reached, members_kept}
+use Rattle.cuboid_commits.proofs.Turns.{none_yet, one_more, same, still_reached, then_more}
 use Rattle.cuboid_commits.proofs.catching.catch_up.Goals as goal
 
 pub loop-place-init : goal.loop-place-init
@@ -20,8 +20,8 @@ loop-place-init g c =
       many = ap (λ (l : List _). length l) (sym c.cuboids-count.ensures);
       word = λ k. k;
       loaded = λ k rows modes is. is;
-      at = λ w at dims. (w, same w, at, λ k. none_yet w);
-      leaves = λ w at dims.
+      at = λ w at own. (w, same w, at, λ k. none_yet w);
+      leaves = λ w at own.
           leaves_first w (stores.disk_of g.D.Sectors s) (stores.disk_of g.D.Sectors s)
           (leaves_weaker (λ (x : Content). x ≡ stores.content_of g.D.Sectors s) (λ (x : Content). Represents x w)
           (stores.disk_of g.D.Sectors s) (stores.disk_of g.D.Sectors s)
@@ -47,10 +47,11 @@ loop-place-preserved g c =
       word = λ k. so_far.word (c.bring_on.ensures.word k);
       loaded = λ k rows modes is. c.bring_on.ensures.loaded c.in-Ok.ensures.fine k rows modes
           (so_far.loaded (c.bring_on.ensures.word k) rows modes is);
-      at = λ w at dims.
-          let was = so_far.at w at dims in
-          let known : g.D.Sectors.keeps_word (stores.device_of c.loop-place.store) → c.args.dims.now ≡ was.0.rows =
-          λ k. dims (so_far.word k) ∙ sym (rows_kept w was.0 was.1.kept) in
+      at = λ w at own.
+          let was = so_far.at w at own in
+          let known : g.D.Sectors.keeps_word (stores.device_of c.loop-place.store)
+          → AreItsMembers was.0 c.args.dims.now c.args.modes.now =
+          λ k. members_kept w was.0 c.args.dims.now c.args.modes.now was.1.kept (own (so_far.word k)) in
           let now = c.in-Ok.ensures.stays (λ is. absurd cc) was.0 was.2 known in (
             now.0,
             then_more w was.0 now.0 was.1 now.1,
@@ -64,39 +65,43 @@ loop-place-preserved g c =
                 (still_reached was.0 now.0 c.loop-place.place c.loop-place.first now.1
                 (was.3 (c.bring_on.ensures.word k)))
                 (c.in-Ok.ensures.reached now.0 now.2 k
-                (known (c.bring_on.ensures.word k) ∙ sym (rows_kept was.0 now.0 now.1.kept)) there.0 there.1)),
+                (members_kept was.0 now.0 c.args.dims.now c.args.modes.now now.1.kept
+                (known (c.bring_on.ensures.word k))) there.0 there.1)),
           );
-      leaves = λ w at dims.
-          let was = so_far.at w at dims in
-          let known : g.D.Sectors.keeps_word (stores.device_of c.loop-place.store) → c.args.dims.now ≡ was.0.rows =
-          λ k. dims (so_far.word k) ∙ sym (rows_kept w was.0 was.1.kept) in
+      leaves = λ w at own.
+          let was = so_far.at w at own in
+          let known : g.D.Sectors.keeps_word (stores.device_of c.loop-place.store)
+          → AreItsMembers was.0 c.args.dims.now c.args.modes.now =
+          λ k. members_kept w was.0 c.args.dims.now c.args.modes.now was.1.kept (own (so_far.word k)) in
           leaves_more w was.0 (stores.disk_of g.D.Sectors start) (stores.disk_of g.D.Sectors mid)
-          (stores.disk_of g.D.Sectors new) was.1 (so_far.leaves w at dims)
+          (stores.disk_of g.D.Sectors new) was.1 (so_far.leaves w at own)
           (c.bring_on.ensures.leaves was.0 was.2 known);
     }
 
 pub returns-in-Err-clause-leaves : goal.returns-in-Err-clause-leaves
-returns-in-Err-clause-leaves g c w at dims =
+returns-in-Err-clause-leaves g c w at own =
     let so_far = c.loop-place.invariant in
-    let was = so_far.at w at dims in
+    let was = so_far.at w at own in
     leaves_more w was.0 (stores.disk_of g.D.Sectors c.args.store.now) (stores.disk_of g.D.Sectors c.loop-place.store)
-    (stores.disk_of g.D.Sectors c.bring_on.new.store) was.1 (so_far.leaves w at dims)
-    (c.bring_on.ensures.leaves was.0 was.2 (λ k. dims (so_far.word k) ∙ sym (rows_kept w was.0 was.1.kept)))
+    (stores.disk_of g.D.Sectors c.bring_on.new.store) was.1 (so_far.leaves w at own)
+    (c.bring_on.ensures.leaves was.0 was.2
+    (λ k. members_kept w was.0 c.args.dims.now c.args.modes.now was.1.kept (own (so_far.word k))))
 
 pub returns-in-Err-clause-stays : goal.returns-in-Err-clause-stays
-returns-in-Err-clause-stays g c other w at dims =
+returns-in-Err-clause-stays g c other w at own =
     let so_far = c.loop-place.invariant in
-    let was = so_far.at w at dims in
+    let was = so_far.at w at own in
     let now = c.in-Err.ensures.stays other was.0 was.2
-    (λ k. dims (so_far.word k) ∙ sym (rows_kept w was.0 was.1.kept)) in
+    (λ k. members_kept w was.0 c.args.dims.now c.args.modes.now was.1.kept (own (so_far.word k))) in
     (now.0, then_more w was.0 now.0 was.1 now.1, now.2)
 
 pub returns-in-Err-clause-reason : goal.returns-in-Err-clause-reason
-returns-in-Err-clause-reason g c no_device no_memory w at dims =
+returns-in-Err-clause-reason g c no_device no_memory w at own =
     let so_far = c.loop-place.invariant in
-    let was = so_far.at w at dims in
-    let known : g.D.Sectors.keeps_word (stores.device_of c.loop-place.store) → c.args.dims.now ≡ was.0.rows =
-    λ k. dims (so_far.word k) ∙ sym (rows_kept w was.0 was.1.kept) in (
+    let was = so_far.at w at own in
+    let known : g.D.Sectors.keeps_word (stores.device_of c.loop-place.store)
+    → AreItsMembers was.0 c.args.dims.now c.args.modes.now =
+    λ k. members_kept w was.0 c.args.dims.now c.args.modes.now was.1.kept (own (so_far.word k)) in (
       was.0,
       was.1,
       c.in-Err.ensures.refused no_device was.0 was.2,
@@ -110,10 +115,11 @@ returns-in-Err-clause-reason g c no_device no_memory w at dims =
     )
 
 pub returns-in-Err-clause-readable : goal.returns-in-Err-clause-readable
-returns-in-Err-clause-readable g c is k w at dims =
+returns-in-Err-clause-readable g c is k w at own =
     let so_far = c.loop-place.invariant in
-    let was = so_far.at w at dims in
-    c.in-Err.ensures.readable is k was.0 was.2 (λ k. dims (so_far.word k) ∙ sym (rows_kept w was.0 was.1.kept))
+    let was = so_far.at w at own in
+    c.in-Err.ensures.readable is k was.0 was.2
+    (λ k. members_kept w was.0 c.args.dims.now c.args.modes.now was.1.kept (own (so_far.word k)))
 
 pub returns-in-Err-clause-loaded : goal.returns-in-Err-clause-loaded
 returns-in-Err-clause-loaded g c fine k rows modes is =
@@ -121,11 +127,11 @@ returns-in-Err-clause-loaded g c fine k rows modes is =
     c.bring_on.ensures.loaded fine k rows modes (so_far.loaded (c.bring_on.ensures.word k) rows modes is)
 
 pub returns-clause-stays : goal.returns-clause-stays
-returns-clause-stays g c other w at dims = let now = c.loop-place.invariant.at w at dims in (now.0, now.1, now.2)
+returns-clause-stays g c other w at own = let now = c.loop-place.invariant.at w at own in (now.0, now.1, now.2)
 
 pub returns-clause-ok : goal.returns-clause-ok
-returns-clause-ok g c w at dims =
-    let now = c.loop-place.invariant.at w at dims in (
+returns-clause-ok g c w at own =
+    let now = c.loop-place.invariant.at w at own in (
       now.0,
       now.1,
       now.2,

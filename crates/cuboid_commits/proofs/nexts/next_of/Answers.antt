@@ -13,13 +13,13 @@ use Rattle.object_store.specs.Content.{Content}
 use Rattle.object_store.specs.Store.{IsStill, content_of, device_of}
 use Rattle.warehouse_root.specs.declared.cuboid.StoredCuboid.{StoredCuboid}
 use Rattle.warehouse_root.specs.Root.{PlainRoot}
-use Rattle.warehouse_objects.specs.Warehouse.{modes_of}
-use Rattle.warehouse_objects.specs.Represents.{Represents, rows_in}
+use Rattle.warehouse_objects.specs.Warehouse.{ship_modes_of}
+use Rattle.warehouse_objects.specs.Represents.{AreItsMembers, Represents, rows_in}
 use Rattle.warehouse_objects.proofs.CallerLemmas.{laid_of}
 use Rattle.warehouse_objects.proofs.OneMoreRead.{then_reads}
 use Rattle.cuboid_commits.specs.Nexts.{IsNext}
 use Rattle.cuboid_commits.proofs.Made.{next_weaker}
-use Rattle.cuboid_commits.proofs.Tails.{first_view, whole_too_large}
+use Rattle.cuboid_commits.proofs.Tails.{own_layout, whole_too_large}
 use Rattle.cuboid_commits.proofs.nexts.next_of.Goals as goal
 
 pub returns-in-Ok-clause-reads : goal.returns-in-Ok-clause-reads
@@ -36,9 +36,9 @@ returns-in-Ok-clause-ok g c =
     IfOk-weaker c.next_run.result _ _
     (λ next is.
     subst (λ (mark : ℕ). IsNext (λ w. g.D.Sectors.keeps_word (device_of c.next_run.new.store) × Represents content w
-    × (c.args.dims.now ≡ w.rows)) c.args.root.now c.args.cuboid mark next) c.target.ensures
+    × AreItsMembers w c.args.dims.now c.args.modes.now) c.args.root.now c.args.cuboid mark next) c.target.ensures
     (next_weaker _ (λ w. g.D.Sectors.keeps_word (device_of c.next_run.new.store) × Represents content w
-    × (c.args.dims.now ≡ w.rows)) c.args.root.now c.args.cuboid c.target.result next
+    × AreItsMembers w c.args.dims.now c.args.modes.now) c.args.root.now c.args.cuboid c.target.result next
     (λ w old has less.
     let k = c.next_run.ensures.reads.leaves.word less.0 in (
       less.0,
@@ -55,8 +55,8 @@ returns-in-Ok-clause-large g c is k w stored represents has rows =
     let mid = c.next_run.ensures.reads.leaves.word k in
     let view : c.in-Ok.tail.view ≡ c.args.view = c.in-Ok.ensures.view in
     let target : c.target.result ≡ w.target = c.target.ensures ∙ ap (λ (r : PlainRoot). r.target) has.root_is in
-    subst (λ (n : ℕ). HaveTooMany w.rows (modes_of w) c.args.view (all_rows (take n w.batches))) target
-    (subst (λ (v : View). HaveTooMany w.rows (modes_of w) v (all_rows (take c.target.result w.batches))) view
+    subst (λ (n : ℕ). HaveTooMany w.rows (ship_modes_of w) c.args.view (all_rows (take n w.batches))) target
+    (subst (λ (v : View). HaveTooMany w.rows (ship_modes_of w) v (all_rows (take c.target.result w.batches))) view
     (c.next_run.ensures.large
     (subst (λ (v : View). IsErrOf c.next_run.result (TooManyCells (index_of v))) (sym view) is) k w stored
     (subst (λ (x : Content). Represents x w) (sym (still.content mid)) represents) has
@@ -79,20 +79,20 @@ returns-in-Err-clause-large g c is k w stored represents has rows =
     let view : c.args.view ≡ stored.view =
     one_view c.args.view stored.view (c.requires.view ∙ ap (λ (s : StoredCuboid). s.view) (sym has.said_is)) in
     let target : c.target.result ≡ w.target = c.target.ensures ∙ ap (λ (r : PlainRoot). r.target) has.root_is in
-    let mode = first_view content c.args.root.now c.args.cuboid w stored c.args.view represents has c.requires.view in
+    let within = own_layout content c.args.root.now c.args.cuboid w stored c.args.view represents has c.requires.view in
     let some : span.from ≤ span.to = omega (arith, c.requires.after, c.target.ensures) in
-    let tail : HaveTooMany w.rows (modes_of w) c.args.view (rows_in w.batches span) =
+    let tail : HaveTooMany w.rows (ship_modes_of w) c.args.view (rows_in w.batches span) =
     c.in-Err.ensures.large (ap (λ (f : Fault). Err f) (err_fault c.in-Err.fault _ is)) k w
-    (laid_of content w represents) has.root_is rows mode in
-    subst (λ (n : ℕ). HaveTooMany w.rows (modes_of w) c.args.view (all_rows (take n w.batches))) target
-    (subst (λ (v : View). HaveTooMany w.rows (modes_of w) v (all_rows (take c.target.result w.batches))) (sym view)
+    (laid_of content w represents) has.root_is rows within in
+    subst (λ (n : ℕ). HaveTooMany w.rows (ship_modes_of w) c.args.view (all_rows (take n w.batches))) target
+    (subst (λ (v : View). HaveTooMany w.rows (ship_modes_of w) v (all_rows (take c.target.result w.batches))) (sym view)
     (whole_too_large c.rows_have_cells.ensures c.more_rows_have_no_fewer_cells.ensures w stored has.holds span
     (ap (λ (s : StoredCuboid). s.mark) (sym has.said_is)) some
-    (subst (λ (v : View). HaveTooMany w.rows (modes_of w) v (rows_in w.batches span)) view tail)))
+    (subst (λ (v : View). HaveTooMany w.rows (ship_modes_of w) v (rows_in w.batches span)) view tail)))
 
 pub returns-in-Err-clause-refused : goal.returns-in-Err-clause-refused
 returns-in-Err-clause-refused g c is k w stored represents has rows =
     let content : Content = content_of g.D.Sectors c.args.store.now in
     c.in-Err.ensures.refused (ap (λ (f : Fault). Err f) (err_fault c.in-Err.fault _ is)) k w
     (laid_of content w represents) has.root_is rows
-    (first_view content c.args.root.now c.args.cuboid w stored c.args.view represents has c.requires.view)
+    (own_layout content c.args.root.now c.args.cuboid w stored c.args.view represents has c.requires.view)

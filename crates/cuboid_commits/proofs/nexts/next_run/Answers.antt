@@ -6,7 +6,7 @@ use Rattle.cube_model.specs.Admission.{AreInRange, all_rows}
 use Rattle.cube_model.specs.declared.rows.LineOrder.{LineOrder}
 use Rattle.cuboid_upkeep.specs.Grouping.{RepresentRows}
 use Rattle.cuboid_upkeep.specs.Steps.{HaveTooMany}
-use Rattle.warehouse_objects.specs.Warehouse.{modes_of}
+use Rattle.warehouse_objects.specs.Warehouse.{ship_modes_of}
 use Rattle.warehouse_objects.specs.Represents.{rows_in}
 use Rattle.cuboid_commits.proofs.Made.{next_weaker}
 use Rattle.cuboid_commits.proofs.Tails.{count_of, whole_few, whole_in_range, whole_rows}
@@ -18,7 +18,7 @@ returns-in-Ok-clause-ok g c =
     let some : span.from ≤ span.to = omega (arith, c.requires.some) in
     IfOk-weaker c.replaced.result _ _
     (λ next is. next_weaker _ _ c.args.root.now c.args.cuboid span.to next
-    (λ w old has less. whole_rows (λ (rows : List LineOrder). RepresentRows w.rows (modes_of w) rows c.in-Ok.cells)
+    (λ w old has less. whole_rows (λ (rows : List LineOrder). RepresentRows w.rows (ship_modes_of w) rows c.in-Ok.cells)
     w.batches span c.args.cuboid.mark c.requires.from some
     (c.in-Ok.ensures.ok less.0 w old (rows_in w.batches span) less.1 has.found has.said_is less.2)) is)
     c.replaced.ensures.ok
@@ -27,7 +27,8 @@ pub returns-in-Err-clause-large : goal.returns-in-Err-clause-large
 returns-in-Err-clause-large g c is k w stored represents has represent =
     let span = c.args.span in
     let some : span.from ≤ span.to = omega (arith, c.requires.some) in
-    whole_rows (λ (rows : List LineOrder). HaveTooMany w.rows (modes_of w) c.args.tail.now.view rows) w.batches span
+    whole_rows (λ (rows : List LineOrder). HaveTooMany w.rows (ship_modes_of w) c.args.tail.now.view rows) w.batches
+    span
     c.args.cuboid.mark c.requires.from some
     (c.in-Err.ensures.large (ap (λ (f : Fault). Err f) (err_fault c.in-Err.fault _ is)) k w stored
     (rows_in w.batches span) represents has.found has.said_is represent)

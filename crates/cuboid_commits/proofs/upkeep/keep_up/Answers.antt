@@ -8,21 +8,21 @@ use Rattle.warehouse_root.specs.declared.cuboid.StoredCuboid.{StoredCuboid}
 use Rattle.warehouse_objects.specs.Represents.{root_of}
 use Rattle.warehouse_objects.specs.Warehouse.{aimed}
 use Rattle.cuboid_commits.proofs.Turns.{kept_same}
-use Rattle.cuboid_commits.proofs.Upkept.{all_whole, from_aimed, leaves_aimed, leaves_both, leaves_same, memory_or}
-use Rattle.cuboid_commits.proofs.Upkept.{target_is, whole_by_root}
+use Rattle.cuboid_commits.proofs.Upkept.{all_whole, from_aimed, leaves_aimed, leaves_both, leaves_same, members_aimed}
+use Rattle.cuboid_commits.proofs.Upkept.{memory_or, target_is, whole_by_root}
 use Rattle.cuboid_commits.proofs.upkeep.keep_up.Goals as goal
 
 pub returns-then-are_whole-clause-leaves : goal.returns-then-are_whole-clause-leaves
-returns-then-are_whole-clause-leaves g c w at dims =
+returns-then-are_whole-clause-leaves g c w at own =
     let s = c.args.store.now in
     leaves_same w (stores.content_of g.D.Sectors s) (stores.disk_of g.D.Sectors s) (stores.disk_of g.D.Sectors s)
     at.represents (c.is_broken-usable.ensures.leaves c.requires.fine)
 
 pub returns-then-are_whole-clause-stays : goal.returns-then-are_whole-clause-stays
-returns-then-are_whole-clause-stays g c other w at dims = (w, kept_same w, at)
+returns-then-are_whole-clause-stays g c other w at own = (w, kept_same w, at)
 
 pub returns-then-are_whole-clause-ok : goal.returns-then-are_whole-clause-ok
-returns-then-are_whole-clause-ok g c w at dims = (
+returns-then-are_whole-clause-ok g c w at own = (
   w,
   kept_same w,
   at,
@@ -32,16 +32,16 @@ returns-then-are_whole-clause-ok g c w at dims = (
 )
 
 pub returns-in-Err-clause-leaves : goal.returns-in-Err-clause-leaves
-returns-in-Err-clause-leaves g c w at dims =
+returns-in-Err-clause-leaves g c w at own =
     leaves_aimed w (stores.disk_of g.D.Sectors c.args.store.now) (stores.disk_of g.D.Sectors c.aim.new.store)
     (c.aim.ensures.leaves w at)
 
 pub returns-in-Err-clause-stays : goal.returns-in-Err-clause-stays
-returns-in-Err-clause-stays g c other w at dims =
+returns-in-Err-clause-stays g c other w at own =
     (w, kept_same w, (c.in-Err.ensures.refused (λ e. other (ap (λ f. Err f) e)) w at).0)
 
 pub returns-in-Err-clause-refused : goal.returns-in-Err-clause-refused
-returns-in-Err-clause-refused g c cause w at dims =
+returns-in-Err-clause-refused g c cause w at own =
     let same = c.in-Err.ensures.as_before cause in (
       w,
       kept_same w,
@@ -55,22 +55,26 @@ returns-in-Err-clause-refused g c cause w at dims =
     )
 
 pub returns-in-Ok-clause-leaves : goal.returns-in-Ok-clause-leaves
-returns-in-Ok-clause-leaves g c w at dims =
+returns-in-Ok-clause-leaves g c w at own =
     let mid = c.in_default.ensures.ok w at in
     leaves_both w (stores.disk_of g.D.Sectors c.args.store.now) (stores.disk_of g.D.Sectors c.aim.new.store)
     (stores.disk_of g.D.Sectors c.catch_up.new.store)
-    (c.aim.ensures.leaves w at) (c.catch_up.ensures.leaves (aimed w) mid (λ k. dims (c.aim.ensures.word k)))
+    (c.aim.ensures.leaves w at)
+    (c.catch_up.ensures.leaves (aimed w) mid
+    (λ k. members_aimed w c.args.dims.now c.args.modes.now (own (c.aim.ensures.word k))))
 
 pub returns-in-Ok-clause-stays : goal.returns-in-Ok-clause-stays
-returns-in-Ok-clause-stays g c other w at dims =
+returns-in-Ok-clause-stays g c other w at own =
     let mid = c.in_default.ensures.ok w at in
-    let now = c.in-Ok.ensures.stays (λ is. absurd cc) (aimed w) mid (λ k. dims (c.aim.ensures.word k)) in
+    let now = c.in-Ok.ensures.stays (λ is. absurd cc) (aimed w) mid
+    (λ k. members_aimed w c.args.dims.now c.args.modes.now (own (c.aim.ensures.word k))) in
     (now.0, from_aimed w now.0 now.1, now.2)
 
 pub returns-in-Ok-clause-ok : goal.returns-in-Ok-clause-ok
-returns-in-Ok-clause-ok g c w at dims =
+returns-in-Ok-clause-ok g c w at own =
     let mid = c.in_default.ensures.ok w at in
-    let now = c.in-Ok.ensures.ok (aimed w) mid (λ k. dims (c.aim.ensures.word k)) in (
+    let now = c.in-Ok.ensures.ok (aimed w) mid
+    (λ k. members_aimed w c.args.dims.now c.args.modes.now (own (c.aim.ensures.word k))) in (
       now.0,
       from_aimed w now.0 now.1,
       now.2,
@@ -79,27 +83,31 @@ returns-in-Ok-clause-ok g c w at dims =
     )
 
 pub returns-in-Err-catch_up-clause-leaves : goal.returns-in-Err-catch_up-clause-leaves
-returns-in-Err-catch_up-clause-leaves g c w at dims =
+returns-in-Err-catch_up-clause-leaves g c w at own =
     let mid = c.in_default.ensures.ok w at in
     leaves_both w (stores.disk_of g.D.Sectors c.args.store.now) (stores.disk_of g.D.Sectors c.aim.new.store)
     (stores.disk_of g.D.Sectors c.catch_up.new.store)
-    (c.aim.ensures.leaves w at) (c.catch_up.ensures.leaves (aimed w) mid (λ k. dims (c.aim.ensures.word k)))
+    (c.aim.ensures.leaves w at)
+    (c.catch_up.ensures.leaves (aimed w) mid
+    (λ k. members_aimed w c.args.dims.now c.args.modes.now (own (c.aim.ensures.word k))))
 
 pub returns-in-Err-catch_up-clause-stays : goal.returns-in-Err-catch_up-clause-stays
-returns-in-Err-catch_up-clause-stays g c other w at dims =
+returns-in-Err-catch_up-clause-stays g c other w at own =
     let mid = c.in_default.ensures.ok w at in
-    let now = c.in-Err-catch_up.ensures.stays other (aimed w) mid (λ k. dims (c.aim.ensures.word k)) in
+    let now = c.in-Err-catch_up.ensures.stays other (aimed w) mid
+    (λ k. members_aimed w c.args.dims.now c.args.modes.now (own (c.aim.ensures.word k))) in
     (now.0, from_aimed w now.0 now.1, now.2)
 
 pub returns-in-Err-catch_up-clause-refused : goal.returns-in-Err-catch_up-clause-refused
-returns-in-Err-catch_up-clause-refused g c cause w at dims =
+returns-in-Err-catch_up-clause-refused g c cause w at own =
     let mid = c.in_default.ensures.ok w at in
     ⊎_elim
     (λ memory. let now = c.in-Err-catch_up.ensures.stays
     (λ is. let e : c.in-Err-catch_up.fault ≡ Device = cc is in cause e) (aimed w) mid
-    (λ k. dims (c.aim.ensures.word k)) in
+    (λ k. members_aimed w c.args.dims.now c.args.modes.now (own (c.aim.ensures.word k))) in
     (now.0, from_aimed w now.0 now.1, now.2, λ k. inl memory))
-    (λ other. let now = c.in-Err-catch_up.ensures.reason cause other (aimed w) mid (λ k. dims (c.aim.ensures.word k)) in
+    (λ other. let now = c.in-Err-catch_up.ensures.reason cause other (aimed w) mid
+    (λ k. members_aimed w c.args.dims.now c.args.modes.now (own (c.aim.ensures.word k))) in
     (now.0, from_aimed w now.0 now.1, now.2, λ k. inr (inr (now.3 k))))
     (memory_or c.in-Err-catch_up.fault)
 

@@ -1,7 +1,5 @@
-use Rattle.std.proofs.Common.{◌≡◌, ◌≤◌, ℕ, List, All, length, sym, ap, ◌∙◌, subst, arith}
+use Rattle.std.proofs.Common.{◌≡◌, ◌≤◌, ℕ, List, All, length, sym, ap, ◌∙◌, subst}
 use Rattle.warehouse_root.specs.declared.cuboid.StoredCuboid.{StoredCuboid}
-use Rattle.warehouse_root.specs.declared.layout.Layout.{Layout}
-use Rattle.warehouse_root.specs.declared.layout.Layout.TheVariants.{First, Second}
 use Rattle.warehouse_root.specs.Layouts.{views_of}
 use Rattle.warehouse_root.specs.Limits.{most_cuboids}
 use Rattle.warehouse_root.specs.Root.{AreAscending, IsProperCuboid}
@@ -9,31 +7,35 @@ use Rattle.warehouse_objects.specs.Represents.{said_below, said_with}
 use Rattle.warehouse_objects.proofs.CallerLemmas.{said_ascend, said_each, said_few}
 use Rattle.cuboid_commits.proofs.viewing.viewed.Goals as goal
 
-many_views : (layout : Layout) → 256 ≤ views_of layout
-many_views First = omega arith
-many_views Second = omega arith
-
 pub with_cuboids-requires-clause-few : goal.with_cuboids-requires-clause-few
 with_cuboids-requires-clause-few c =
-    let said : c.in_ok-cuboids.cuboids.items ≡ said_with c.args.views.now c.args.root.now.cuboids =
-    c.in_ok-cuboids.ensures.ok ∙ ap (λ (n : ℕ). said_below n c.args.views.now c.cuboids.result.now) c.views.ensures
-    ∙ ap (said_with c.args.views.now) c.cuboids.ensures in
+    let root = c.args.root.now in
+    let said : c.in_ok-cuboids.cuboids.items ≡ said_with root.layout c.args.views.now root.cuboids =
+    c.in_ok-cuboids.ensures.ok
+    ∙ ap (λ (n : ℕ). said_below n c.args.views.now c.cuboids.result.now)
+    (c.views.ensures ∙ ap views_of c.layout.ensures.value)
+    ∙ ap (said_with root.layout c.args.views.now) c.cuboids.ensures in
     subst (λ (l : List StoredCuboid). length l ≤ most_cuboids) (sym said)
-    (said_few c.args.views.now c.args.root.now.cuboids c.requires.few)
+    (said_few c.args.views.now root.cuboids root.layout c.requires.few)
 
 pub with_cuboids-requires-clause-each : goal.with_cuboids-requires-clause-each
 with_cuboids-requires-clause-each c =
     let root = c.args.root.now in
-    let said : c.in_ok-cuboids.cuboids.items ≡ said_with c.args.views.now root.cuboids =
-    c.in_ok-cuboids.ensures.ok ∙ ap (λ (n : ℕ). said_below n c.args.views.now c.cuboids.result.now) c.views.ensures
-    ∙ ap (said_with c.args.views.now) c.cuboids.ensures in
+    let said : c.in_ok-cuboids.cuboids.items ≡ said_with root.layout c.args.views.now root.cuboids =
+    c.in_ok-cuboids.ensures.ok
+    ∙ ap (λ (n : ℕ). said_below n c.args.views.now c.cuboids.result.now)
+    (c.views.ensures ∙ ap views_of c.layout.ensures.value)
+    ∙ ap (said_with root.layout c.args.views.now) c.cuboids.ensures in
     subst (λ (l : List StoredCuboid). All (IsProperCuboid root.layout (length root.batches)) l) (sym said)
-    (said_each c.args.views.now root.cuboids root.layout (length root.batches) (many_views root.layout)
-    c.layout-layout.ensures.proper.each)
+    (said_each c.args.views.now root.cuboids root.layout (length root.batches) c.layout.ensures.proper.each)
 
 pub with_cuboids-requires-clause-ascending : goal.with_cuboids-requires-clause-ascending
 with_cuboids-requires-clause-ascending c =
-    let said : c.in_ok-cuboids.cuboids.items ≡ said_with c.args.views.now c.args.root.now.cuboids =
-    c.in_ok-cuboids.ensures.ok ∙ ap (λ (n : ℕ). said_below n c.args.views.now c.cuboids.result.now) c.views.ensures
-    ∙ ap (said_with c.args.views.now) c.cuboids.ensures in
-    subst (λ (l : List StoredCuboid). AreAscending l) (sym said) (said_ascend c.args.views.now c.args.root.now.cuboids)
+    let root = c.args.root.now in
+    let said : c.in_ok-cuboids.cuboids.items ≡ said_with root.layout c.args.views.now root.cuboids =
+    c.in_ok-cuboids.ensures.ok
+    ∙ ap (λ (n : ℕ). said_below n c.args.views.now c.cuboids.result.now)
+    (c.views.ensures ∙ ap views_of c.layout.ensures.value)
+    ∙ ap (said_with root.layout c.args.views.now) c.cuboids.ensures in
+    subst (λ (l : List StoredCuboid). AreAscending l) (sym said)
+    (said_ascend c.args.views.now root.cuboids root.layout)

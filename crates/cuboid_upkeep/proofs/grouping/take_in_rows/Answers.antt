@@ -17,7 +17,7 @@ loop-place-init g c =
         keys_are = c.requires.no_number ∙ ap (map (λ cell. number_of cell.key)) (sym c.requires.no_cell);
         once = once;
       },
-      λ dims view members are. none_yet dims [] view keys c.requires.no_number once cells c.requires.no_cell,
+      λ dims modes view members are. none_yet dims modes view keys c.requires.no_number once cells c.requires.no_cell,
     )
 
 pub loop-place-preserved : goal.loop-place-preserved
@@ -26,12 +26,12 @@ loop-place-preserved g c =
     let within : c.loop-place.place < length rows =
     omega (arith, c.loop-place-test.true, c.count-place-end.ensures) in (
       c.in_ok-take_in.ensures.keyed,
-      λ dims view members are.
-          one_more dims [] view rows c.loop-place.place within c.loop-place.numbers.keys c.take_in.new.numbers.keys
+      λ dims modes view members are.
+          one_more dims modes view rows c.loop-place.place within c.loop-place.numbers.keys c.take_in.new.numbers.keys
           c.loop-place.cells.items c.take_in.new.cells.items c.in_ok-cell.cell
-          (c.loop-place.invariant.1 dims view members are)
-          (c.in_ok-cell.ensures.ok dims [] view
-          (own_key_in dims view members rows c.loop-place.place within c.args.keys.now c.key_at-key.result
+          (c.loop-place.invariant.1 dims modes view members are)
+          (c.in_ok-cell.ensures.ok dims modes view
+          (own_key_in dims modes view members rows c.loop-place.place within c.args.keys.now c.key_at-key.result
           c.key_at-key.ensures are).is)
           c.in_ok-take_in.ensures.keyed c.in_ok-take_in.ensures.ok,
     )
@@ -43,8 +43,8 @@ returns-in_err-cell-clause-refused g c =
     let within : c.loop-place.place < length rows = omega (arith, c.loop-place-test.true, c.count-place-end.ensures) in
     rw (p.1, p.2) (inr (
       c.in_err-cell.ensures.refused.0,
-      λ dims view members are.
-          none_fits dims [] view rows c.loop-place.place within [] (c.in_err-cell.ensures.refused.1 dims [] view),
+      λ dims modes view members are.
+          none_fits dims modes view rows c.loop-place.place within [] (c.in_err-cell.ensures.refused.1 dims modes view),
     ))
 
 pub returns-in_err-take_in-clause-refused : goal.returns-in_err-take_in-clause-refused
@@ -56,12 +56,13 @@ returns-in_err-take_in-clause-refused g c =
       | inl memory ↦ inl memory
       | inr over ↦ inr (
         over.0,
-        λ dims view members are.
-            row_overflows dims [] view rows c.loop-place.place within c.loop-place.numbers.keys c.loop-place.cells.items
+        λ dims modes view members are.
+            row_overflows dims modes view rows c.loop-place.place within c.loop-place.numbers.keys
+            c.loop-place.cells.items
             c.in_ok-cell.cell
-            (c.loop-place.invariant.1 dims view members are)
-            (c.in_ok-cell.ensures.ok dims [] view
-            (own_key_in dims view members rows c.loop-place.place within c.args.keys.now c.key_at-key.result
+            (c.loop-place.invariant.1 dims modes view members are)
+            (c.in_ok-cell.ensures.ok dims modes view
+            (own_key_in dims modes view members rows c.loop-place.place within c.args.keys.now c.key_at-key.result
             c.key_at-key.ensures are).is) over.1,
       )
     ])
@@ -70,6 +71,6 @@ pub returns-clause-ok : goal.returns-clause-ok
 returns-clause-ok g c =
     let rows = g.F.FactRows.rows c.args.rows.now in
     let all : length rows ≤ c.loop-place.place = omega (arith, c.loop-place-test.false, c.count-place-end.ensures) in
-    λ dims view members are.
-    are_grouped dims [] view rows c.loop-place.place all c.loop-place.numbers.keys c.loop-place.cells.items
-    (c.loop-place.invariant.1 dims view members are)
+    λ dims modes view members are.
+    are_grouped dims modes view rows c.loop-place.place all c.loop-place.numbers.keys c.loop-place.cells.items
+    (c.loop-place.invariant.1 dims modes view members are)

@@ -1,4 +1,4 @@
-use Rattle.std.proofs.Common.{[], length, take}
+use Rattle.std.proofs.Common.{ℕ, List, length, take}
 use Rattle.cube_model.specs.declared.rows.DimRows.{DimRows}
 use Rattle.lattice.specs.declared.view.View.{View}
 use Rattle.cuboid_upkeep.specs.declared.member_codes.ViewMembers.{ViewMembers}
@@ -11,6 +11,6 @@ abbrev pub invariant-loop-place : goal.invariant-loop-place
 invariant-loop-place g l =
     let rows = g.F.FactRows.rows l.rows in
     AreKeyed l.numbers.keys l.cells.items
-    × ((dimensions : DimRows) (view : View) (members : ViewMembers)
-    → AreRowKeys dimensions view members rows (length rows) l.keys
-    → Grouping dimensions [] view (take l.place rows) l.numbers.keys l.cells.items)
+    × ((dimensions : DimRows) (modes : List (List ℕ)) (view : View) (members : ViewMembers)
+    → AreRowKeys dimensions modes view members rows (length rows) l.keys
+    → Grouping dimensions modes view (take l.place rows) l.numbers.keys l.cells.items)

@@ -20,7 +20,7 @@ returns-in_err-fold_batches-clause-refused g c =
     let begun = c.in_ok-from.ensures.begun word w represents rooted same in
     c.in_err-fold_batches.ensures.refused
     (ap (λ (f : Fault). Err f) (err_fault c.in_err-fold_batches.field-0.0 BadLayout is)) k w
-    (subst (λ (x : Content). Represents x w) (sym (still.content word)) represents) rooted same begun.3)
+    (subst (λ (x : Content). Represents x w) (sym (still.content word)) represents) rooted same.rows begun.3)
 
 pub returns-in_err-fold_batches-clause-reads : goal.returns-in_err-fold_batches-clause-reads
 returns-in_err-fold_batches-clause-reads g c =

@@ -8,6 +8,7 @@ use Rattle.cube_model.specs.declared.rows.DimRows.{DimRows}
 use Rattle.cube_query.specs.Groups.{RepresentsRows}
 use Rattle.cube_query.specs.Limits.{AreFoldable}
 use Rattle.warehouse_objects.proofs.CallerLemmas.{foldable}
+use Rattle.planned_queries.proofs.Cuboids.{members_in}
 use Rattle.planned_queries.proofs.answering.groups_by_plan.Goals as goal
 
 pub returns-in_ok-fold_by_plan-in-Ok-clause-answer : goal.returns-in_ok-fold_by_plan-in-Ok-clause-answer
@@ -19,7 +20,8 @@ returns-in_ok-fold_by_plan-in-Ok-clause-answer g c =
     let rows = all_rows (take c.args.as_of w.batches) in
     let folded : RepresentsRows dims fold rows =
     subst (λ (d : DimRows). RepresentsRows d fold rows) c.deref-rows.ensures
-    (c.in_ok-fold_by_plan-in-Ok.ensures.ok k w represents rooted (c.deref-rows.ensures ∙ same)) in
+    (c.in_ok-fold_by_plan-in-Ok.ensures.ok k w represents rooted
+    (members_in w _ _ c.args.modes.now c.deref-rows.ensures same)) in
     is rows folded ∙ ap (λ (q : Query). answer q dims rows) c.in_ok-fold_by_plan-in-Ok.ensures.query)
     c.of.ensures.answer
 
@@ -30,10 +32,11 @@ returns-in_ok-fold_by_plan-in-Ok-clause-refused g c = λ is k w represents roote
     let rows = all_rows (take c.args.as_of w.batches) in
     let folded : RepresentsRows dims fold rows =
     subst (λ (d : DimRows). RepresentsRows d fold rows) c.deref-rows.ensures
-    (c.in_ok-fold_by_plan-in-Ok.ensures.ok k w represents rooted (c.deref-rows.ensures ∙ same)) in
+    (c.in_ok-fold_by_plan-in-Ok.ensures.ok k w represents rooted
+    (members_in w _ _ c.args.modes.now c.deref-rows.ensures same)) in
     let within : c.args.as_of ≤ length w.batches =
     omega (arith, c.requires.few, ap (λ r. length r.batches) rooted, length-map w.batches length) in
     let all : AreFoldable dims rows =
-    subst (λ (d : DimRows). AreFoldable d rows) (sym same)
+    subst (λ (d : DimRows). AreFoldable d rows) (sym same.rows)
     (foldable w.rows w.batches represents.batches c.args.as_of within) in
     c.of.ensures.refused is (rows, (folded, all))

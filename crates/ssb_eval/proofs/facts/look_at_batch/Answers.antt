@@ -5,7 +5,7 @@ use Rattle.batch_loader.proofs.TakingPieces.{IsTaking-piece, RefusesBatch-piece,
 use Rattle.batch_loader.proofs.TakingRows.{IsTaking, IsTaking-start, IsTaking-whole}
 use Rattle.cube_model.specs.Admission.{all_rows}
 use Rattle.cube_model.specs.Limits.{most_batch_rows, most_batches}
-use Rattle.ssb_eval.proofs.Pieces.{IsBegun-start, LooksAtNext-refused, begun_more}
+use Rattle.ssb_eval.proofs.Pieces.{IsBegun-start, LooksAtNext-refused, begun_more, modes_more}
 use Rattle.ssb_eval.proofs.facts.look_at_batch.Goals as goal
 
 pub loop-init : goal.loop-init
@@ -17,31 +17,38 @@ loop-init g c = (
       IsBegun-start c.args.dims.now c.args.fold.now.query c.args.admission.now c.args.fold.now batches
       c.findings-found.result taken few
       (c.findings-found.ensures.found c.args.dims.now) c.findings-found.ensures.clean,
+  λ batches taken met early. met,
   λ none. none,
 )
 
 pub returns-in_err-rows-clause-looks : goal.returns-in_err-rows-clause-looks
-returns-in_err-rows-clause-looks g c = λ batches taken.
+returns-in_err-rows-clause-looks g c = λ batches taken met.
     let within : c.loop.counter * 4096 + 4096 ≤ most_batch_rows = omega (arith, c.loop-test.true) in
     LooksAtNext-refused c.args.dims.now c.args.fold.now.query (all_rows batches) c.args.lines.now
-    c.read_batch_into.new.lines c.loop.fold _ _
+    c.read_batch_into.new.lines c.loop.modes c.loop.fold _ _
     (RefusesBatch-piece lineorder_row most_batch_rows 4096 c.args.lines.now c.loop.lines c.loop.invariant.0
     (c.loop.counter * 4096) _ within
     (c.in_err-rows.ensures.refused c.loop.invariant.1.fault) c.loop.invariant.1)
     (err_from_is_err_and _ c.from_residual.ensures.1)
 
 pub returns-then-len-lt-PIECE_ROWS-clause-looks : goal.returns-then-len-lt-PIECE_ROWS-clause-looks
-returns-then-len-lt-PIECE_ROWS-clause-looks g c = λ batches taken.
+returns-then-len-lt-PIECE_ROWS-clause-looks g c = λ batches taken met.
     let within : c.loop.counter * 4096 + 4096 ≤ most_batch_rows = omega (arith, c.loop-test.true) in
+    let begun = begun_more c.args.dims.now c.args.fold.now.query (all_rows batches) c.loop.invariant.0 c.in_ok-rows.rows
+    c.loop.found c.in_ok-found.found c.loop.fold c.look_at_piece.new.fold
+    (c.loop.invariant.2 batches taken) (rw c.as_slice.ensures at c.in_ok-found.ensures.ok) in
     let short : length c.in_ok-rows.rows < 4096 = omega (arith, c.if-len-lt-PIECE_ROWS.true, c.len.ensures) in (
       c.loop.invariant.0 ++ c.in_ok-rows.rows,
       record {
         read = TakesBatch-last lineorder_row most_batch_rows 4096 c.args.lines.now c.loop.lines
             c.read_batch_into.new.lines c.loop.invariant.0 c.in_ok-rows.rows (c.loop.counter * 4096) within short
             c.in_ok-rows.ensures.taken c.loop.invariant.1;
-        begun = begun_more c.args.dims.now c.args.fold.now.query (all_rows batches) c.loop.invariant.0 c.in_ok-rows.rows
-            c.loop.found c.in_ok-found.found c.loop.fold c.look_at_piece.new.fold
-            (c.loop.invariant.2 batches taken) (rw c.as_slice.ensures at c.in_ok-found.ensures.ok);
+        begun = begun;
+        modes = modes_more c.args.dims.now c.args.fold.now.query (all_rows batches) c.loop.invariant.0 c.in_ok-rows.rows
+            c.loop.found c.in_ok-found.found c.loop.fold c.look_at_piece.new.fold c.loop.modes c.look_at_modes.new.modes
+            c.row_count-before.result (c.loop.invariant.2 batches taken) begun c.row_count-before.ensures.count
+            (c.loop.invariant.3 batches taken met)
+            (rw c.as_slice-in-loop.ensures at c.in_ok-look_at_modes.ensures.ok);
       },
     )
 
@@ -61,16 +68,26 @@ loop-preserved g c =
           begun_more c.args.dims.now c.args.fold.now.query (all_rows batches) c.loop.invariant.0 c.in_ok-rows.rows
           c.loop.found c.in_ok-found.found c.loop.fold c.look_at_piece.new.fold
           (c.loop.invariant.2 batches taken) (rw c.as_slice.ensures at c.in_ok-found.ensures.ok),
-      λ none. c.keep_unknown.ensures (c.loop.invariant.3 none),
+      λ batches taken met.
+          let begun = begun_more c.args.dims.now c.args.fold.now.query (all_rows batches) c.loop.invariant.0
+          c.in_ok-rows.rows c.loop.found c.in_ok-found.found c.loop.fold c.look_at_piece.new.fold
+          (c.loop.invariant.2 batches taken) (rw c.as_slice.ensures at c.in_ok-found.ensures.ok) in
+          modes_more c.args.dims.now c.args.fold.now.query (all_rows batches) c.loop.invariant.0 c.in_ok-rows.rows
+          c.loop.found c.in_ok-found.found c.loop.fold c.look_at_piece.new.fold c.loop.modes c.look_at_modes.new.modes
+          c.row_count-before.result (c.loop.invariant.2 batches taken) begun c.row_count-before.ensures.count
+          (c.loop.invariant.3 batches taken met)
+          (rw c.as_slice-in-loop.ensures at c.in_ok-look_at_modes.ensures.ok),
+      λ none. c.keep_unknown.ensures (c.loop.invariant.4 none),
     )
 
 pub returns-clause-looks : goal.returns-clause-looks
-returns-clause-looks g c = λ batches taken.
+returns-clause-looks g c = λ batches taken met.
     let all : c.loop.counter * 4096 ≡ most_batch_rows = omega (arith, c.loop-test.false, c.loop.auto.counter-end) in (
       c.loop.invariant.0,
       record {
         read = IsTaking-whole lineorder_row most_batch_rows c.args.lines.now c.loop.lines c.loop.invariant.0
             (c.loop.counter * 4096) all c.loop.invariant.1;
         begun = c.loop.invariant.2 batches taken;
+        modes = c.loop.invariant.3 batches taken met;
       },
     )

@@ -6,7 +6,7 @@ use Rattle.object_store.specs.Store.{IsStill, content_of}
 use Rattle.warehouse_root.specs.declared.cuboid.StoredCuboid.{StoredCuboid}
 use Rattle.warehouse_objects.specs.Represents.{IsLaidOut}
 use Rattle.warehouse_objects.proofs.OneMoreRead.{then_reads}
-use Rattle.stored_cuboids.proofs.Auditing.{ok_so, sound_by, stored_mode}
+use Rattle.stored_cuboids.proofs.Auditing.{ok_so, sound_by, stored_within}
 use Rattle.stored_cuboids.proofs.audit.is_sound.Goals as goal
 
 pub returns-in-Ok-clause-answer : goal.returns-in-Ok-clause-answer
@@ -18,9 +18,9 @@ returns-in-Ok-clause-answer g c =
     let word = c.are_grouping.ensures.reads.leaves.word k in
     let there = subst (λ (x : Content). IsLaidOut x w) (sym (still.content word)) laid in
     let merge = c.in-Ok.ensures.ok word w stored laid found said in
-    let mode = stored_mode content w c.args.cuboid.view stored cells laid found
+    let within = stored_within content w c.args.cuboid.view stored cells laid found
     (c.in-Ok.ensures.view ∙ sym (ap (λ (s : StoredCuboid). s.view) said)) in
-    let rows = answer k w there rooted same mode in
+    let rows = answer k w there rooted same within in
     let sound = sound_by w stored c.args.cuboid.mark cells (ap (λ (s : StoredCuboid). s.mark) said) merge in
     (λ is. sound.0 (rows.0 is), λ is. rows.1 (sound.1 is))) c.are_grouping.ensures.answer
 
@@ -30,9 +30,9 @@ returns-in-Ok-clause-refused g c = λ is k w stored laid rooted same found said.
     let still : IsStill g.D.Sectors c.args.store.now c.merged_runs.new.store = c.in-Ok.ensures.reads.stays (λ is. cc) in
     let word = c.are_grouping.ensures.reads.leaves.word k in
     let there = subst (λ (x : Content). IsLaidOut x w) (sym (still.content word)) laid in
-    let mode = stored_mode content w c.args.cuboid.view stored c.in-Ok.cells laid found
+    let within = stored_within content w c.args.cuboid.view stored c.in-Ok.cells laid found
     (c.in-Ok.ensures.view ∙ sym (ap (λ (s : StoredCuboid). s.view) said)) in
-    c.are_grouping.ensures.refused is k w there rooted same mode
+    c.are_grouping.ensures.refused is k w there rooted same within
 
 pub returns-in-Ok-clause-reads : goal.returns-in-Ok-clause-reads
 returns-in-Ok-clause-reads g c =

@@ -40,8 +40,8 @@ returns-clause-ok g c = λ k.
     let same = still.content kept in
     counts_run (content_of g.D.Sectors c.args.store.now) (content_of g.D.Sectors c.open_next.new.store) same c.args.id
     c.args.view c.args.at c.in_ok-reader.reader c.in_ok-reader.ensures.id
-    (c.in_ok-reader.ensures.ok kept) c.in_ok-reader.next c.in_ok-reader.ensures.goes_on c.args.dims.now c.args.fold.now
-    c.fold_cells.new.fold (c.in_ok-fold_cells.ensures.ok k)
+    (c.in_ok-reader.ensures.ok kept) c.in_ok-reader.next c.in_ok-reader.ensures.goes_on c.args.dims.now
+    c.args.modes.now c.args.fold.now c.fold_cells.new.fold (c.in_ok-fold_cells.ensures.ok k)
 
 pub returns-in_err-fold_cells-clause-refused : goal.returns-in_err-fold_cells-clause-refused
 returns-in_err-fold_cells-clause-refused g c =
@@ -52,7 +52,7 @@ returns-in_err-fold_cells-clause-refused g c =
     let kept = c.in_err-fold_cells.ensures.reads.leaves.word k in
     not_counted (content_of g.D.Sectors c.args.store.now) (content_of g.D.Sectors c.open_next.new.store)
     (still.content kept) c.args.id c.args.view c.args.at c.in_ok-reader.reader c.in_ok-reader.ensures.id
-    (c.in_ok-reader.ensures.ok kept) c.args.dims.now c.args.fold.now
+    (c.in_ok-reader.ensures.ok kept) c.args.dims.now c.args.modes.now c.args.fold.now
     (c.in_err-fold_cells.ensures.refused
     (ap (λ (f : Fault). Err f) (err_fault c.in_err-fold_cells.field-0.0 BadLayout is)) k)
     others next rows goes represent can)

@@ -53,6 +53,7 @@ loop-run-preserved g c =
     let so_far = c.loop-run.invariant in
     let content = content_of g.D.Sectors first in
     let dims = c.args.dims.now in
+    let modes = c.args.modes.now in
     let still : IsStill g.D.Sectors was now = c.in_ok-at.ensures.reads.stays (λ is. cc) in record {
       fine = still.failed ∙ so_far.fine;
       still = still_then g.D.Sectors first was now so_far.still still;
@@ -66,12 +67,12 @@ loop-run-preserved g c =
           let run = get_within stored.runs r within in
           let are = so_far.own (still.word k) w stored represents same found said in
           let counts =
-          subst (λ (n : ℕ). CountsRun content n c.args.view c.loop-run.at dims c.loop-run.fold c.fold_run.new.fold
-          c.in_ok-at.at) c.run_id.ensures
-          (subst (λ (x : Content). CountsRun x c.run_id.result c.args.view c.loop-run.at dims c.loop-run.fold
+          subst (λ (n : ℕ). CountsRun content n c.args.view c.loop-run.at dims modes c.loop-run.fold
+          c.fold_run.new.fold c.in_ok-at.at) c.run_id.ensures
+          (subst (λ (x : Content). CountsRun x c.run_id.result c.args.view c.loop-run.at dims modes c.loop-run.fold
           c.fold_run.new.fold c.in_ok-at.at) (so_far.still.content (still.word k)) (c.in_ok-at.ensures.ok k)) in
-          let more = counted_more content w c.args.cuboid.view stored represents found r run.0 run.1 dims same
-          c.loop-run.at are.read c.loop-run.fold are.represents c.args.view c.fold_run.new.fold c.in_ok-at.at
+          let more = counted_more content w c.args.cuboid.view stored represents found r run.0 run.1 dims modes
+          same c.loop-run.at are.read c.loop-run.fold are.represents c.args.view c.fold_run.new.fold c.in_ok-at.at
           counts in
           subst (λ (n : ℕ). AreCounted w stored dims n c.fold_run.new.fold c.in_ok-at.at) (sym (add-one r)) more;
     }
@@ -83,6 +84,7 @@ returns-in_err-at-clause-refused g c =
     let so_far = c.loop-run.invariant in
     let content = content_of g.D.Sectors c.args.store.now in
     let dims = c.args.dims.now in
+    let modes = c.args.modes.now in
     let word = c.in_err-at.ensures.reads.leaves.word k in
     let r : ℕ = c.loop-run.run in
     let within : r < length stored.runs = omega (arith, c.loop-run-test.true, ap (λ (s : StoredCuboid). s.runs) said) in
@@ -98,8 +100,8 @@ returns-in_err-at-clause-refused g c =
     (subst (λ (n : ℕ). IsNextRun content n c.args.view c.loop-run.at cells next) (sym c.run_id.ensures) can) in
     c.in_err-at.ensures.refused (ap (λ (f : Fault). Err f) (err_fault c.in_err-at.field-0.0 BadLayout is)) k cells next
     (rows_in w.batches run.0.span) goes
-    (grouping content w c.args.cuboid.view stored represents found r run.0 run.1 dims same c.loop-run.at are.read)
-    (can_count content w c.args.cuboid.view stored represents found r run.0 run.1 dims same c.loop-run.at are.read
+    (grouping content w c.args.cuboid.view stored represents found r run.0 run.1 dims modes same c.loop-run.at are.read)
+    (can_count content w c.args.cuboid.view stored represents found r run.0 run.1 dims modes same c.loop-run.at are.read
     c.loop-run.fold are.represents))
 
 pub returns-in_err-at-clause-reads : goal.returns-in_err-at-clause-reads

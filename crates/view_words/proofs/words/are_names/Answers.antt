@@ -1,8 +1,8 @@
 use Rattle.std.proofs.Common.{[], arith, rules}
-use Rattle.view_words.proofs.Named.{four_decide}
+use Rattle.view_words.proofs.Named.{five_decide}
 use Rattle.view_words.proofs.words.are_names.Goals as goal
 
-pub returns : goal.returns
-returns c = four_decide c.args.parts.now _ _ _ _ c.eq.result (record { ref_ptr = (0, 0); now = [] })
-    (omega (arith, c.in-len4.len_at_least, c.in-len4.len_below)) (search rules) (search rules) (search rules)
-    (search rules)
+pub returns-then-eq : goal.returns-then-eq
+returns-then-eq c =
+    five_decide c.args.parts.now c.args.view c.are_levels-then-eq.result (record { ref_ptr = (0, 0); now = [] })
+    (omega (arith, c.in-len5.len_at_least, c.in-len5.len_below)) (search rules) (search rules)

@@ -23,7 +23,7 @@ returns-in_err-views-clause-refused g c =
     rw (p.1, p.2) (λ w from to k word.
     let said = said_are w (content_of g.D.Sectors c.args.from.now) (from.represents k) _ _
     (c.in_ok-status.ensures.ok w from k) in
-    views_fault c.in_err-views.field-0.0 w.cuboids _ c.in_err-views.ensures.refused said.0 said.1)
+    views_fault c.in_err-views.field-0.0 w.cuboids _ c.in_err-views.ensures.refused said)
 
 pub returns-clause-leaves : goal.returns-clause-leaves
 returns-clause-leaves g c w to =
@@ -37,7 +37,7 @@ returns-clause-ok g c =
     let done = ok (with_first w (length w.batches)) to in (
       done.0,
       is_copy w c.as_slice.result.now done.0 done.1
-          (c.as_slice.ensures.value ∙ c.in_ok-views.ensures.views w.cuboids said.0),
+          (c.as_slice.ensures.value ∙ c.in_ok-views.ensures.views w.cuboids said),
       done.2,
       done.3,
     ))

@@ -1,8 +1,5 @@
-use Rattle.std.proofs.Common.{◌<◌, ◌+◌, All, [], ◌∷◌, length, length-append, inr, sym, ap, subst, arith}
-use Rattle.std.proofs.lemmas.List.Elements.{All-push}
+use Rattle.std.proofs.Common.{◌+◌, [], ◌∷◌, length, length-append, inr, sym, ap, subst, arith}
 use Rattle.std.proofs.lemmas.Result.{err_from_is_err_and}
-use Rattle.lattice.specs.declared.view.View.{View}
-use Rattle.lattice.specs.Views.{index_of}
 use Rattle.warehouse_copy.proofs.Stored.{AreFirst, first_all, first_more, never_high}
 use Rattle.warehouse_copy.proofs.cuboids.views_in.Goals as goal
 
@@ -12,9 +9,9 @@ returns-in_err-view-in-Some-clause-refused c =
     let high = c.in_err-view-in-Some.ensures.refused in
     rw (p.1, p.2) (inr (
       high.0,
-      λ stored are low.
+      λ stored are.
           never_high stored c.args.cuboids.now are c.loop-place.place (omega (arith, c.loop-place-test.true))
-          c.loop-place.views.items (c.loop-place.invariant.first stored are) c.in-Some.said c.in-Some.is high.1 low,
+          c.loop-place.views.items (c.loop-place.invariant.first stored are) c.in-Some.said c.in-Some.is high.1,
     ))
 
 pub returns-in-None-clause-views : goal.returns-in-None-clause-views
@@ -29,11 +26,8 @@ loop-place-preserved c =
     let found = c.in_ok-view-in-Some.ensures.found in
     let view = c.in_ok-view-in-Some.view in record {
       many = omega (arith, ap length items, length-append c.loop-place.views.items (view ∷ []), so_far.many);
-      low = subst (All (λ (v : View). index_of v < 256)) (sym items)
-          (All-push (λ (v : View). index_of v < 256) c.loop-place.views.items view so_far.low
-          (omega (arith, found.0, found.1)));
       first = λ stored are. subst (AreFirst stored (c.loop-place.place + 1)) (sym items)
           (first_more stored c.args.cuboids.now are c.loop-place.place (omega (arith, c.loop-place-test.true))
-          c.loop-place.views.items (so_far.first stored are) c.in-Some.said view c.in-Some.is found.0
+          c.loop-place.views.items (so_far.first stored are) c.in-Some.said view c.in-Some.is found
           c.indexes_name_views.ensures);
     }

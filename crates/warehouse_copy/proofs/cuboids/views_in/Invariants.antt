@@ -1,5 +1,4 @@
-use Rattle.std.proofs.Common.{◌≡◌, ◌<◌, List, All, length}
-use Rattle.lattice.specs.Views.{index_of}
+use Rattle.std.proofs.Common.{◌≡◌, List, length}
 use Rattle.warehouse_objects.specs.Warehouse.{Cuboid}
 use Rattle.warehouse_copy.specs.Copied.{AreSaidOf}
 use Rattle.warehouse_copy.proofs.Stored.{AreFirst}
@@ -8,6 +7,5 @@ use Rattle.warehouse_copy.proofs.cuboids.views_in.Given as goal
 abbrev pub invariant-loop-place : goal.invariant-loop-place
 invariant-loop-place l = record {
   many : length l.views.items ≡ l.place;
-  low : All (λ view. index_of view < 256) l.views.items;
   first : (stored : List Cuboid) → AreSaidOf stored l.cuboids → AreFirst stored l.place l.views.items;
 }

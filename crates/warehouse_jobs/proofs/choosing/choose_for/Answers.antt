@@ -1,5 +1,7 @@
 use Rattle.std.proofs.lemmas.Result.{err_from_is_err_and}
-use Rattle.std.proofs.Common.{ap, Err, subst, List}
+use Rattle.std.proofs.Common.{ap, Bool, Err, subst, List, ◌∙◌}
+use Rattle.warehouse_root.specs.Layouts.{has_modes}
+use Rattle.warehouse_objects.specs.Warehouse.{with_views}
 use Rattle.warehouse.specs.declared.chosen.Chosen.{Chosen}
 use Rattle.warehouse.specs.Choosing.{ChooseForRefuses, IsChoiceFor}
 use Rattle.ssb_reports.specs.Writing.{Writes}
@@ -26,8 +28,12 @@ returns-clause-chooses g c w at k =
           (ChooseForRefuses g.D.Sectors c.args.session.now w c.args.demanded.now c.args.k) c.in_ok-chosen.chosen.items
           c.write_choice.result
           (record { choice = ok.2 k; at = ok.0 })
+          (subst (λ (b : Bool). Writes (g.W.Write.contents c.args.out.now) (g.W.Write.contents c.write_choice.new.out)
+          c.write_choice.result (choice_text b c.in_ok-chosen.chosen.items))
+          (c.has_ship_modes-ship_modes.ensures ∙ ap has_modes (c.layout.ensures (with_views w _) ok.0 k))
           (subst (λ (chosen : List Chosen). Writes (g.W.Write.contents c.args.out.now)
-          (g.W.Write.contents c.write_choice.new.out) c.write_choice.result (choice_text chosen))
-          c.as_slice.ensures.value c.write_choice.ensures);
+          (g.W.Write.contents c.write_choice.new.out) c.write_choice.result
+          (choice_text c.has_ship_modes-ship_modes.result chosen))
+          c.as_slice.ensures.value c.write_choice.ensures));
       leaves = c.choose_for.ensures.leaves w at;
     }

@@ -7,4 +7,4 @@ use Rattle.warehouse_jobs.proofs.printing.write_chosen_lines.Given as goal
 abbrev pub invariant-loop-one : goal.invariant-loop-one
 invariant-loop-one g l =
     Appends (g.W.Write.contents l.initial.out) (g.W.Write.contents l.out)
-    (flat_map chosen_line (take l.one-index l.chosen))
+    (flat_map (chosen_line l.ship_modes) (take l.one-index l.chosen))

@@ -3,6 +3,7 @@ use Rattle.std.proofs.lemmas.List.{length-map}
 use Rattle.cube_model.specs.Admission.{all_rows}
 use Rattle.cube_model.specs.declared.rows.DimRows.{DimRows}
 use Rattle.cube_query.specs.Groups.{RepresentsRows}
+use Rattle.planned_queries.proofs.Cuboids.{members_in}
 use Rattle.planned_queries.proofs.Steps.{begun}
 use Rattle.planned_queries.proofs.stepping.Running.begin.Goals as goal
 
@@ -10,8 +11,9 @@ pub returns-in_ok-dims-in-Ok-clause-begun : goal.returns-in_ok-dims-in-Ok-clause
 returns-in_ok-dims-in-Ok-clause-begun g c k w represents rooted same =
     let done : ℕ = c.in_ok-done-in-Ok.done in
     let fold = c.begin_fold.new.fold in
-    let here = c.deref-rows.ensures ∙ same in
-    let cells = c.in_ok-done-in-Ok.ensures.begun k w represents rooted here in
+    let here = c.deref-rows.ensures ∙ same.rows in
+    let cells = c.in_ok-done-in-Ok.ensures.begun k w represents rooted
+    (members_in w _ _ c.args.modes.now c.deref-rows.ensures same) in
     let shared : c.in_ok-dims-in-Ok.dims.value ≡ c.args.dims.now.value = c.in_ok-dims-in-Ok.ensures.cases in
     let there : c.args.as_of ≤ length w.batches =
     omega (arith, c.requires.few, ap (λ r. length r.batches) rooted, length-map w.batches length) in
@@ -23,4 +25,5 @@ returns-in_ok-dims-in-Ok-clause-begun g c k w represents rooted same =
       subst (λ (d : DimRows). RepresentsRows d fold (all_rows (take done w.batches))) here
           cells.3,
     )
-    (shared ∙ same) c.in_ok-done-in-Ok.ensures.query refl c.in_ok-done-in-Ok.ensures.in_time there represents.batches
+    (shared ∙ same.rows) c.in_ok-done-in-Ok.ensures.query refl c.in_ok-done-in-Ok.ensures.in_time there
+    represents.batches

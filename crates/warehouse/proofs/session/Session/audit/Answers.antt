@@ -1,6 +1,6 @@
 use Rattle.std.proofs.Common.{⊎_elim, Err, sym, ◌∙◌, ap}
 use Rattle.object_store.specs.Store as stores
-use Rattle.warehouse.proofs.Cuboids.{laid_at}
+use Rattle.warehouse.proofs.Cuboids.{laid_at, members_are}
 use Rattle.warehouse.proofs.Represented.{store_at, session_at, still_at, content_leaves}
 use Rattle.warehouse.proofs.session.Session.audit.Goals as goal
 
@@ -38,7 +38,8 @@ returns-in-Ok-clause-answer g c w at k =
     let agree = c.kept_is_represented.ensures.laid (stores.content_of g.D.Sectors s.store) w s.modes
     (s.loaded at.fine (word k))
     laid in
-    c.in-Ok.ensures.answer k w laid (sym agree.root_is) (c.deref.ensures ∙ sym agree.rows_are)
+    c.in-Ok.ensures.answer k w laid (sym agree.root_is)
+    (members_are g.D.Sectors w s c.kept_is_represented.ensures.members _ c.deref.ensures at.fine (word k) laid)
 
 pub returns-in-Ok-clause-yes : goal.returns-in-Ok-clause-yes
 returns-in-Ok-clause-yes g c w at k =
@@ -47,7 +48,8 @@ returns-in-Ok-clause-yes g c w at k =
     let word = c.audited.ensures.reads.leaves.word in
     let laid = (laid_at g.D.Sectors w s at).laid (word k) in
     let agree = c.kept_is_represented.ensures.laid content w s.modes (s.loaded at.fine (word k)) laid in
-    (c.in-Ok.ensures.answer k w laid (sym agree.root_is) (c.deref.ensures ∙ sym agree.rows_are)).1
+    (c.in-Ok.ensures.answer k w laid (sym agree.root_is)
+    (members_are g.D.Sectors w s c.kept_is_represented.ensures.members _ c.deref.ensures at.fine (word k) laid)).1
     (c.kept_cuboids_are_sound.ensures content w (at.represents (word k)))
 
 pub returns-in-Err-clause-refused : goal.returns-in-Err-clause-refused
@@ -62,5 +64,5 @@ returns-in-Err-clause-refused g c cause w at k =
     (⊎_elim (λ device. absurd (cause device))
     (λ bad. absurd
     (c.in-Err.ensures.refused (ap (λ f. Err f) bad) k w laid (sym agree.root_is)
-    (c.deref.ensures ∙ sym agree.rows_are))))
+    (members_are g.D.Sectors w s c.kept_is_represented.ensures.members _ c.deref.ensures at.fine (word k) laid))))
     c.in-Err.ensures.causes

@@ -3,6 +3,8 @@ use Rattle.object_store.specs.Store as stores
 use Rattle.cube_model.specs.declared.rows.DimRows.{DimRows}
 use Rattle.warehouse_check.specs.Checked.{HasBatches}
 use Rattle.warehouse.proofs.Represented.{store_at, session_at, still_at, content_leaves}
+use Rattle.warehouse_objects.proofs.CallerLemmas.{laid_of}
+use Rattle.warehouse.proofs.Cuboids.{members_are, members_at}
 use Rattle.warehouse.proofs.session.Session.check.Goals as goal
 
 pub returns-in-Ok-clause-leaves : goal.returns-in-Ok-clause-leaves
@@ -55,7 +57,8 @@ returns-in-Ok-clause-cuboids g c is w at k =
     let agree = c.kept_is_represented.ensures.laid (stores.content_of g.D.Sectors s.store) w s.modes
     (s.loaded at.fine (word k))
     laid in
-    c.in-Ok.ensures.cuboids is k w laid (sym agree.root_is) (c.deref.ensures ∙ sym agree.rows_are)
+    c.in-Ok.ensures.cuboids is k w laid (sym agree.root_is)
+    (members_are g.D.Sectors w s c.kept_is_represented.ensures.members _ c.deref.ensures at.fine (word k) laid)
 
 pub returns-in-Ok-clause-found : goal.returns-in-Ok-clause-found
 returns-in-Ok-clause-found g c is k w represents =
@@ -65,7 +68,9 @@ returns-in-Ok-clause-found g c is k w represents =
     let agree = c.kept_is_represented.ensures.agrees (stores.content_of g.D.Sectors s.store) w s.modes
     (s.loaded fine (word k))
     represents in
-    c.in-Ok.ensures.found is k w represents (sym agree.root_is) (c.deref.ensures ∙ sym agree.rows_are)
+    c.in-Ok.ensures.found is k w represents (sym agree.root_is)
+    (members_are g.D.Sectors w s c.kept_is_represented.ensures.members _ c.deref.ensures fine (word k)
+    (laid_of (stores.content_of g.D.Sectors s.store) w represents))
 
 pub returns-in-Ok-clause-none : goal.returns-in-Ok-clause-none
 returns-in-Ok-clause-none g c w at k =
@@ -76,7 +81,8 @@ returns-in-Ok-clause-none g c w at k =
     c.kept_is_represented.ensures.agrees (stores.content_of g.D.Sectors s.store) w s.modes (s.loaded at.fine (word k))
     represents in
     none_unless c.in-Ok.found
-    (λ is. c.in-Ok.ensures.found is k w represents (sym agree.root_is) (c.deref.ensures ∙ sym agree.rows_are))
+    (λ is. c.in-Ok.ensures.found is k w represents (sym agree.root_is)
+    (members_at g.D.Sectors w s at c.kept_is_represented.ensures.members _ c.deref.ensures (word k)))
   where
     none_unless : {X : Type 0} (found : Option X) → (IsTrue (is_some found) → ⊥) → found ≡ None
     none_unless None never = refl
@@ -94,5 +100,5 @@ returns-in-Err-clause-refused g c cause w at k =
     (⊎_elim (λ device. absurd (cause device))
     (λ bad. absurd
     (c.in-Err.ensures.refused (ap (λ f. Err f) bad) k w represents (sym agree.root_is)
-    (c.deref.ensures ∙ sym agree.rows_are))))
+    (members_at g.D.Sectors w s at c.kept_is_represented.ensures.members _ c.deref.ensures (word k)))))
     c.in-Err.ensures.causes

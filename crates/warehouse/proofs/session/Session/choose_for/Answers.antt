@@ -4,16 +4,16 @@ use Rattle.warehouse.specs.Session.{disk_of}
 use Rattle.warehouse.proofs.Choices.{leaves_chosen}
 use Rattle.warehouse.proofs.session.Session.choose_for.Goals as goal
 
-pub returns-in-Ok-store_views-clause-leaves : goal.returns-in-Ok-store_views-clause-leaves
-returns-in-Ok-store_views-clause-leaves g c w at =
-    leaves_chosen w (disk_of g.D.Sectors c.args.self.now) (disk_of g.D.Sectors c.store_views.new.self)
+pub returns-in-Ok-set_views-clause-leaves : goal.returns-in-Ok-set_views-clause-leaves
+returns-in-Ok-set_views-clause-leaves g c w at =
+    leaves_chosen w (disk_of g.D.Sectors c.args.self.now) (disk_of g.D.Sectors c.set_views.new.self)
     (IsChoiceFor w c.args.demanded.now c.args.k) c.in-Ok.choice.chosen.items c.as_slice.result.now
     (λ k. c.in-Ok.ensures.ok w at k) (c.as_slice.ensures.value ∙ c.in-Ok.ensures.views)
-    (c.store_views.ensures.leaves w at)
+    (c.set_views.ensures.leaves w at)
 
-pub returns-in-Err-store_views-clause-leaves : goal.returns-in-Err-store_views-clause-leaves
-returns-in-Err-store_views-clause-leaves g c w at =
-    leaves_chosen w (disk_of g.D.Sectors c.args.self.now) (disk_of g.D.Sectors c.store_views.new.self)
+pub returns-in-Err-set_views-clause-leaves : goal.returns-in-Err-set_views-clause-leaves
+returns-in-Err-set_views-clause-leaves g c w at =
+    leaves_chosen w (disk_of g.D.Sectors c.args.self.now) (disk_of g.D.Sectors c.set_views.new.self)
     (IsChoiceFor w c.args.demanded.now c.args.k) c.in-Ok.choice.chosen.items c.as_slice.result.now
     (λ k. c.in-Ok.ensures.ok w at k) (c.as_slice.ensures.value ∙ c.in-Ok.ensures.views)
-    (c.store_views.ensures.leaves w at)
+    (c.set_views.ensures.leaves w at)

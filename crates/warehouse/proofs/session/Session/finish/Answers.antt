@@ -3,7 +3,7 @@ use Rattle.std.proofs.lemmas.Result.{IfErr-weaker, IfOk-weaker}
 use Rattle.cube_model.specs.declared.fault.Fault.TheVariants.{BadLayout, Device}
 use Rattle.cuboid_commits.specs.Nexts.{EndsBringing}
 use Rattle.warehouse.specs.Session.{disk_of, is_at}
-use Rattle.warehouse.proofs.Cuboids.{dims_are, kept_at}
+use Rattle.warehouse.proofs.Cuboids.{kept_at, members_at}
 use Rattle.warehouse.proofs.Caught.{finished_at, of_err, passed_on}
 use Rattle.warehouse.proofs.session.Session.finish.Goals as goal
 
@@ -19,7 +19,7 @@ pub returns-clause-leaves : goal.returns-clause-leaves
 returns-clause-leaves g c w at =
     let tells = c.kept_is_represented.ensures.agrees in
     c.catch_up-caught.ensures.leaves w (kept_at g.D.Sectors w c.args.self.now at tells)
-    (λ k. c.deref.ensures ∙ dims_are g.D.Sectors w c.args.self.now at tells k)
+    (members_at g.D.Sectors w c.args.self.now at c.kept_is_represented.ensures.members _ c.deref.ensures)
 
 pub returns-clause-ok : goal.returns-clause-ok
 returns-clause-ok g c =
@@ -27,12 +27,12 @@ returns-clause-ok g c =
     (λ unit how w at.
     let tells = c.kept_is_represented.ensures.agrees in
     let store_at = kept_at g.D.Sectors w c.args.self.now at tells in
-    let dims = λ (k : (disk_of g.D.Sectors c.args.self.now).keeps_word). c.deref.ensures
-    ∙ dims_are g.D.Sectors w c.args.self.now at tells k in
+    let members =
+    members_at g.D.Sectors w c.args.self.now at c.kept_is_represented.ensures.members _ c.deref.ensures in
     let caught = c.catch_up-caught.result in
     let now = finished_at g.D.Sectors c.catch_up-caught.new.store c.catch_up-caught.new.root w caught how
-    (IfOk-weaker caught _ _ (λ passed done. done w store_at dims) c.catch_up-caught.ensures.ok)
-    (IfErr-weaker caught _ _ (λ fault reason device memory. reason device memory w store_at dims)
+    (IfOk-weaker caught _ _ (λ passed done. done w store_at members) c.catch_up-caught.ensures.ok)
+    (IfErr-weaker caught _ _ (λ fault reason device memory. reason device memory w store_at members)
     c.catch_up-caught.ensures.reason) in
     (now.0, now.1, is_at g.D.Sectors _ now.0 now.2.fine now.2.represents, now.3))
     c.unless_no_room.ensures.ok
@@ -42,7 +42,7 @@ returns-clause-readable g c is k w at =
     let tells = c.kept_is_represented.ensures.agrees in
     let bad = of_err c.unless_no_room.result _ BadLayout is c.unless_no_room.ensures.err in
     c.catch_up-caught.ensures.readable bad.0 k w (kept_at g.D.Sectors w c.args.self.now at tells)
-    (λ k. c.deref.ensures ∙ dims_are g.D.Sectors w c.args.self.now at tells k)
+    (members_at g.D.Sectors w c.args.self.now at c.kept_is_represented.ensures.members _ c.deref.ensures)
 
 pub returns-clause-causes : goal.returns-clause-causes
 returns-clause-causes g c =

@@ -1,4 +1,5 @@
-use Rattle.std.proofs.Common.{◌≡◌, ◌<◌, ◌≤◌, ℕ, List, take, length, inl, inr, ⊎_elim, Err, sym, ◌∙◌, ap, subst, arith}
+use Rattle.std.proofs.Common.{◌≡◌, ◌<◌, ◌≤◌, ℕ, List, take, length, inl, inr, ⊎_elim, Err, refl, sym, ◌∙◌, ap}
+use Rattle.std.proofs.Common.{subst, arith}
 use Rattle.std.proofs.lemmas.List.{length-map}
 use Rattle.cube_model.specs.declared.rows.DimRows.{DimRows}
 use Rattle.cube_model.specs.declared.rows.LineOrder.{LineOrder}
@@ -7,6 +8,7 @@ use Rattle.cube_model.specs.Answers.{answer}
 use Rattle.warehouse_root.specs.Root.{PlainRoot}
 use Rattle.object_store.specs.Store as stores
 use Rattle.warehouse.specs.Session.{IsAsked}
+use Rattle.warehouse.proofs.Cuboids.{members_at}
 use Rattle.warehouse.proofs.Represented.{store_at, session_at, still_at, content_leaves}
 use Rattle.warehouse.proofs.session.Session.query_groups.Goals as goal
 
@@ -67,7 +69,8 @@ returns-in-Ok-clause-answer g c w at k =
           c.in_default.ensures.ok.1;
     } in (
       asked,
-      c.in-Ok.ensures.answer k w (at.represents (word k)) (sym agree.root_is) (sym agree.rows_are)
+      c.in-Ok.ensures.answer k w (at.represents (word k)) (sym agree.root_is)
+          (members_at g.D.Sectors w s at c.kept_is_represented.ensures.members _ refl (word k))
           ∙ ap (λ (rows : DimRows). answer c.args.query.now rows (all_rows (take c.args.as_of w.batches)))
           (sym agree.rows_are),
     )
@@ -116,5 +119,5 @@ returns-in-Err-groups_by_plan-clause-refused g c cause w at k =
     (⊎_elim (λ device. absurd (cause device))
     (λ bad. absurd
     (c.in-Err-groups_by_plan.ensures.refused (ap (λ f. Err f) bad) k w (at.represents (word k)) (sym agree.root_is)
-    (sym agree.rows_are))))
+    (members_at g.D.Sectors w s at c.kept_is_represented.ensures.members _ refl (word k)))))
     c.in-Err-groups_by_plan.ensures.causes

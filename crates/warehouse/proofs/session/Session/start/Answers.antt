@@ -1,9 +1,10 @@
-use Rattle.std.proofs.Common.{◌≡◌, ◌<◌, ◌≤◌, ℕ, List, length, inl, inr, ⊎_elim, Err, sym, ◌∙◌, ap, subst, arith}
+use Rattle.std.proofs.Common.{◌≡◌, ◌<◌, ◌≤◌, ℕ, List, length, inl, inr, ⊎_elim, Err, refl, sym, ◌∙◌, ap, subst, arith}
 use Rattle.std.proofs.lemmas.List.{length-map}
 use Rattle.cube_model.specs.declared.rows.LineOrder.{LineOrder}
 use Rattle.warehouse_root.specs.Root.{PlainRoot}
 use Rattle.object_store.specs.Store as stores
 use Rattle.warehouse.specs.Session.{IsAsked}
+use Rattle.warehouse.proofs.Cuboids.{members_at}
 use Rattle.warehouse.proofs.Represented.{store_at, session_at, still_at, content_leaves}
 use Rattle.warehouse.proofs.session.Session.start.Goals as goal
 
@@ -61,8 +62,11 @@ returns-in-Ok-clause-started g c w at k =
       proper = c.in_default.ensures.ok.0;
       there = subst (λ (n : ℕ). c.args.as_of ≤ n) many
           c.in_default.ensures.ok.1;
-    } in
-    (asked, c.in-Ok.ensures.begun k w (at.represents (word k)) (sym agree.root_is) (sym agree.rows_are))
+    } in (
+      asked,
+      c.in-Ok.ensures.begun k w (at.represents (word k)) (sym agree.root_is)
+          (members_at g.D.Sectors w s at c.kept_is_represented.ensures.members _ refl (word k)),
+    )
 
 pub returns-in-Ok-clause-beyond : goal.returns-in-Ok-clause-beyond
 returns-in-Ok-clause-beyond g c w at k proper less =
@@ -108,5 +112,5 @@ returns-in-Err-begin-clause-refused g c cause w at k =
     (⊎_elim (λ device. absurd (cause device))
     (λ bad. absurd
     (c.in-Err-begin.ensures.refused (ap (λ f. Err f) bad) k w (at.represents (word k)) (sym agree.root_is)
-    (sym agree.rows_are))))
+    (members_at g.D.Sectors w s at c.kept_is_represented.ensures.members _ refl (word k)))))
     c.in-Err-begin.ensures.causes

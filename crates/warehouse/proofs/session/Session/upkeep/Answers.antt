@@ -5,7 +5,7 @@ use Rattle.lattice.specs.declared.view.View.{View}
 use Rattle.lattice.specs.Views.{index_of}
 use Rattle.cuboid_commits.specs.Upkeep.{AreWholeBut}
 use Rattle.warehouse.specs.Session.{is_at}
-use Rattle.warehouse.proofs.Cuboids.{dims_are, kept_at}
+use Rattle.warehouse.proofs.Cuboids.{kept_at, members_at}
 use Rattle.warehouse.proofs.session.Session.upkeep.Goals as goal
 
 pub invariant_of-self : goal.invariant_of-self
@@ -20,32 +20,32 @@ pub returns-in-None-clause-leaves : goal.returns-in-None-clause-leaves
 returns-in-None-clause-leaves g c w at =
     let tells = c.kept_is_represented.ensures.agrees in
     c.keep_up.ensures.leaves w (kept_at g.D.Sectors w c.args.self.now at tells)
-    (λ k. c.deref.ensures ∙ dims_are g.D.Sectors w c.args.self.now at tells k)
+    (members_at g.D.Sectors w c.args.self.now at c.kept_is_represented.ensures.members _ c.deref.ensures)
 
 pub returns-in-Some-clause-leaves : goal.returns-in-Some-clause-leaves
 returns-in-Some-clause-leaves g c w at =
     let tells = c.kept_is_represented.ensures.agrees in
     c.keep_up.ensures.leaves w (kept_at g.D.Sectors w c.args.self.now at tells)
-    (λ k. c.deref.ensures ∙ dims_are g.D.Sectors w c.args.self.now at tells k)
+    (members_at g.D.Sectors w c.args.self.now at c.kept_is_represented.ensures.members _ c.deref.ensures)
 
 pub returns-in-Err-clause-leaves : goal.returns-in-Err-clause-leaves
 returns-in-Err-clause-leaves g c w at =
     let tells = c.kept_is_represented.ensures.agrees in
     c.keep_up.ensures.leaves w (kept_at g.D.Sectors w c.args.self.now at tells)
-    (λ k. c.deref.ensures ∙ dims_are g.D.Sectors w c.args.self.now at tells k)
+    (members_at g.D.Sectors w c.args.self.now at c.kept_is_represented.ensures.members _ c.deref.ensures)
 
 pub returns-in-None-clause-stays : goal.returns-in-None-clause-stays
 returns-in-None-clause-stays g c other w at =
     let tells = c.kept_is_represented.ensures.agrees in
     let then_at = c.in-Ok.ensures.stays (λ is. absurd cc) w (kept_at g.D.Sectors w c.args.self.now at tells)
-    (λ k. c.deref.ensures ∙ dims_are g.D.Sectors w c.args.self.now at tells k) in
+    (members_at g.D.Sectors w c.args.self.now at c.kept_is_represented.ensures.members _ c.deref.ensures) in
     (then_at.0, then_at.1, is_at g.D.Sectors _ then_at.0 then_at.2.fine then_at.2.represents)
 
 pub returns-in-Some-clause-stays : goal.returns-in-Some-clause-stays
 returns-in-Some-clause-stays g c other w at =
     let tells = c.kept_is_represented.ensures.agrees in
     let then_at = c.in-Ok.ensures.stays (λ is. absurd cc) w (kept_at g.D.Sectors w c.args.self.now at tells)
-    (λ k. c.deref.ensures ∙ dims_are g.D.Sectors w c.args.self.now at tells k) in
+    (members_at g.D.Sectors w c.args.self.now at c.kept_is_represented.ensures.members _ c.deref.ensures) in
     (then_at.0, then_at.1, is_at g.D.Sectors _ then_at.0 then_at.2.fine then_at.2.represents)
 
 pub returns-in-Err-clause-stays : goal.returns-in-Err-clause-stays
@@ -53,7 +53,7 @@ returns-in-Err-clause-stays g c other w at =
     let tells = c.kept_is_represented.ensures.agrees in
     let then_at = c.in-Err.ensures.stays (λ is. let e : c.in-Err.fault ≡ Device = cc is in other (ap (λ f. Err f) e)) w
     (kept_at g.D.Sectors w c.args.self.now at tells)
-    (λ k. c.deref.ensures ∙ dims_are g.D.Sectors w c.args.self.now at tells k) in
+    (members_at g.D.Sectors w c.args.self.now at c.kept_is_represented.ensures.members _ c.deref.ensures) in
     (then_at.0, then_at.1, is_at g.D.Sectors _ then_at.0 then_at.2.fine then_at.2.represents)
 
 pub returns-in-None-clause-ok : goal.returns-in-None-clause-ok
@@ -61,7 +61,7 @@ returns-in-None-clause-ok g c w at =
     let tells = c.kept_is_represented.ensures.agrees in
     let then_at =
     c.in-Ok.ensures.ok w (kept_at g.D.Sectors w c.args.self.now at tells)
-    (λ k. c.deref.ensures ∙ dims_are g.D.Sectors w c.args.self.now at tells k) in (
+    (members_at g.D.Sectors w c.args.self.now at c.kept_is_represented.ensures.members _ c.deref.ensures) in (
       then_at.0,
       then_at.1,
       is_at g.D.Sectors _ then_at.0 then_at.2.fine then_at.2.represents,
@@ -73,7 +73,7 @@ returns-in-Some-clause-refused g c cause w at =
     let tells = c.kept_is_represented.ensures.agrees in
     let then_at =
     c.in-Ok.ensures.ok w (kept_at g.D.Sectors w c.args.self.now at tells)
-    (λ k. c.deref.ensures ∙ dims_are g.D.Sectors w c.args.self.now at tells k) in (
+    (members_at g.D.Sectors w c.args.self.now at c.kept_is_represented.ensures.members _ c.deref.ensures) in (
       then_at.0,
       then_at.1,
       is_at g.D.Sectors _ then_at.0 then_at.2.fine then_at.2.represents,
@@ -86,5 +86,5 @@ pub returns-in-Err-clause-refused : goal.returns-in-Err-clause-refused
 returns-in-Err-clause-refused g c cause w at =
     let tells = c.kept_is_represented.ensures.agrees in
     let then_at = c.in-Err.ensures.refused cause w (kept_at g.D.Sectors w c.args.self.now at tells)
-    (λ k. c.deref.ensures ∙ dims_are g.D.Sectors w c.args.self.now at tells k) in
+    (members_at g.D.Sectors w c.args.self.now at c.kept_is_represented.ensures.members _ c.deref.ensures) in
     (then_at.0, then_at.1, is_at g.D.Sectors _ then_at.0 then_at.2.fine then_at.2.represents, λ k. inr (then_at.3 k))

@@ -2,7 +2,7 @@ use Rattle.std.proofs.Common.{sym, ◌∙◌}
 use Rattle.warehouse.specs.Session.{is_at}
 use Rattle.warehouse_objects.specs.Warehouse.{with_views}
 use Rattle.warehouse.proofs.Cuboids.{kept_at}
-use Rattle.warehouse.proofs.session.Session.store_views.Goals as goal
+use Rattle.warehouse.proofs.session.Session.set_views.Goals as goal
 
 pub invariant_of-self : goal.invariant_of-self
 invariant_of-self g c = record {
