@@ -1,0 +1,5 @@
+pub mod Answered
+pub mod Divided
+pub mod Joining
+pub mod Parts
+pub mod States

@@ -1,0 +1,12 @@
+//! Folds of queries that look at ship modes: folds of the query without them, one for each ship mode.
+#![tactic(auto)]
+
+mod answered;
+mod dividing;
+mod folding;
+mod joining;
+mod parts;
+mod together;
+
+pub use answered::{Answered, AnsweredLines};
+pub use folding::ModeFold;

@@ -1,0 +1,9 @@
+pub mod Answers
+pub mod Groupings
+pub mod Joining
+pub mod Keys
+pub mod Lawful
+pub mod Names
+pub mod Proper
+pub mod References
+pub mod Selection

@@ -1,0 +1,18 @@
+-- The names of the columns of a query, as its reports have them.
+use Rattle.std.specs.Prelude.{ℕ, Option, Some, None, List, codes, map}
+use Rattle.std.specs.List.{insert}
+use Rattle.cube_model.specs.declared.attr.Attr.{Attr}
+use Rattle.cube_model.specs.Names.{attr_name}
+use Rattle.mode_queries.specs.declared.query.ModeQuery.{ModeQuery}
+
+-- the name of the ship mode
+abbrev pub ship_mode_name : List ℕ
+ship_mode_name = codes "lo_shipmode"
+
+-- the names of columns, with that of the ship mode at its place, if it is one of them
+abbrev pub names_with : List Attr → Option ℕ → List (List ℕ)
+names_with columns None = map attr_name columns
+names_with columns (Some place) = insert (map attr_name columns) place ship_mode_name
+
+abbrev pub column_names : ModeQuery → List (List ℕ)
+column_names asked = names_with asked.query.columns asked.place
