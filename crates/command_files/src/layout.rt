@@ -2,8 +2,9 @@
 use crate::query::query_of;
 use crate::refusal::{Refusal, bad_query};
 use clap::ArgMatches;
-use cube_model::{Fault, Query};
+use cube_model::Fault;
 use line_order::{Arrangement, Sorting, sort_key};
+use mode_queries::ModeQuery;
 use report_formats::{Asked, Format, Layout};
 use std::alloc::{AllocError, Global};
 
@@ -31,7 +32,7 @@ pub fn layout_of(given: &ArgMatches<'_>) -> Layout {
 
 /// The order and the number of the lines that the words of a command ask for. `BadQuery` where the query has no such
 /// column or aggregate.
-pub fn arrangement_of(query: &Query, given: &ArgMatches<'_>) -> Result<Arrangement, Fault> {
+pub fn arrangement_of(query: &ModeQuery, given: &ArgMatches<'_>) -> Result<Arrangement, Fault> {
     let sorting = match given.get_str("order") {
         Some(word) => Some(sorting_of(query, word)?),
         None => None,
@@ -41,7 +42,7 @@ pub fn arrangement_of(query: &Query, given: &ArgMatches<'_>) -> Result<Arrangeme
 }
 
 // The order by a word such as `sum(revenue):desc`.
-fn sorting_of(query: &Query, word: &str) -> Result<Sorting, Fault> {
+fn sorting_of(query: &ModeQuery, word: &str) -> Result<Sorting, Fault> {
     let (name, descending) = match word.strip_suffix(":desc") {
         Some(name) => (name, true),
         None => (word, false),

@@ -4,7 +4,8 @@ use crate::refusal::Refusal;
 use crate::split::words_of_line;
 use clap::error::ErrorKind;
 use command_words::listed_query;
-use cube_model::{Fault, Query};
+use cube_model::Fault;
+use mode_queries::ModeQuery;
 use std::alloc::{AllocError, Global};
 use std::fs;
 use std::io::{self, Read};
@@ -19,7 +20,7 @@ pub struct ListedQuery {
     pub times: usize,
     /// Its line, without white space at its ends.
     pub text: String,
-    pub query: Query,
+    pub query: ModeQuery,
 }
 
 /// Why a line is no query of the list.
@@ -145,7 +146,7 @@ fn counted(words: &[String]) -> (usize, &[String]) {
 }
 
 // The query that the words of a line spell.
-fn query_of_words(alloc: Global, words: &[String]) -> Result<Query, BadLine> {
+fn query_of_words(alloc: Global, words: &[String]) -> Result<ModeQuery, BadLine> {
     let given = match listed_query(alloc)?.try_get_matches_from(words) {
         Ok(given) => given,
         Err(error) if error.kind() == ErrorKind::OutOfMemory => return Err(BadLine::Memory),

@@ -1,12 +1,13 @@
 //! The words of a query.
-use crate::refusal::Refusal;
+use crate::refusal::{Refusal, bad_query};
 use clap::ArgMatches;
 use cube_model::{Fault, Query};
+use mode_queries::{ModeQuery, SHIP_MODE};
 use query_words::{QueryWords, Refused, hint_of, read_query};
 use std::alloc::{AllocError, Global};
 
 /// The query that the words of a command spell, or why they are refused.
-pub fn query_of(alloc: Global, given: &ArgMatches<'_>) -> Result<Query, Refusal> {
+pub fn query_of(alloc: Global, given: &ArgMatches<'_>) -> Result<ModeQuery, Refusal> {
     match read_query(alloc, &words_of(given)) {
         Ok(query) => Ok(query),
         Err(refused) => Err(refusal_of(alloc, in_command(given, refused))),
@@ -20,6 +21,21 @@ fn in_command<'a>(given: &ArgMatches<'_>, refused: Refused<'a>) -> Refused<'a> {
         Refused::NothingAsked if given.get_str("device").is_some() => Refused::NoAggregate,
         refused => refused,
     }
+}
+
+/// The query that words ask for, where a command or an option takes none by ship mode. `BadQuery` where it is one.
+pub fn plain_query(alloc: Global, asked: ModeQuery, by: &str) -> Result<Query, Refusal> {
+    match asked.into_plain() {
+        Some(query) => Ok(query),
+        None => Err(bad_query(modes_hint(alloc, by))),
+    }
+}
+
+/// What is said of a query by ship mode, where a command or an option takes none.
+pub fn modes_hint(alloc: Global, by: &str) -> Result<String, AllocError> {
+    format!(in alloc;
+        "{SHIP_MODE}: {by} takes no query by ship mode; cube, eval and report --queries do, without --partial"
+    )
 }
 
 /// The refusal of words, with the mistake in them.

@@ -1,6 +1,8 @@
 //! The queries of a file for which cuboids are chosen.
 use command_files::listed::{ListedQuery, bad_list, list_name, listed_queries};
+use command_files::query::modes_hint;
 use command_files::refusal::Refusal;
+use cube_model::Query;
 use lattice::View;
 use std::alloc::{AllocError, Global};
 use std::rt::Files;
@@ -16,16 +18,16 @@ struct Demand {
 }
 
 impl Demand {
-    // Adds what a query needs. It gives false where that is asked too often.
-    fn add(&mut self, listed: &ListedQuery) -> Result<bool, AllocError> {
-        let Some(view) = View::needed_by(&listed.query) else {
-            self.unserved.push(listed.line)?;
+    // Adds what the query of a line needs that counts so many times. It gives false where that is asked too often.
+    fn add(&mut self, query: &Query, line: usize, times: usize) -> Result<bool, AllocError> {
+        let Some(view) = View::needed_by(query) else {
+            self.unserved.push(line)?;
             return Ok(true);
         };
-        if listed.times > MOST_DEMANDED.saturating_sub(self.views.len()) {
+        if times > MOST_DEMANDED.saturating_sub(self.views.len()) {
             return Ok(false);
         }
-        self.add_view(view, listed.times)?;
+        self.add_view(view, times)?;
         Ok(true)
     }
 
@@ -66,12 +68,21 @@ fn demand_of(alloc: Global, name: &str, queries: &[ListedQuery]) -> Result<Deman
         unserved: Vec::new(alloc),
     };
     for listed in queries {
-        if !demand.add(listed)? {
-            let line = listed.line;
+        let line = listed.line;
+        let Some(query) = listed.query.plain() else {
+            return Err(bad_list(by_modes(alloc, name, line)));
+        };
+        if !demand.add(query, line, listed.times)? {
             return Err(bad_list(format!(in alloc;
                 "{name}, line {line}: the queries up to here are asked more than {MOST_DEMANDED} times"
             )));
         }
     }
     Ok(demand)
+}
+
+// What is said of a line whose query is one by ship mode, which no cuboid serves.
+fn by_modes(alloc: Global, name: &str, line: usize) -> Result<String, AllocError> {
+    let hint = modes_hint(alloc, "choose --for")?;
+    format!(in alloc; "{name}, line {line}: {hint}")
 }

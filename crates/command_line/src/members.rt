@@ -2,7 +2,7 @@
 use clap::ArgMatches;
 use command_files::exit::DONE;
 use command_files::output::{cut_short, output};
-use command_files::query::refusal_of;
+use command_files::query::{plain_query, refusal_of};
 use command_files::refusal::{Refusal, bad_query};
 use command_sessions::device::{self, Access, InFile};
 use command_sessions::explaining::explained;
@@ -42,7 +42,7 @@ fn attribute(alloc: Global, name: &str) -> Result<Attr, Refusal> {
         ..QueryWords::NONE
     };
     let query = match read_query(alloc, &words) {
-        Ok(query) => query,
+        Ok(asked) => plain_query(alloc, asked, "members")?,
         Err(refused) => return Err(refusal_of(alloc, refused)),
     };
     match query.columns.as_slice() {

@@ -9,7 +9,8 @@ use command_files::refusal::Refusal;
 use command_files::saving::{begin, cut_off, finish, part_of, remove};
 use command_files::table_paths::count_inputs;
 use command_files::unmerged::unmerged_hint;
-use cube_model::{Answer, Fault};
+use cube_model::{Answer, Fault, Items, Query};
+use mode_queries::ModeQuery;
 use report_formats::{Asked, write_formatted};
 use report_merge::{Merge, Unmerged, merge_readers};
 use std::alloc::{AllocError, Global};
@@ -71,7 +72,8 @@ fn merged_of<R: Files + AllocGlobal + Input>(
 
 // The report over all rows that a command asks for.
 fn whole_of(alloc: Global, given: &ArgMatches<'_>, merge: Merge) -> Result<Merged, Refusal> {
-    let arrangement = match arrangement_of(merge.query(), given) {
+    let named = named_as(alloc, merge.query())?;
+    let arrangement = match arrangement_of(&named, given) {
         Ok(arrangement) => arrangement,
         Err(_) => {
             let word = given.get_str("order").unwrap_or("");
@@ -80,6 +82,20 @@ fn whole_of(alloc: Global, given: &ArgMatches<'_>, merge: Merge) -> Result<Merge
     };
     let (asked, answer) = merge.finish(alloc, layout_of(given))?;
     Ok(Merged::Whole(asked.with_arrangement(arrangement), answer))
+}
+
+// A query whose columns and aggregates have the names of those of another.
+fn named_as(alloc: Global, query: &Query) -> Result<ModeQuery, AllocError> {
+    let columns = Vec::from_slice(alloc, query.columns.as_slice())?;
+    let aggregates = Vec::from_slice(alloc, query.aggregates.as_slice())?;
+    let named = Query {
+        kind: query.kind,
+        columns: Items::from_vec(columns),
+        conditions: Items::new(alloc),
+        aggregates: Items::from_vec(aggregates),
+        order: None,
+    };
+    Ok(ModeQuery::without_modes(alloc, named))
 }
 
 // Hands a writer what is asked for.

@@ -82,8 +82,8 @@ fn answer_in<R: Files + AllocGlobal + Print + Eprint, D: Sectors + InFile>(
     };
     note_unfinished(rt, given, session);
     note_report(rt, given, reports, session.dims());
-    if let Some(query) = reports.query() {
-        say_reads(rt, given, query, session);
+    if let Some(asked) = reports.query() {
+        say_reads(rt, given, asked, session);
     }
     Ok(status)
 }

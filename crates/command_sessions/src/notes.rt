@@ -4,7 +4,8 @@ use clap::ArgMatches;
 use command_files::query::benchmark_word;
 use cube_model::Query;
 use dimensions::Dims;
-use query_words::write_notes;
+use mode_queries::{ModeCond, SHIP_MODE};
+use query_words::{End, Note, write_notes};
 
 /// Says on standard error what no row of the dimensions can meet of the conditions of the query of a command. It is
 /// called once the report is written; standard output and the status stay as they are, also where standard error takes
@@ -29,7 +30,26 @@ pub fn note_report<R: AllocGlobal + Eprint>(
     reports: &Reports,
     dims: &Dims,
 ) {
-    if let Some(query) = reports.query() {
-        note_conditions(rt, given, query, dims);
+    if let Some(asked) = reports.query() {
+        note_conditions(rt, given, asked.query(), dims);
+        for condition in asked.conditions() {
+            note_modes(rt, condition);
+        }
+    }
+}
+
+// The same of a condition on ship modes, which are no members of the dimensions: only a range may be empty.
+fn note_modes<R: Eprint>(rt: &R, condition: &ModeCond) {
+    let ModeCond::Between(low, high) = condition else {
+        return;
+    };
+    let (low, high) = (low.as_slice(), high.as_slice());
+    if low > high {
+        let note = Note::EmptyRange {
+            name: SHIP_MODE,
+            low: End::Text(low),
+            high: End::Text(high),
+        };
+        let _said = eprintln!(rt; "note: {note}");
     }
 }

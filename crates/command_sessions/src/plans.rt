@@ -8,7 +8,7 @@ use crate::unfinished::note_unfinished;
 use clap::ArgMatches;
 use command_files::exit::DONE;
 use command_files::output::{cut_short, output};
-use command_files::query::{NOTHING_ASKED, asks_nothing, query_of};
+use command_files::query::{NOTHING_ASKED, asks_nothing, plain_query, query_of};
 use command_files::records::{format_of, view_cells};
 use command_files::refusal::{Refusal, bad_query};
 use command_files::report::unasked;
@@ -16,6 +16,7 @@ use command_files::texts::print_text;
 use command_files::timing::say_read;
 use cube_model::{Fault, Query};
 use file_device::LockFile;
+use mode_queries::QueryRef;
 use record_formats::{Cell, Records};
 use report_formats::Format;
 use sector_device::Sectors;
@@ -29,6 +30,9 @@ const FIELDS: [&str; 10] = [
     "plan", "view", "customer", "supplier", "part", "date", "shipmode", "mark", "tail", "cost",
 ];
 
+/// The bytes of a fact row of a stored batch: its numbers, and the codes of its texts.
+const WHOLE_ROW_BYTES: u64 = 71;
+
 /// Prints how the query of a command is answered over the batches that it names, and writes the notes on its
 /// conditions.
 pub fn explain<R: Files + AllocGlobal + Print + Eprint + Clock>(
@@ -39,7 +43,10 @@ where
     R::File: FileExt + LockFile,
 {
     match query_of(rt.alloc(), given) {
-        Ok(query) => explain_query(rt, given, &query),
+        Ok(asked) => {
+            let query = plain_query(rt.alloc(), asked, "explain")?;
+            explain_query(rt, given, &query)
+        }
         Err(refusal) => Err(unspelled(rt.alloc(), given, refusal)),
     }
 }
@@ -108,10 +115,7 @@ fn plans_in<D: Sectors>(
     query: &Query,
     session: &Session<D>,
 ) -> Result<(Vec<Priced>, u32), Fault> {
-    let count = match given.get_one::<u32>("as-of") {
-        Some(as_of) => as_of,
-        None => session.status()?.batches,
-    };
+    let count = count_asked(given, session)?;
     Ok((session.plans(alloc, count, query)?, count))
 }
 
@@ -150,15 +154,41 @@ fn print_reads<R: Files + AllocGlobal + Print + Eprint, D: Sectors + InFile>(
 }
 
 /// Says on standard error how many cells and fact rows the query of a report reads, and how many bytes at most, where
-/// it is asked to.
+/// it is asked to. Of a query by ship mode the texts of each batch are not counted.
 pub fn say_reads<R: Files + AllocGlobal + Eprint, D: Sectors + InFile>(
     rt: &R,
     given: &ArgMatches<'_>,
-    query: &Query,
+    asked: QueryRef<'_>,
     session: &Session<D>,
 ) {
-    if let Ok((rows, bytes)) = read_by(rt.alloc(), given, query, session) {
+    let read = match plain_of(asked) {
+        Some(query) => read_by(rt.alloc(), given, query, session),
+        None => scanned(given, session),
+    };
+    if let Ok((rows, bytes)) = read {
         say_read(rt, given, rows, bytes);
+    }
+}
+
+// The query, where it does not look at ship modes.
+fn plain_of<'a>(asked: QueryRef<'a>) -> Option<&'a Query> {
+    match asked {
+        QueryRef::Plain(query) => Some(query),
+        QueryRef::ByModes(asked) => asked.plain(),
+    }
+}
+
+// How many fact rows a query by ship mode reads, which are all, and how many bytes, of all columns.
+fn scanned<D: Sectors>(given: &ArgMatches<'_>, session: &Session<D>) -> Result<(u64, u64), Fault> {
+    let rows = rows_between(session, 0, count_asked(given, session)?);
+    Ok((rows, rows.saturating_mul(WHOLE_ROW_BYTES)))
+}
+
+// How many batches a query is over.
+fn count_asked<D: Sectors>(given: &ArgMatches<'_>, session: &Session<D>) -> Result<u32, Fault> {
+    match given.get_one::<u32>("as-of") {
+        Some(as_of) => Ok(as_of),
+        None => Ok(session.status()?.batches),
     }
 }
 

@@ -2,10 +2,11 @@
 use clap::ArgMatches;
 use command_files::layout::{asked_of, layout_of};
 use command_files::listed::{ListedQuery, listed_queries};
-use command_files::query::{benchmark_word, query_of, words_of};
+use command_files::query::{benchmark_word, plain_query, query_of, words_of};
 use command_files::refusal::{Refusal, bad_query};
 use command_files::report::unasked;
 use cube_model::{Fault, Query};
+use mode_queries::{ModeQuery, QueryRef};
 use partial_reports::{Head, PartAsked};
 use query_words::QueryWords;
 use report_formats::{Asked, Format, Layout};
@@ -32,10 +33,10 @@ pub enum Reports {
 
 impl Reports {
     /// The query of the one report that is asked for. Several reports have none.
-    pub fn query(&self) -> Option<&Query> {
+    pub fn query(&self) -> Option<QueryRef<'_>> {
         match self {
-            Reports::One(asked) => Some(&asked.query),
-            Reports::Part(asked) => Some(&asked.query),
+            Reports::One(asked) => Some(QueryRef::ByModes(&asked.query)),
+            Reports::Part(asked) => Some(QueryRef::Plain(&asked.query)),
             Reports::Several(_) => None,
         }
     }
@@ -85,7 +86,7 @@ pub fn report_of(alloc: Global, given: &ArgMatches<'_>) -> Result<Reports, Refus
 
 // The partial report that the words of a command ask for, of a part such as 3/8.
 fn part_of(alloc: Global, given: &ArgMatches<'_>, word: &str) -> Result<PartAsked, Refusal> {
-    let query = query_of(alloc, given)?;
+    let query = plain_query(alloc, query_of(alloc, given)?, "--partial")?;
     let Some((number, parts)) = part_in(word) else {
         return Err(bad_query(format!(in alloc;
             "--partial {word}: K/N is wanted, part K of N, with N at most 1024"
@@ -146,7 +147,8 @@ fn of_list(
 fn of_benchmark(alloc: Global, layout: Layout) -> Result<Vec<NamedReport>, Fault> {
     let mut reports = Vec::new(alloc);
     for number in QNumber::ALL {
-        let asked = Asked::new(alloc, layout, benchmark_query(alloc, number)?)?;
+        let query = ModeQuery::without_modes(alloc, benchmark_query(alloc, number)?);
+        let asked = Asked::new(alloc, layout, query)?;
         reports.push(NamedReport::new(alloc, number.name(), asked)?)?;
     }
     Ok(reports)

@@ -24,8 +24,9 @@ benchmark, such as 3.1, or the words of 'ssbcube cube' but --as-of, quoted as
 for a shell. A number before them says how often the query is asked; a line given
 twice counts twice. '#' begins a comment. A query needs the coarsest view that
 serves it, and only these views count in a benefit. A query with a condition on
-quantity or discount needs none: a note names it, and it does not count. At a
-tie the view of the greatest number is taken. FILE of - is standard input.
+quantity or discount needs none: a note names it, and it does not count. One with
+lo_shipmode is refused. At a tie the view of the greatest number is taken. FILE of
+- is standard input.
 
 With --format csv, tsv or json the records have the fields view, customer,
 supplier, part, date and benefit; ALL is an empty field, and null in json.

@@ -11,7 +11,8 @@ pub(crate) static EXPLAIN: Described = Described {
        ssbcube explain DEV [--as-of N] [--all] [--format FORMAT]
                        [--set SET] [--by A,A] --agg G,G [CONDITION]...",
     help: "Q is a query of the benchmark, 1.1 to 4.3. An ad-hoc query has the words of
-'ssbcube cube': 'ssbcube cube --help' lists them.
+'ssbcube cube': 'ssbcube cube --help' lists them. One with lo_shipmode is refused:
+it reads all fact rows.
 
 It prints the plan by which the query is answered, and after it each other plan
 by which it could be, such as

@@ -76,7 +76,9 @@ Measures:
 Attributes, for --by and for conditions:
   c_city c_nation c_region    s_city s_nation s_region
   p_brand1 p_category p_mfgr  d_datekey d_yearmonthnum d_year
-  d_yearmonth d_weeknuminyear
+  d_yearmonth d_weeknuminyear lo_shipmode
+  A query with lo_shipmode, the ship mode, reads all fact rows; --partial takes
+  none.
 
 Conditions, which all have to hold. Quote them, since the shell reads |:
   ATTRIBUTE=TEXT|TEXT  one of some texts

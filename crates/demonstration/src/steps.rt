@@ -63,7 +63,7 @@ pub fn report_queries<D: Sectors, W: Write>(
             q: Some(number),
             ..QueryWords::NONE
         };
-        let query = read_query(alloc, &words)?;
+        let query = query_of(alloc, &words)?;
         report(alloc, session, query, out)?;
     }
     Ok(())
@@ -86,8 +86,16 @@ pub fn report_cube<D: Sectors, W: Write>(
         agg: Some("count,sum:revenue"),
         conditions: &["d_year=1997|1998"],
     };
-    let query = read_query(alloc, &words)?;
+    let query = query_of(alloc, &words)?;
     report(alloc, session, query, out)
+}
+
+// The query that words spell. None here is by ship mode.
+fn query_of(alloc: Global, words: &QueryWords<'_>) -> Result<Query, Fault> {
+    match read_query(alloc, words)?.into_plain() {
+        Some(query) => Ok(query),
+        None => Err(Fault::BadQuery),
+    }
 }
 
 // Prints the report of a query over all batches.

@@ -3,19 +3,19 @@ use Rattle.std.specs.Prelude.{◌≡◌, ◌⊎◌, ℕ, List, Option}
 use Rattle.cube_model.specs.declared.fault.Fault.{Fault}
 use Rattle.cube_model.specs.declared.fault.Fault.TheVariants.{Device, DeviceSize, Memory, Output}
 use Rattle.image_jobs.specs.Images.{AreSectors}
+use Rattle.mode_reports.specs.Reports.{IsAskedByModes, RefusesByModes}
 use Rattle.report_formats.specs.declared.asked.Asked.{Asked}
 use Rattle.report_formats.specs.Fields.{formatted}
 use Rattle.warehouse_objects.specs.Facts.{Facts, facts_in}
 use Rattle.warehouse_objects.specs.Warehouse.{Warehouse}
-use Rattle.warehouse.specs.Session.{IsAsked, QueryRefuses}
-use Rattle.warehouse_jobs.specs.Reporting.{answered_by, asked_for}
+use Rattle.warehouse_jobs.specs.Reporting.{answered_by_modes, asked_for}
 
 -- a text is the report of the definition's answer, over the first batches of a warehouse of these facts or over all
 pub record Answers (facts : Facts) (as_of : Option ℕ) (asked : Asked) (text : List ℕ) : Type 0 where
   pub w : Warehouse
   pub of : facts_in w ≡ facts
-  pub is_asked : IsAsked w (asked_for w as_of) asked.query
-  pub text_is : text ≡ answered_by (formatted asked) w (asked_for w as_of) asked.query
+  pub is_asked : IsAskedByModes w (asked_for w as_of) asked.query
+  pub text_is : text ≡ answered_by_modes (formatted asked) w (asked_for w as_of) asked.query
 
 -- There is no memory, also for the text (Output), the device failed, or the query is refused over a warehouse of these
 -- facts.
@@ -23,7 +23,7 @@ abbrev pub AnswerRefuses : Facts → Option ℕ → Asked → Fault → Type 0
 AnswerRefuses facts as_of asked fault =
     ((fault ≡ Memory) ⊎ (fault ≡ Output))
     ⊎ ((fault ≡ Device)
-    ⊎ ((w : Warehouse) × (facts_in w ≡ facts) × QueryRefuses w (asked_for w as_of) asked.query fault))
+    ⊎ ((w : Warehouse) × (facts_in w ≡ facts) × RefusesByModes w (asked_for w as_of) asked.query fault))
 
 -- the bytes are no whole sectors, or too many
 abbrev pub IsNoDevice : List ℕ → Fault → Type 0

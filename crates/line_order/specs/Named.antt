@@ -4,10 +4,11 @@ use Rattle.std.specs.List.{position}
 use Rattle.std.specs.Str.{bytes_eq}
 use Rattle.cube_model.specs.declared.measure.Agg.{Agg}
 use Rattle.cube_model.specs.declared.measure.Agg.TheVariants.{Count, Sum, Min, Max, Avg}
-use Rattle.cube_model.specs.declared.query.Query.{Query}
-use Rattle.cube_model.specs.Names.{agg_name, attr_name, measure_name}
+use Rattle.cube_model.specs.Names.{agg_name, measure_name}
 use Rattle.line_order.specs.declared.arrangement.SortKey.{SortKey}
 use Rattle.line_order.specs.declared.arrangement.SortKey.TheVariants.{Column, Aggregate}
+use Rattle.mode_queries.specs.Names.{column_names}
+use Rattle.mode_queries.specs.declared.query.ModeQuery.{ModeQuery}
 
 -- an aggregate as words spell it, such as sum:revenue
 abbrev pub agg_word : Agg → List ℕ
@@ -28,7 +29,6 @@ key_among None (Some aggregate) = Some (Aggregate aggregate)
 key_among None None = None
 
 -- the first column of a name, or else the first aggregate
-abbrev pub sort_key_named : Query → List ℕ → Option SortKey
-sort_key_named query name =
-    key_among (position (λ attr. bytes_eq name (attr_name attr)) query.columns)
-    (position (is_named name) query.aggregates)
+abbrev pub sort_key_named : ModeQuery → List ℕ → Option SortKey
+sort_key_named asked name =
+    key_among (position (bytes_eq name) (column_names asked)) (position (is_named name) asked.query.aggregates)

@@ -2,19 +2,21 @@
 ghost use Rattle.std.specs.Prelude.{◌≡◌};
 ghost use Rattle.std.specs.List.{position};
 ghost use Rattle.std.specs.Str.{bytes_eq};
-ghost use Rattle.cube_model.specs.Names.{agg_name, attr_name};
+ghost use Rattle.cube_model.specs.Names.{agg_name};
 ghost use Rattle.line_order.specs.Named.{agg_word, is_named, sort_key_named};
+ghost use Rattle.mode_queries.specs.Names.{column_names};
 
 use crate::arrangement::SortKey;
-use cube_model::{Agg, Attr, Measure, Query};
+use cube_model::{Agg, Measure};
+use mode_queries::ModeQuery;
 
 /// What the lines of a query's answer are sorted by, by a name: that of a column, such as `d_year`, or else that of an
 /// aggregate, such as `sum(revenue)` or `sum:revenue`. The first that has the name is taken.
-pub fn sort_key(query: &Query, name: &str) -> Option<SortKey>
-    ensures { result ≡ sort_key_named query.now name.now }
+pub fn sort_key(asked: &ModeQuery, name: &str) -> Option<SortKey>
+    ensures { result ≡ sort_key_named asked.now name.now }
 {
-    let column = column_named(query.columns.as_slice(), name);
-    let aggregate = aggregate_named(query.aggregates.as_slice(), name);
+    let column = column_named(asked, name);
+    let aggregate = aggregate_named(asked.query.aggregates.as_slice(), name);
     match (column, aggregate) {
         (Some(column), _) => Some(SortKey::Column(column)),
         (None, Some(aggregate)) => Some(SortKey::Aggregate(aggregate)),
@@ -22,10 +24,15 @@ pub fn sort_key(query: &Query, name: &str) -> Option<SortKey>
     }
 }
 
-fn column_named(columns: &[Attr], name: &str) -> Option<usize>
-    ensures { result ≡ position (λ attr. bytes_eq name.now (attr_name attr)) columns.now }
+fn column_named(asked: &ModeQuery, name: &str) -> Option<usize>
+    ensures { result ≡ position (bytes_eq name.now) (column_names asked.now) }
 {
-    columns.iter().position(|attr| name == attr.name())
+    for column in 0..asked.column_count() {
+        if name == asked.column_name(column) {
+            return Some(column);
+        }
+    }
+    None
 }
 
 fn aggregate_named(aggregates: &[Agg], name: &str) -> Option<usize>

@@ -15,10 +15,14 @@ use Rattle.cube_model.specs.declared.measure.Measure.TheVariants.{Discounted, Pr
 use Rattle.cube_model.specs.declared.query.Kind.{Kind}
 use Rattle.cube_model.specs.declared.query.Kind.TheVariants.{Plain, Rollup, Cube}
 use Rattle.cube_model.specs.Names.{attr_name, agg_name}
+use Rattle.mode_queries.specs.Names.{ship_mode_name}
 use Rattle.ssb_reports.specs.declared.number.QNumber.{QNumber}
 use Rattle.ssb_reports.specs.declared.number.QNumber.TheVariants.{Q11, Q12, Q13, Q21, Q22, Q23, Q31, Q32, Q33, Q34, Q41}
 use Rattle.ssb_reports.specs.declared.number.QNumber.TheVariants.{Q42, Q43}
 use Rattle.ssb_reports.specs.Benchmark.{number_text}
+use Rattle.query_words.specs.declared.known.Column.{Column}
+use Rattle.query_words.specs.declared.known.Column.TheVariants.{Attribute, ShipMode}
+use Rattle.query_words.specs.Known.{column_name}
 use Rattle.query_words.specs.Words.{SpellsAggregate, agg_word, kind_name}
 
 attr_of : List ℕ → Attr
@@ -59,6 +63,42 @@ attr_back value = elim value as (λ one. attr_of (attr_name one) ≡ one) [
 
 pub attr_once : (one other : Attr) → attr_name one ≡ attr_name other → one ≡ other
 attr_once one other same = sym (attr_back one) ∙ ap attr_of same ∙ attr_back other
+
+column_of : List ℕ → Column
+column_of text = cond (bytes_eq text (codes "lo_shipmode")) ShipMode (Attribute (attr_of text))
+
+attribute_back : (value : Attr) → column_of (attr_name value) ≡ Attribute value
+unfolding column_of attr_of
+attribute_back value = elim value as (λ one. column_of (attr_name one) ≡ Attribute one) [
+  | CustomerCity ↦ refl
+  | CustomerNation ↦ refl
+  | CustomerRegion ↦ refl
+  | SupplierCity ↦ refl
+  | SupplierNation ↦ refl
+  | SupplierRegion ↦ refl
+  | PartBrand1 ↦ refl
+  | PartCategory ↦ refl
+  | PartMfgr ↦ refl
+  | DateKey ↦ refl
+  | DateYearmonthnum ↦ refl
+  | DateYear ↦ refl
+  | DateYearmonth ↦ refl
+  | DateWeeknuminyear ↦ refl
+]
+
+column_back : (value : Column) → column_of (column_name value) ≡ value
+unfolding column_of
+column_back (Attribute attr) = attribute_back attr
+column_back ShipMode = refl
+
+pub column_once : (one other : Column) → column_name one ≡ column_name other → one ≡ other
+column_once one other same = sym (column_back one) ∙ ap column_of same ∙ column_back other
+
+-- no attribute has the name of the ship mode
+pub no_ship_mode : (attr : Attr) → attr_name attr ≡ ship_mode_name → ⊥
+no_ship_mode attr same =
+    let one : Attribute attr ≡ ShipMode = column_once (Attribute attr) ShipMode same in
+    cc
 
 number_of : List ℕ → QNumber
 number_of text =

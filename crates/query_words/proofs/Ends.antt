@@ -7,18 +7,24 @@ use Rattle.cube_model.specs.declared.attr.Attr.TheVariants.{CustomerCity, Custom
 use Rattle.cube_model.specs.declared.attr.Attr.TheVariants.{SupplierNation, SupplierRegion, PartBrand1, PartCategory}
 use Rattle.cube_model.specs.declared.attr.Attr.TheVariants.{PartMfgr, DateKey, DateYearmonthnum, DateYear}
 use Rattle.cube_model.specs.declared.attr.Attr.TheVariants.{DateYearmonth, DateWeeknuminyear}
-use Rattle.cube_model.specs.declared.query.Cond.{Cond}
 use Rattle.cube_model.specs.declared.query.Cond.TheVariants.{OneOf, Between, Quantity, Discount}
 use Rattle.cube_model.specs.Names.{attr_name}
+use Rattle.mode_queries.specs.declared.query.ModeCond.TheVariants as modes
+use Rattle.mode_queries.specs.Names.{ship_mode_name}
+use Rattle.query_words.specs.declared.cube_parts.Condition.{Condition}
+use Rattle.query_words.specs.declared.cube_parts.Condition.TheVariants.{Dimension, Modes}
+use Rattle.query_words.specs.declared.known.Column.{Column}
+use Rattle.query_words.specs.declared.known.Column.TheVariants.{Attribute, ShipMode}
 use Rattle.query_words.specs.declared.known.Subject.{Subject}
 use Rattle.query_words.specs.declared.known.Subject.TheVariants as subjects
+use Rattle.query_words.specs.Known.{column_name}
 use Rattle.query_words.specs.Spelled.{SpellsAfter}
 use Rattle.query_words.specs.Words.{AreBounds, parts_by}
 use Rattle.query_words.proofs.Shapes.{apart}
 
--- no attribute has the name of a number
-pub no_number : (attr : Attr) → (attr_name attr ≡ codes "quantity" → ⊥) × (attr_name attr ≡ codes "discount" → ⊥)
-no_number attr = elim attr as (λ a. (attr_name a ≡ codes "quantity" → ⊥) × (attr_name a ≡ codes "discount" → ⊥)) [
+-- nothing that can be a column has the name of a number
+pub no_such_number : (attr : Attr) → (attr_name attr ≡ codes "quantity" → ⊥) × (attr_name attr ≡ codes "discount" → ⊥)
+no_such_number attr = elim attr as (λ a. (attr_name a ≡ codes "quantity" → ⊥) × (attr_name a ≡ codes "discount" → ⊥)) [
   | CustomerCity ↦
       (apart (attr_name CustomerCity) (codes "quantity") refl, apart (attr_name CustomerCity) (codes "discount") refl)
   | CustomerNation ↦ (
@@ -64,6 +70,11 @@ no_number attr = elim attr as (λ a. (attr_name a ≡ codes "quantity" → ⊥) 
   )
 ]
 
+pub no_number : (column : Column)
+    → (column_name column ≡ codes "quantity" → ⊥) × (column_name column ≡ codes "discount" → ⊥)
+no_number (Attribute attr) = no_such_number attr
+no_number ShipMode = (apart ship_mode_name (codes "quantity") refl, apart ship_mode_name (codes "discount") refl)
+
 -- a text has at least one part
 pub some_part : (sign : ℕ) (text : List ℕ) → 1 ≤ length (parts_by sign text)
 some_part sign text = let count : length (parts_by sign text) ≡ count_by (λ byte. eqb byte sign) text + 1 =
@@ -74,23 +85,27 @@ some_part sign text = let count : length (parts_by sign text) ≡ count_by (λ b
 bounds_two : (range : List ℕ) (m n : ℕ) → AreBounds range m n → length (parts_by 124 range) ≡ 2
 bounds_two range m n bounds = ap length bounds.parts
 
-pub two_ends : (subject : Subject) (range : List ℕ) (condition : Cond) → SpellsAfter subject 58 range condition → length
-    (parts_by 124 range) ≡ 2
-two_ends subject range (OneOf attr texts) after = let no_list : 61 ≡ 58 = after.sign_is in absurd (omega arith)
-two_ends subject range (Between attr low high) after = sym (ap length after.spelled)
-two_ends subject range (Quantity m n) after = bounds_two range m n after.spelled
-two_ends subject range (Discount m n) after = bounds_two range m n after.spelled
+pub two_ends : (subject : Subject) (range : List ℕ) (condition : Condition) → SpellsAfter subject 58 range condition
+    → length (parts_by 124 range) ≡ 2
+two_ends subject range (Dimension (OneOf attr texts)) after = absurd (omega (arith, after.sign_is))
+two_ends subject range (Dimension (Between attr low high)) after = sym (ap length after.spelled)
+two_ends subject range (Dimension (Quantity m n)) after = bounds_two range m n after.spelled
+two_ends subject range (Dimension (Discount m n)) after = bounds_two range m n after.spelled
+two_ends subject range (Modes (modes.OneOf texts)) after = absurd (omega (arith, after.sign_is))
+two_ends subject range (Modes (modes.Between low high)) after = sym (ap length after.spelled)
 
--- texts are of an attribute
-pub no_texts : (subject : Subject) (list : List ℕ) (condition : Cond)
-    → (attr_name_is : (attr : Attr) → subject ≡ subjects.Member attr
-    → ⊥) → SpellsAfter subject 61 list condition → ⊥
-no_texts (subjects.Member attr) list condition none after = none attr refl
-no_texts subjects.Quantity list (OneOf attr texts) none after = (no_number attr).0 after.name_is
-no_texts subjects.Quantity list (Between attr low high) none after = (no_number attr).0 after.name_is
-no_texts subjects.Quantity list (Quantity m n) none after = let sign : 58 ≡ 61 = after.sign_is in absurd (omega arith)
-no_texts subjects.Quantity list (Discount m n) none after = let sign : 58 ≡ 61 = after.sign_is in absurd (omega arith)
-no_texts subjects.Discount list (OneOf attr texts) none after = (no_number attr).1 after.name_is
-no_texts subjects.Discount list (Between attr low high) none after = (no_number attr).1 after.name_is
-no_texts subjects.Discount list (Quantity m n) none after = let sign : 58 ≡ 61 = after.sign_is in absurd (omega arith)
-no_texts subjects.Discount list (Discount m n) none after = let sign : 58 ≡ 61 = after.sign_is in absurd (omega arith)
+-- texts are of what can be a column
+pub no_texts : (subject : Subject) (list : List ℕ) (condition : Condition)
+    → (column_is : (column : Column) → subject ≡ subjects.Member column → ⊥) → SpellsAfter subject 61 list condition
+    → ⊥
+no_texts (subjects.Member column) list condition none after = none column refl
+no_texts subjects.Quantity list (Dimension (OneOf attr texts)) none after = (no_such_number attr).0 after.name_is
+no_texts subjects.Quantity list (Dimension (Between attr low high)) none after = (no_such_number attr).0 after.name_is
+no_texts subjects.Quantity list (Dimension (Quantity m n)) none after = absurd (omega (arith, after.sign_is))
+no_texts subjects.Quantity list (Dimension (Discount m n)) none after = absurd (omega (arith, after.sign_is))
+no_texts subjects.Quantity list (Modes condition) none after = (no_number ShipMode).0 after.name_is
+no_texts subjects.Discount list (Dimension (OneOf attr texts)) none after = (no_such_number attr).1 after.name_is
+no_texts subjects.Discount list (Dimension (Between attr low high)) none after = (no_such_number attr).1 after.name_is
+no_texts subjects.Discount list (Dimension (Quantity m n)) none after = absurd (omega (arith, after.sign_is))
+no_texts subjects.Discount list (Dimension (Discount m n)) none after = absurd (omega (arith, after.sign_is))
+no_texts subjects.Discount list (Modes condition) none after = (no_number ShipMode).1 after.name_is

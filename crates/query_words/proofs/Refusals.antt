@@ -1,7 +1,7 @@
 -- What is read, and what is refused, in other words.
 use Rattle.std.proofs.Common.{◌≡◌, ◌≢◌, ◌⊎◌, inl, inr, ℕ, ◌<◌, ◌++◌, ◌∷◌, cond, Bor, List, [], map, length, get_or}
 use Rattle.std.proofs.Common.{Result, Ok, Err, codes, refl, sym, ap, subst, ◌∙◌, arith}
-use Rattle.std.specs.Prelude.{Contains}
+use Rattle.std.specs.Prelude.{Contains, MatchOption, Option, None, Some}
 use Rattle.std.specs.List.{AllZip}
 use Rattle.std.specs.Str.{bytes_eq}
 use Rattle.std.proofs.lemmas.List.{append_cancel_right, get_or-map, length-map}
@@ -13,15 +13,19 @@ use Rattle.cube_model.specs.declared.attr.Attr.TheVariants.{DateYearmonth, DateW
 use Rattle.cube_model.specs.declared.measure.Agg.{Agg}
 use Rattle.cube_model.specs.declared.measure.Measure.{Measure}
 use Rattle.cube_model.specs.Names.{attr_name, measure_name}
+use Rattle.query_words.specs.declared.known.Column.{Column}
+use Rattle.query_words.specs.declared.known.Column.TheVariants.{Attribute, ShipMode}
+use Rattle.query_words.specs.declared.known.Subject.{Subject}
+use Rattle.query_words.specs.declared.known.Subject.TheVariants.{Member, Quantity, Discount}
 use Rattle.query_words.specs.declared.known.Taken.{Taken}
 use Rattle.query_words.specs.declared.known.Taken.TheVariants.{Sum, Min, Max, Avg}
 use Rattle.query_words.specs.declared.refused.Mistake.TheVariants.{NotClosed}
 use Rattle.query_words.specs.declared.refused.Refused.{Refused}
 use Rattle.query_words.specs.declared.refused.Refused.TheVariants.{Memory, Wrong}
 use Rattle.query_words.specs.Cuts.{IsCut}
-use Rattle.query_words.specs.Known.{agg_of, taken_name}
+use Rattle.query_words.specs.Known.{agg_of, column_name, subject_name, taken_name}
 use Rattle.query_words.specs.Mistakes.{IsAggregateMistake, IsAggregatesMistake, IsMeasureMistake, IsMistakeAmong}
-use Rattle.query_words.specs.Reading.{Reads}
+use Rattle.query_words.specs.Reading.{Finds, Reads}
 use Rattle.query_words.specs.Words.{SpellsAggregate, parts_by}
 use Rattle.query_words.proofs.Shapes.{spells_brackets, taken_in}
 
@@ -137,16 +141,20 @@ named attr = elim attr as (λ a. attr_name a ≡ [] → ⊥) [
   | DateWeeknuminyear ↦ λ e. cc
 ]
 
-no_names : (columns : List Attr) → map attr_name columns ≡ [] ∷ [] → ⊥
+named_column : (column : Column) → column_name column ≡ [] → ⊥
+named_column (Attribute attr) e = named attr e
+named_column ShipMode e = cc
+
+no_names : (columns : List Column) → map column_name columns ≡ [] ∷ [] → ⊥
 no_names [] e = cc
-no_names (column ∷ columns) e = let first : attr_name column ≡ [] = cc in named column first
+no_names (column ∷ columns) e = let first : column_name column ≡ [] = cc in named_column column first
 
 pub empty : (text : List ℕ) → length text ≡ 0 → text ≡ []
 empty [] e = refl
 empty (byte ∷ text) e = absurd (omega arith)
 
-pub no_columns : (text : List ℕ) → length text ≡ 0 → (columns : List Attr) → map attr_name columns ≡ parts_by 44 text
-    → ⊥
+pub no_columns : (text : List ℕ) → length text ≡ 0 → (columns : List Column)
+    → map column_name columns ≡ parts_by 44 text → ⊥
 no_columns [] e columns same = no_names columns same
 no_columns (byte ∷ text) e columns same = absurd (omega arith)
 
@@ -163,3 +171,15 @@ reads_aggregates text parts result same read =
     (λ value one. one) (λ value one. one) (λ refused means. inr (inl means))
     (subst (λ (texts : List (List ℕ)). Reads (AllZip SpellsAggregate texts) (IsMistakeAmong IsAggregateMistake texts)
     result) same read)
+
+-- a name of nothing that can be a column is that of a number, or of nothing
+pub no_subject : (name : List ℕ) (found : Option Subject) → ((column : Column) → name ≡ column_name column → ⊥)
+    → MatchOption found ((name ≢ subject_name Quantity) × (name ≢ subject_name Discount))
+    (λ subject. name ≡ subject_name subject) → Finds (λ subject. name ≡ subject_name subject) found
+no_subject name None none other = λ subject. none_of subject
+  where
+    none_of : (subject : Subject) → name ≡ subject_name subject → ⊥
+    none_of (Member column) = none column
+    none_of Quantity = other.0
+    none_of Discount = other.1
+no_subject name (Some subject) none other = other

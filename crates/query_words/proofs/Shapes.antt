@@ -11,9 +11,12 @@ use Rattle.cube_model.specs.declared.attr.Attr.TheVariants.{DateYearmonth, DateW
 use Rattle.cube_model.specs.declared.measure.Agg.{Agg}
 use Rattle.cube_model.specs.declared.measure.Agg.TheVariants as aggs
 use Rattle.cube_model.specs.declared.measure.Measure.{Measure}
-use Rattle.cube_model.specs.declared.query.Cond.{Cond}
 use Rattle.cube_model.specs.declared.query.Cond.TheVariants.{OneOf, Between, Quantity, Discount}
 use Rattle.cube_model.specs.Names.{attr_name, measure_name}
+use Rattle.mode_queries.specs.declared.query.ModeCond.TheVariants as modes
+use Rattle.query_words.specs.declared.cube_parts.Condition.{Condition}
+use Rattle.query_words.specs.declared.cube_parts.Condition.TheVariants.{Dimension, Modes}
+use Rattle.query_words.specs.declared.known.Column.TheVariants.{Attribute, ShipMode}
 use Rattle.query_words.specs.declared.known.Subject.{Subject}
 use Rattle.query_words.specs.declared.known.Subject.TheVariants as subjects
 use Rattle.query_words.specs.declared.known.Taken.{Taken}
@@ -173,26 +176,30 @@ plain_attr attr = elim attr as (λ a. has_neither 61 58 (attr_name a) ≡ true) 
   | DateWeeknuminyear ↦ refl
 ]
 
-pub plain_condition : (condition : Cond) → has_neither 61 58 (condition_name condition) ≡ true
-plain_condition (OneOf attr texts) = plain_attr attr
-plain_condition (Between attr low high) = plain_attr attr
-plain_condition (Quantity low high) = refl
-plain_condition (Discount low high) = refl
+pub plain_condition : (condition : Condition) → has_neither 61 58 (condition_name condition) ≡ true
+plain_condition (Dimension (OneOf attr texts)) = plain_attr attr
+plain_condition (Dimension (Between attr low high)) = plain_attr attr
+plain_condition (Dimension (Quantity low high)) = refl
+plain_condition (Dimension (Discount low high)) = refl
+plain_condition (Modes condition) = refl
 
-pub condition_mark : (condition : Cond) → (condition_sign condition ≡ 61) ⊎ (condition_sign condition ≡ 58)
-condition_mark (OneOf attr texts) = inl refl
-condition_mark (Between attr low high) = inr refl
-condition_mark (Quantity low high) = inr refl
-condition_mark (Discount low high) = inr refl
+pub condition_mark : (condition : Condition) → (condition_sign condition ≡ 61) ⊎ (condition_sign condition ≡ 58)
+condition_mark (Dimension (OneOf attr texts)) = inl refl
+condition_mark (Dimension (Between attr low high)) = inr refl
+condition_mark (Dimension (Quantity low high)) = inr refl
+condition_mark (Dimension (Discount low high)) = inr refl
+condition_mark (Modes (modes.OneOf texts)) = inl refl
+condition_mark (Modes (modes.Between low high)) = inr refl
 
 -- a word without a sign spells no condition
-pub no_condition : (word : List ℕ) (condition : Cond) → HasNeither 61 58 word → SpellsFit word condition → ⊥
+pub no_condition : (word : List ℕ) (condition : Condition) → HasNeither 61 58 word → SpellsFit word condition → ⊥
 no_condition word condition plain spelled =
     uncut 61 58 word (condition_name condition) (condition_sign condition) spelled.0.members
     (condition_mark condition) spelled.0.whole plain
 
 -- what a cut word spells, and what spells it
-pub condition_in : (word name : List ℕ) (sign : ℕ) (rest : List ℕ) (condition : Cond) → IsCut 61 58 word name sign rest
+pub condition_in : (word name : List ℕ) (sign : ℕ) (rest : List ℕ) (condition : Condition)
+    → IsCut 61 58 word name sign rest
     → SpellsFit word condition → (condition_name condition ≡ name) × (condition_sign condition ≡ sign)
     × SpellsMembers rest condition
 condition_in word name sign rest condition cut spelled =
@@ -206,14 +213,16 @@ condition_in word name sign rest condition cut spelled =
           spelled.0.spelled,
     )
 
-pub after_sign : (word : List ℕ) (subject : Subject) (sign : ℕ) (rest : List ℕ) (condition : Cond) → IsCut 61 58 word
-    (subject_name subject) sign rest → SpellsFit word condition → SpellsAfter subject sign rest condition
+pub after_sign : (word : List ℕ) (subject : Subject) (sign : ℕ) (rest : List ℕ) (condition : Condition)
+    → IsCut 61 58 word (subject_name subject) sign rest → SpellsFit word condition
+    → SpellsAfter subject sign rest condition
 after_sign word subject sign rest condition cut spelled =
     let parts = condition_in word (subject_name subject) sign rest condition cut spelled in
     record { name_is = parts.0; sign_is = parts.1; spelled = parts.2; fit = spelled.1 }
 
-pub before_sign : (word : List ℕ) (subject : Subject) (sign : ℕ) (rest : List ℕ) (condition : Cond) → IsCut 61 58 word
-    (subject_name subject) sign rest → SpellsAfter subject sign rest condition → SpellsFit word condition
+pub before_sign : (word : List ℕ) (subject : Subject) (sign : ℕ) (rest : List ℕ) (condition : Condition)
+    → IsCut 61 58 word (subject_name subject) sign rest → SpellsAfter subject sign rest condition
+    → SpellsFit word condition
 before_sign word subject sign rest condition cut after = (
   record {
     members = rest;
@@ -225,15 +234,16 @@ before_sign word subject sign rest condition cut after = (
 )
 
 -- what a condition is on
-pub subject_of : (condition : Cond) → (subject : Subject) × (condition_name condition ≡ subject_name subject)
-subject_of (OneOf attr texts) = (subjects.Member attr, refl)
-subject_of (Between attr low high) = (subjects.Member attr, refl)
-subject_of (Quantity low high) = (subjects.Quantity, refl)
-subject_of (Discount low high) = (subjects.Discount, refl)
+pub subject_of : (condition : Condition) → (subject : Subject) × (condition_name condition ≡ subject_name subject)
+subject_of (Dimension (OneOf attr texts)) = (subjects.Member (Attribute attr), refl)
+subject_of (Dimension (Between attr low high)) = (subjects.Member (Attribute attr), refl)
+subject_of (Dimension (Quantity low high)) = (subjects.Quantity, refl)
+subject_of (Dimension (Discount low high)) = (subjects.Discount, refl)
+subject_of (Modes condition) = (subjects.Member ShipMode, refl)
 
 pub no_such_subject : (word name : List ℕ) (sign : ℕ) (rest : List ℕ) → IsCut 61 58 word name sign rest
     → ((subject : Subject)
-    → name ≡ subject_name subject → ⊥) → (condition : Cond) → SpellsFit word condition → ⊥
+    → name ≡ subject_name subject → ⊥) → (condition : Condition) → SpellsFit word condition → ⊥
 no_such_subject word name sign rest cut none condition spelled =
     let parts = condition_in word name sign rest condition cut spelled in
     let on = subject_of condition in

@@ -1,13 +1,15 @@
 -- The names that words may have. Our own.
 use Rattle.std.specs.Prelude.{◌≡◌, ◌⊎◌, ℕ, List, codes}
-use Rattle.cube_model.specs.declared.attr.Attr.{Attr}
 use Rattle.cube_model.specs.declared.measure.Agg.{Agg}
 use Rattle.cube_model.specs.declared.measure.Agg.TheVariants as agg
 use Rattle.cube_model.specs.declared.measure.Measure.{Measure}
 use Rattle.cube_model.specs.declared.query.Kind.{Kind}
 use Rattle.cube_model.specs.Names.{attr_name, measure_name}
+use Rattle.mode_queries.specs.Names.{ship_mode_name}
 use Rattle.ssb_reports.specs.declared.number.QNumber.{QNumber}
 use Rattle.ssb_reports.specs.Benchmark.{number_text}
+use Rattle.query_words.specs.declared.known.Column.{Column}
+use Rattle.query_words.specs.declared.known.Column.TheVariants.{Attribute, ShipMode}
 use Rattle.query_words.specs.declared.known.Known.{Known}
 use Rattle.query_words.specs.declared.known.Known.TheVariants as known
 use Rattle.query_words.specs.declared.known.Subject.{Subject}
@@ -29,9 +31,14 @@ agg_of Min measure = agg.Min measure
 agg_of Max measure = agg.Max measure
 agg_of Avg measure = agg.Avg measure
 
+-- what can be a column
+abbrev pub column_name : Column → List ℕ
+column_name (Attribute attr) = attr_name attr
+column_name ShipMode = ship_mode_name
+
 -- what a condition is on
 abbrev pub subject_name : Subject → List ℕ
-subject_name (Member attr) = attr_name attr
+subject_name (Member column) = column_name column
 subject_name Quantity = codes "quantity"
 subject_name Discount = codes "discount"
 
@@ -39,7 +46,7 @@ subject_name Discount = codes "discount"
 abbrev pub IsName : Known → List ℕ → Type 0
 IsName known.Query word = (number : QNumber) × (word ≡ number_text number)
 IsName known.Set word = (kind : Kind) × (word ≡ kind_name kind)
-IsName known.Attribute word = (attr : Attr) × (word ≡ attr_name attr)
+IsName known.Attribute word = (column : Column) × (word ≡ column_name column)
 IsName known.Aggregate word = (word ≡ codes "count") ⊎ ((taken : Taken) × (word ≡ taken_name taken))
 IsName known.Measure word = (measure : Measure) × (word ≡ measure_name measure)
 IsName known.Ranged word = (subject : Subject) × (word ≡ subject_name subject)

@@ -4,6 +4,7 @@ pub mod Known
 pub mod Laws
 pub mod Limits
 pub mod Mistakes
+pub mod Parts
 pub mod Reading
 pub mod Spelled
 pub mod Words

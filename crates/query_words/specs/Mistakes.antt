@@ -38,7 +38,7 @@ abbrev pub IsUnknownIn : Known → List (List ℕ) → Refused → Type 0
 IsUnknownIn known words (Unknown word other) = (other ≡ known) × Contains words word.now × (IsName known word.now → ⊥)
 IsUnknownIn known words refused = ⊥
 
--- columns: none, one that is no attribute, too many, or one twice
+-- columns: none, one that there is not, too many, or one twice
 abbrev pub IsColumnMistake : List ℕ → Refused → Type 0
 IsColumnMistake text refused = ((refused ≡ NoColumn) × (text ≡ []))
     ⊎ IsUnknownIn Attribute (parts_by 44 text) refused

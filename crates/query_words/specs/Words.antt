@@ -1,7 +1,7 @@
--- The words of a query, and the query that they spell. The grammar is our own; the names are those of the attributes
--- and measures.
-use Rattle.std.specs.Prelude.{◌≡◌, ◌≤◌, ◌⊎◌, ℕ, ◌==◌, List, [], ◌∷◌, ◌++◌, length, map, Option, None, Some, codes}
-use Rattle.std.specs.List.{AllZip, slice_split}
+-- The words of a query, and the query that they spell. The grammar is our own; the names are those of the attributes,
+-- the ship mode and the measures.
+use Rattle.std.specs.Prelude.{◌≡◌, ◌≤◌, ◌⊎◌, ℕ, ◌==◌, List, [], ◌∷◌, ◌++◌, length, Option, None, Some, IfSome, codes}
+use Rattle.std.specs.List.{AllZip, flat_map, slice_split}
 use Rattle.std.specs.Str.Parse.{IsNumeral, digits_value}
 use Rattle.cube_model.specs.declared.attr.Attr.{Attr}
 use Rattle.cube_model.specs.declared.measure.Agg.{Agg}
@@ -10,12 +10,19 @@ use Rattle.cube_model.specs.declared.query.Cond.{Cond}
 use Rattle.cube_model.specs.declared.query.Cond.TheVariants.{OneOf, Between, Quantity, Discount}
 use Rattle.cube_model.specs.declared.query.Kind.{Kind}
 use Rattle.cube_model.specs.declared.query.Kind.TheVariants.{Plain, Rollup, Cube}
-use Rattle.cube_model.specs.declared.query.Query.{Query}
 use Rattle.cube_model.specs.Limits.{most_asked_aggregates}
 use Rattle.cube_model.specs.Names.{attr_name, measure_name, agg_name}
-use Rattle.cube_model.specs.Proper.{IsProper}
+use Rattle.mode_queries.specs.declared.query.ModeCond.{ModeCond}
+use Rattle.mode_queries.specs.declared.query.ModeCond.TheVariants as modes
+use Rattle.mode_queries.specs.declared.query.ModeQuery.{ModeQuery}
+use Rattle.mode_queries.specs.Lawful.{without_modes}
+use Rattle.mode_queries.specs.Names.{names_with, ship_mode_name}
+use Rattle.mode_queries.specs.Proper.{IsProperByModes}
 use Rattle.ssb_reports.specs.declared.number.QNumber.{QNumber}
 use Rattle.ssb_reports.specs.Benchmark.{benchmark_query, number_text}
+use Rattle.query_words.specs.declared.cube_parts.Condition.{Condition}
+use Rattle.query_words.specs.declared.cube_parts.Condition.TheVariants.{Dimension, Modes}
+use Rattle.query_words.specs.Parts.{dimensions_in, modes_in}
 
 -- the words: the number of a query, the name of a set, the columns, the aggregates, and a word for each condition
 pub record Words : Type 0 where
@@ -39,10 +46,12 @@ abbrev pub SpellsKind : Option (List ℕ) → Kind → Type 0
 SpellsKind None kind = kind ≡ Plain
 SpellsKind (Some word) kind = word ≡ kind_name kind
 
--- columns: their names, separated by commas (44), and none where there is no word
-abbrev pub SpellsColumns : Option (List ℕ) → List Attr → Type 0
-SpellsColumns None columns = columns ≡ []
-SpellsColumns (Some text) columns = map attr_name columns ≡ parts_by 44 text
+-- columns: their names, separated by commas (44), with that of the ship mode at its place, and none where there is no
+-- word
+abbrev pub SpellsColumns : Option (List ℕ) → List Attr → Option ℕ → Type 0
+SpellsColumns None columns place = (columns ≡ []) × (place ≡ None)
+SpellsColumns (Some text) columns place =
+    (names_with columns place ≡ parts_by 44 text) × IfSome place (λ place. place ≤ length columns)
 
 -- an aggregate: count, or what is taken of a measure, a colon and the measure's name
 abbrev pub agg_word : Agg → List ℕ
@@ -64,18 +73,21 @@ SpellsAggregates (Some text) aggregates =
 
 -- a condition: the name of what it is on, a sign, and its texts or its two ends, separated by bars (124). No name has a
 -- sign in it, so the first one ends the name
-abbrev pub condition_name : Cond → List ℕ
-condition_name (OneOf attr texts) = attr_name attr
-condition_name (Between attr low high) = attr_name attr
-condition_name (Quantity low high) = codes "quantity"
-condition_name (Discount low high) = codes "discount"
+abbrev pub condition_name : Condition → List ℕ
+condition_name (Dimension (OneOf attr texts)) = attr_name attr
+condition_name (Dimension (Between attr low high)) = attr_name attr
+condition_name (Dimension (Quantity low high)) = codes "quantity"
+condition_name (Dimension (Discount low high)) = codes "discount"
+condition_name (Modes condition) = ship_mode_name
 
 -- an equals sign (61) before texts, a colon (58) before two ends
-abbrev pub condition_sign : Cond → ℕ
-condition_sign (OneOf attr texts) = 61
-condition_sign (Between attr low high) = 58
-condition_sign (Quantity low high) = 58
-condition_sign (Discount low high) = 58
+abbrev pub condition_sign : Condition → ℕ
+condition_sign (Dimension (OneOf attr texts)) = 61
+condition_sign (Dimension (Between attr low high)) = 58
+condition_sign (Dimension (Quantity low high)) = 58
+condition_sign (Dimension (Discount low high)) = 58
+condition_sign (Modes (modes.OneOf texts)) = 61
+condition_sign (Modes (modes.Between low high)) = 58
 
 -- one digit or more, whose value is at most 255
 pub record IsSmallNumber (text : List ℕ) (number : ℕ) : Type 0 where
@@ -91,40 +103,50 @@ pub record AreBounds (text : List ℕ) (low high : ℕ) : Type 0 where
   pub low_is : IsSmallNumber low_text low
   pub high_is : IsSmallNumber high_text high
 
-abbrev pub SpellsMembers : List ℕ → Cond → Type 0
-SpellsMembers text (OneOf attr texts) = texts ≡ parts_by 124 text
-SpellsMembers text (Between attr low high) = low ∷ high ∷ [] ≡ parts_by 124 text
-SpellsMembers text (Quantity low high) = AreBounds text low high
-SpellsMembers text (Discount low high) = AreBounds text low high
+abbrev pub SpellsMembers : List ℕ → Condition → Type 0
+SpellsMembers text (Dimension (OneOf attr texts)) = texts ≡ parts_by 124 text
+SpellsMembers text (Dimension (Between attr low high)) = low ∷ high ∷ [] ≡ parts_by 124 text
+SpellsMembers text (Dimension (Quantity low high)) = AreBounds text low high
+SpellsMembers text (Dimension (Discount low high)) = AreBounds text low high
+SpellsMembers text (Modes (modes.OneOf texts)) = texts ≡ parts_by 124 text
+SpellsMembers text (Modes (modes.Between low high)) = low ∷ high ∷ [] ≡ parts_by 124 text
 
-pub record SpellsCondition (word : List ℕ) (condition : Cond) : Type 0 where
+pub record SpellsCondition (word : List ℕ) (condition : Condition) : Type 0 where
   pub members : List ℕ
   pub whole : word ≡ condition_name condition ++ condition_sign condition ∷ members
   pub spelled : SpellsMembers members condition
 
+-- conditions: each of one word. Those on the ship mode are apart from the others, both in the order of their words
+pub record SpellConditions (words : List (List ℕ)) (on_dimensions : List Cond) (on_modes : List ModeCond) : Type 0
+  where
+    pub conditions : List Condition
+    pub spelled : AllZip SpellsCondition words conditions
+    pub dimensions_are : flat_map dimensions_in conditions ≡ on_dimensions
+    pub modes_are : flat_map modes_in conditions ≡ on_modes
+
 -- a query of the benchmark: its number, and no other word
-pub record SpellsBenchmark (words : Words) (query : Query) : Type 0 where
+pub record SpellsBenchmark (words : Words) (asked : ModeQuery) : Type 0 where
   pub number : QNumber
   pub named : words.q ≡ Some (number_text number)
   pub no_set : words.set ≡ None
   pub no_columns : words.by ≡ None
   pub no_aggregates : words.agg ≡ None
   pub no_conditions : words.conditions ≡ []
-  pub query_is : query ≡ benchmark_query number
+  pub query_is : asked ≡ without_modes (benchmark_query number)
 
 -- a cube query: its parts, and no number
-pub record SpellsCube (words : Words) (query : Query) : Type 0 where
+pub record SpellsCube (words : Words) (asked : ModeQuery) : Type 0 where
   pub no_number : words.q ≡ None
-  pub kind : SpellsKind words.set query.kind
-  pub columns : SpellsColumns words.by query.columns
-  pub aggregates : SpellsAggregates words.agg query.aggregates
-  pub conditions : AllZip SpellsCondition words.conditions query.conditions
-  pub no_order : query.order ≡ None
+  pub kind : SpellsKind words.set asked.query.kind
+  pub columns : SpellsColumns words.by asked.query.columns asked.place
+  pub aggregates : SpellsAggregates words.agg asked.query.aggregates
+  pub conditions : SpellConditions words.conditions asked.query.conditions asked.conditions
+  pub no_order : asked.query.order ≡ None
 
 -- words spell a query
-abbrev pub SpellsQuery : Words → Query → Type 0
-SpellsQuery words query = SpellsBenchmark words query ⊎ SpellsCube words query
+abbrev pub SpellsQuery : Words → ModeQuery → Type 0
+SpellsQuery words asked = SpellsBenchmark words asked ⊎ SpellsCube words asked
 
 -- and one that may be asked
-abbrev pub SpellsProper : Words → Query → Type 0
-SpellsProper words query = SpellsQuery words query × IsProper query
+abbrev pub SpellsProper : Words → ModeQuery → Type 0
+SpellsProper words asked = SpellsQuery words asked × IsProperByModes asked

@@ -8,18 +8,23 @@ ghost use Rattle.query_words.specs.Mistakes.{IsConditionMistake, IsListMistake, 
 ghost use Rattle.query_words.specs.Reading.{Reads};
 ghost use Rattle.query_words.specs.Spelled.{SpellsAfter, SpellsFit};
 
+use crate::cube_parts::Condition;
 use crate::cuts::cut;
 use crate::known::{Known, Subject};
 use crate::names::subject;
 use crate::parts::{copies, parts};
 use crate::ranges::read_range;
 use crate::refused::{Counted, Mistake, Refused};
+use cube_model::Items;
 use cube_model::limits::MOST_LISTED_TEXTS;
-use cube_model::{Cond, Items};
 use std::alloc::Global;
 
-/// Reads conditions, such as `d_year=1997|1998`, `p_brand1:MFGR#2221|MFGR#2228` and `quantity:0|24`.
-pub fn read_conditions<'a>(alloc: Global, words: &[&'a str]) -> Result<Items<Cond>, Refused<'a>>
+/// Reads conditions, such as `d_year=1997|1998`, `lo_shipmode=AIR|RAIL`, `p_brand1:MFGR#2221|MFGR#2228` and
+/// `quantity:0|24`.
+pub fn read_conditions<'a>(
+    alloc: Global,
+    words: &[&'a str],
+) -> Result<Items<Condition>, Refused<'a>>
     ensures { let words = map (λ word. word.now) words.now in
         Reads (AllZip SpellsFit words) (IsMistakeAmong IsConditionMistake words) result }
 {
@@ -32,7 +37,7 @@ pub fn read_conditions<'a>(alloc: Global, words: &[&'a str]) -> Result<Items<Con
 }
 
 // What a condition is on is before its first sign. After `=` come texts, after `:` the two ends of a range.
-fn read_condition(alloc: Global, word: &str) -> Result<Cond, Refused<'_>>
+fn read_condition(alloc: Global, word: &str) -> Result<Condition, Refused<'_>>
     ensures { Reads (SpellsFit word.now) (IsConditionMistake word.now) result }
 {
     let Some((name, sign, members)) = cut(word, '=', ':') else {
@@ -71,16 +76,16 @@ fn read_list<'a>(
     name: &'a str,
     subject: Subject,
     list: &'a str,
-) -> Result<Cond, Refused<'a>>
+) -> Result<Condition, Refused<'a>>
     requires { name.now ≡ subject_name subject }
     ensures { Reads (SpellsAfter subject 61 list.now) (IsListMistake name.now list.now) result }
 {
-    let Subject::Member(attr) = subject else {
+    let Subject::Member(column) = subject else {
         return Err(Mistake::NoList.of(name));
     };
     let texts = parts(alloc, list, '|')?;
     if texts.len() > MOST_LISTED_TEXTS {
         return Err(Counted::Texts.too_many(texts.len(), MOST_LISTED_TEXTS));
     }
-    Ok(Cond::OneOf(attr, copies(alloc, texts.as_slice())?))
+    Ok(Condition::one_of(column, copies(alloc, texts.as_slice())?))
 }

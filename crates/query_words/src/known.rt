@@ -1,10 +1,10 @@
 //! The names that words may have, each in one table.
 ghost use Rattle.std.specs.Prelude.{◌≡◌, IfSome};
-ghost use Rattle.cube_model.specs.Names.{attr_name};
-ghost use Rattle.query_words.specs.Known.{IsName, agg_of, subject_name, taken_name};
+ghost use Rattle.query_words.specs.Known.{IsName, agg_of, column_name, subject_name, taken_name};
 ghost use Rattle.query_words.specs.Words.{kind_name};
 
 use cube_model::{Agg, Attr, Kind, Measure};
+use mode_queries::SHIP_MODE;
 use ssb_reports::QNumber;
 
 /// Of what a word has to be a name.
@@ -14,13 +14,13 @@ pub enum Known {
     Query,
     /// Which groupings.
     Set,
-    /// An attribute of a fact row.
+    /// An attribute of a fact row, or its ship mode.
     Attribute,
     /// What is taken of a measure, or the count.
     Aggregate,
     /// A measure of a fact row.
     Measure,
-    /// What a condition is on: an attribute, the quantity or the discount.
+    /// What a condition is on: an attribute, the ship mode, the quantity or the discount.
     Ranged,
 }
 
@@ -33,10 +33,18 @@ pub enum Taken {
     Avg,
 }
 
+/// What a query can have as a column.
+#[derive(Clone, Copy, Debug, PartialEq, Eq)]
+pub enum Column {
+    Attribute(Attr),
+    ShipMode,
+}
+
 /// What a condition is on.
 #[derive(Clone, Copy, Debug, PartialEq, Eq)]
 pub enum Subject {
-    Member(Attr),
+    /// What can also be a column.
+    Member(Column),
     Quantity,
     Discount,
 }
@@ -60,7 +68,10 @@ pub(crate) const ATTRIBUTES: [Attr; 14] = [
     Attr::DateWeeknuminyear,
 ];
 
-// What a condition can be on that is no attribute.
+// How many things can be a column: the attributes and the ship mode.
+const COLUMN_COUNT: usize = ATTRIBUTES.len() + 1;
+
+// What a condition can be on that can be no column.
 pub(crate) const NUMBERS: [Subject; 2] = [Subject::Quantity, Subject::Discount];
 
 pub(crate) const TAKEN: [Taken; 4] = [Taken::Sum, Taken::Min, Taken::Max, Taken::Avg];
@@ -83,10 +94,10 @@ impl Known {
         match self {
             Known::Query => QNumber::ALL.len(),
             Known::Set => KINDS.len(),
-            Known::Attribute => ATTRIBUTES.len(),
+            Known::Attribute => COLUMN_COUNT,
             Known::Aggregate => 1 + TAKEN.len(),
             Known::Measure => MEASURES.len(),
-            Known::Ranged => ATTRIBUTES.len() + NUMBERS.len(),
+            Known::Ranged => COLUMN_COUNT + NUMBERS.len(),
         }
     }
 
@@ -97,7 +108,7 @@ impl Known {
         match self {
             Known::Query => Some(QNumber::ALL.get(place)?.name()),
             Known::Set => Some(kind_name(*KINDS.get(place)?)),
-            Known::Attribute => Some(ATTRIBUTES.get(place)?.name()),
+            Known::Attribute => Some(column_at(place)?.name()),
             Known::Aggregate => match place.checked_sub(1) {
                 None => Some(COUNT),
                 Some(place) => Some(TAKEN.get(place)?.name()),
@@ -108,11 +119,20 @@ impl Known {
     }
 }
 
-// What a condition can be on: the attributes, and then the numbers.
-fn subject_at(place: usize) -> Option<Subject> {
+// What can be a column: the attributes, and then the ship mode.
+fn column_at(place: usize) -> Option<Column> {
     match ATTRIBUTES.get(place) {
-        Some(attr) => Some(Subject::Member(*attr)),
-        None => NUMBERS.get(place - ATTRIBUTES.len()).copied(),
+        Some(attr) => Some(Column::Attribute(*attr)),
+        None if place < COLUMN_COUNT => Some(Column::ShipMode),
+        None => None,
+    }
+}
+
+// What a condition can be on: what can be a column, and then the numbers.
+fn subject_at(place: usize) -> Option<Subject> {
+    match place.checked_sub(COLUMN_COUNT) {
+        None => Some(Subject::Member(column_at(place)?)),
+        Some(place) => NUMBERS.get(place).copied(),
     }
 }
 
@@ -142,13 +162,25 @@ impl Taken {
     }
 }
 
+impl Column {
+    /// The name of what can be a column.
+    pub(crate) fn name(self) -> &'static str
+        ensures { result.now ≡ column_name self }
+    {
+        match self {
+            Column::Attribute(attr) => attr.name(),
+            Column::ShipMode => SHIP_MODE,
+        }
+    }
+}
+
 impl Subject {
     /// The name of what a condition is on.
     pub(crate) fn name(self) -> &'static str
         ensures { result.now ≡ subject_name self }
     {
         match self {
-            Subject::Member(attr) => attr.name(),
+            Subject::Member(column) => column.name(),
             Subject::Quantity => "quantity",
             Subject::Discount => "discount",
         }

@@ -5,6 +5,7 @@
 mod aggregates;
 mod columns;
 mod conditions;
+mod cube_parts;
 mod cuts;
 mod hints;
 mod known;

@@ -3,16 +3,28 @@ ghost use Rattle.std.specs.Prelude.{◌≡◌, ◌≢◌, MatchOption};
 ghost use Rattle.cube_model.specs.Names.{attr_name, measure_name};
 ghost use Rattle.ssb_reports.specs.Benchmark.{number_text};
 ghost use Rattle.query_words.specs.declared.known.Subject.TheVariants.{Quantity, Discount};
-ghost use Rattle.query_words.specs.Known.{subject_name, taken_name};
+ghost use Rattle.query_words.specs.Known.{column_name, subject_name, taken_name};
 ghost use Rattle.query_words.specs.Reading.{Finds};
 ghost use Rattle.query_words.specs.Words.{kind_name};
 
-use crate::known::{self, ATTRIBUTES, KINDS, MEASURES, NUMBERS, Subject, TAKEN, Taken};
+use crate::known::{self, ATTRIBUTES, Column, KINDS, MEASURES, NUMBERS, Subject, TAKEN, Taken};
 use cube_model::{Attr, Kind, Measure};
+use mode_queries::SHIP_MODE;
 use ssb_reports::QNumber;
 
-/// The attribute of a name.
-pub fn attribute(name: &str) -> Option<Attr>
+/// What can be a column, by its name.
+pub fn column(name: &str) -> Option<Column>
+    ensures { Finds (λ column. name.now ≡ column_name column) result }
+{
+    match attribute(name) {
+        Some(attr) => Some(Column::Attribute(attr)),
+        None if name == SHIP_MODE => Some(Column::ShipMode),
+        None => None,
+    }
+}
+
+// The attribute of a name.
+fn attribute(name: &str) -> Option<Attr>
     ensures { Finds (λ attr. name.now ≡ attr_name attr) result }
 {
     for attr in ATTRIBUTES {
@@ -27,13 +39,13 @@ pub fn attribute(name: &str) -> Option<Attr>
 pub fn subject(name: &str) -> Option<Subject>
     ensures { Finds (λ subject. name.now ≡ subject_name subject) result }
 {
-    match attribute(name) {
-        Some(attr) => Some(Subject::Member(attr)),
+    match column(name) {
+        Some(column) => Some(Subject::Member(column)),
         None => number_subject(name),
     }
 }
 
-// What a condition is on that is no attribute, by its name.
+// What a condition is on that can be no column, by its name.
 fn number_subject(name: &str) -> Option<Subject>
     ensures { MatchOption result ((name.now ≢ subject_name Quantity) × (name.now ≢ subject_name Discount))
         (λ subject. name.now ≡ subject_name subject) }

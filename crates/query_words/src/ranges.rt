@@ -2,13 +2,14 @@
 ghost use Rattle.std.specs.Prelude.{◌≡◌, ◌≢◌, ℕ, List, length, [], ◌∷◌, IfOk, IfErr};
 ghost use Rattle.query_words.specs.Mistakes.{IsCountMistake, IsEndMistake, IsRangeMistake};
 ghost use Rattle.query_words.specs.Reading.{Finds, Reads};
-ghost use Rattle.query_words.specs.Spelled.{SpellsAfter};
+ghost use Rattle.query_words.specs.Spelled.{SpellsAfter, between};
 ghost use Rattle.query_words.specs.Words.{IsSmallNumber, parts_by};
 
-use crate::known::Subject;
+use crate::cube_parts::Condition;
+use crate::known::{Column, Subject};
 use crate::parts::{parts, text_of};
 use crate::refused::{Mistake, Refused};
-use cube_model::{Attr, Cond};
+use cube_model::Cond;
 use std::alloc::{AllocError, Global};
 
 /// Reads the two ends after the name of what a condition is on.
@@ -17,7 +18,7 @@ pub fn read_range<'a>(
     word: &'a str,
     subject: Subject,
     range: &'a str,
-) -> Result<Cond, Refused<'a>>
+) -> Result<Condition, Refused<'a>>
     ensures { Reads (SpellsAfter subject 58 range.now) (IsRangeMistake word.now range.now) result }
 {
     let ends = parts(alloc, range, '|')?;
@@ -46,27 +47,27 @@ fn read_ends<'a>(
     subject: Subject,
     low: &'a str,
     high: &'a str,
-) -> Result<Cond, Refused<'a>>
+) -> Result<Condition, Refused<'a>>
     ensures { (range : List ℕ) → low.now ∷ high.now ∷ [] ≡ parts_by 124 range
         → Reads (SpellsAfter subject 58 range) (IsEndMistake low.now high.now) result }
 {
     match subject {
-        Subject::Member(attr) => Ok(between(alloc, attr, low, high)?),
+        Subject::Member(column) => Ok(between(alloc, column, low, high)?),
         Subject::Quantity => match bounds(low, high) {
-            Ok((low, high)) => Ok(Cond::Quantity(low, high)),
+            Ok((low, high)) => Ok(Condition::Dimension(Cond::Quantity(low, high))),
             Err(refused) => Err(refused),
         },
         Subject::Discount => match bounds(low, high) {
-            Ok((low, high)) => Ok(Cond::Discount(low, high)),
+            Ok((low, high)) => Ok(Condition::Dimension(Cond::Discount(low, high))),
             Err(refused) => Err(refused),
         },
     }
 }
 
-fn between(alloc: Global, attr: Attr, low: &str, high: &str) -> Result<Cond, AllocError>
-    ensures { IfOk result (λ condition. condition ≡ Cond.Between attr low.now high.now) }
+fn between(alloc: Global, column: Column, low: &str, high: &str) -> Result<Condition, AllocError>
+    ensures { IfOk result (λ condition. condition ≡ between column low.now high.now) }
 {
-    Ok(Cond::Between(attr, text_of(alloc, low)?, text_of(alloc, high)?))
+    Ok(Condition::between(column, text_of(alloc, low)?, text_of(alloc, high)?))
 }
 
 // The numbers that two texts are.

@@ -10,18 +10,20 @@ ghost use Rattle.query_words.specs.Words.{SpellsKind, SpellsProper, Words};
 use crate::aggregates::read_aggregates;
 use crate::columns::read_columns;
 use crate::conditions::read_conditions;
+use crate::cube_parts::CubeParts;
 use crate::known::Known;
 use crate::limits::limit_mistake;
 use crate::names::{kind, number};
 use crate::refused::{QueryWords, Refused};
-use cube_model::{Kind, Query};
+use cube_model::Kind;
+use mode_queries::ModeQuery;
 use ssb_reports::query_of;
 use std::alloc::Global;
 
 /// Reads the words of a query that may be asked: a query of the benchmark by its number, or a cube query by the name of
-/// its set, its columns, its aggregates and its conditions. Words that are no such query are refused with the first
-/// mistake in them.
-pub fn read_query<'a>(alloc: Global, words: &QueryWords<'a>) -> Result<Query, Refused<'a>>
+/// its set, its columns, its aggregates and its conditions. One column may be the ship mode, and conditions may be on
+/// it. Words that are no such query are refused with the first mistake in them.
+pub fn read_query<'a>(alloc: Global, words: &QueryWords<'a>) -> Result<ModeQuery, Refused<'a>>
     ensures { Reads (SpellsProper (words_of words.now)) (IsMistakeOf (words_of words.now)) result }
 {
     match (words.q, words.agg) {
@@ -44,7 +46,7 @@ fn is_number_alone(words: &QueryWords<'_>) -> bool
     words.set.is_none() && words.by.is_none() && words.agg.is_none() && words.conditions.is_empty()
 }
 
-fn read_benchmark(alloc: Global, q: &str) -> Result<Query, Refused<'_>>
+fn read_benchmark(alloc: Global, q: &str) -> Result<ModeQuery, Refused<'_>>
     ensures { Reads (SpellsProper (number_alone (Some q.now))) (IsAskedMistake (number_alone (Some q.now))) result }
 {
     let Some(number) = number(q) else {
@@ -54,7 +56,7 @@ fn read_benchmark(alloc: Global, q: &str) -> Result<Query, Refused<'_>>
         });
     };
     match query_of(alloc, number) {
-        Ok(query) => Ok(query),
+        Ok(query) => Ok(ModeQuery::without_modes(alloc, query)),
         Err(_) => Err(Refused::Memory),
     }
 }
@@ -65,7 +67,7 @@ fn read_cube<'a>(
     by: Option<&'a str>,
     agg: &'a str,
     conditions: &[&'a str],
-) -> Result<Query, Refused<'a>>
+) -> Result<ModeQuery, Refused<'a>>
     ensures { let words : Words = record {
       q = None;
       set = option_map (λ word. word.now) set.entry;
@@ -78,15 +80,14 @@ fn read_cube<'a>(
     let columns = read_columns(alloc, by)?;
     let conditions = read_conditions(alloc, conditions)?;
     let aggregates = read_aggregates(alloc, agg)?;
-    let query = Query {
+    let parts = CubeParts {
         kind,
         columns,
         conditions,
         aggregates,
-        order: None,
     };
-    match limit_mistake(&query) {
-        None => Ok(query),
+    match limit_mistake(&parts) {
+        None => Ok(parts.into_query(alloc)?),
         Some(refused) => Err(refused),
     }
 }

@@ -6,6 +6,7 @@ use Rattle.cube_model.specs.declared.measure.Agg.TheVariants.{Count, Sum, Min, M
 use Rattle.cube_model.specs.declared.query.Query.{Query}
 use Rattle.cube_model.specs.Proper.{is_average}
 use Rattle.line_order.specs.Arranging.{no_arrangement}
+use Rattle.mode_queries.specs.declared.query.ModeQuery.{ModeQuery}
 use Rattle.report_formats.specs.declared.asked.Asked.{Asked}
 use Rattle.report_formats.specs.declared.layout.Layout.{Layout}
 use Rattle.report_formats.specs.Rows.{counts_averages}
@@ -28,12 +29,16 @@ query_for layout query =
     if counts_averages layout && list_any is_average query.aggregates then record query
     { aggregates = with_count query.aggregates } else query
 
+-- the same of a query that may look at ship modes
+abbrev pub moded_query_for : Layout → ModeQuery → ModeQuery
+moded_query_for layout asked = record asked { query = query_for layout asked.query }
+
 -- the report of a query in a layout: its columns and aggregates are those of the query, and its lines those of the
 -- answer as they are
-abbrev pub asked_for : Layout → Query → Asked
-asked_for layout query = record {
+abbrev pub asked_for : Layout → ModeQuery → Asked
+asked_for layout asked = record {
   layout = layout;
-  query = query_for layout query;
-  aggregates = query.aggregates;
+  query = moded_query_for layout asked;
+  aggregates = asked.query.aggregates;
   arrangement = no_arrangement;
 }

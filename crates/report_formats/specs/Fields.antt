@@ -1,19 +1,20 @@
 -- The fields of a report's lines, and the whole report. Our own.
 use Rattle.std.specs.Prelude.{ℕ, pos, ◌&&◌, if◌then◌else◌, List, [], ◌++◌, length, map, slice_index_or, min, codes}
-use Rattle.std.specs.Prelude.{Option, None, Some}
+use Rattle.std.specs.Prelude.{Bool, Option, None, Some}
 use Rattle.std.specs.List.{flat_map, zip}
+use Rattle.std.specs.Option.{is_none}
 use Rattle.cube_model.specs.declared.answer.Answer.{Answer}
 use Rattle.cube_model.specs.declared.answer.Line.{Line}
 use Rattle.cube_model.specs.declared.answer.Member.{Member}
 use Rattle.cube_model.specs.declared.answer.Member.TheVariants.{All, Text}
 use Rattle.cube_model.specs.declared.answer.Value.{Value}
 use Rattle.cube_model.specs.declared.answer.Value.TheVariants.{Whole, Ratio}
-use Rattle.cube_model.specs.declared.attr.Attr.{Attr}
 use Rattle.cube_model.specs.declared.measure.Agg.{Agg}
-use Rattle.cube_model.specs.Names.{attr_name, agg_name}
+use Rattle.cube_model.specs.Names.{agg_name}
 use Rattle.cube_model.specs.Proper.{is_average}
 use Rattle.ssb_reports.specs.Report.{count_text, report_of, value_text}
 use Rattle.line_order.specs.Arranging.{arranged}
+use Rattle.mode_queries.specs.Names.{column_names}
 use Rattle.report_formats.specs.declared.asked.Asked.{Asked}
 use Rattle.report_formats.specs.declared.layout.Format.{Format}
 use Rattle.report_formats.specs.declared.layout.Format.TheVariants.{Bars, Csv, Tsv, Json}
@@ -53,8 +54,9 @@ abbrev pub member_of : Option (List ℕ) → Member
 member_of (Some text) = Text text
 member_of None = All
 
-abbrev pub member_field : Format → Attr × Member → List ℕ
-member_field format field = name_text format (attr_name field.0) ++ member_text format field.1
+-- a member with the name of its column
+abbrev pub member_field : Format → List ℕ × Member → List ℕ
+member_field format field = name_text format field.0 ++ member_text format field.1
 
 -- a whole number, and an average as a fraction or as a decimal with at most 18 digits after the point
 abbrev pub number_text : Option ℕ → Value → List ℕ
@@ -80,7 +82,7 @@ abbrev pub count_in : Asked → Line → Value
 count_in asked line = slice_index_or line.values (length asked.aggregates) (Whole (pos 0))
 
 abbrev pub member_fields : Asked → Line → List (List ℕ)
-member_fields asked line = map (member_field asked.layout.format) (zip asked.query.columns line.key)
+member_fields asked line = map (member_field asked.layout.format) (zip (column_names asked.query) line.key)
 
 abbrev pub value_fields : Asked → Line → List (List ℕ)
 value_fields asked line = map (value_field asked.layout (count_in asked line)) (zip asked.aggregates line.values)
@@ -96,7 +98,7 @@ names_text Csv names = row_text Csv names
 names_text Tsv names = row_text Tsv names
 
 abbrev pub header_text : Asked → List ℕ
-header_text asked = names_text asked.layout.format (map attr_name asked.query.columns ++ map agg_name asked.aggregates)
+header_text asked = names_text asked.layout.format (column_names asked.query ++ map agg_name asked.aggregates)
 
 -- the number of lines, with bars alone
 abbrev pub footer_text : Format → ℕ → List ℕ
@@ -110,9 +112,14 @@ laid_out asked answer =
     header_text asked
     ++ (flat_map (line_text asked) answer.lines ++ footer_text asked.layout.format (length answer.lines))
 
--- a report of the lines of an answer as they come. With bars, and averages as fractions, it is that of each report
+-- the report is that of a query of the dimensions alone: with bars, averages as fractions, and no column of ship modes
+abbrev pub is_plain_report : Asked → Bool
+is_plain_report asked = is_plain asked.layout && is_none asked.query.place
+
+-- a report of the lines of an answer as they come
 abbrev pub unarranged : Asked → Answer → List ℕ
-unarranged asked answer = if is_plain asked.layout then report_of asked.query answer else laid_out asked answer
+unarranged asked answer =
+    if is_plain_report asked then report_of asked.query.query answer else laid_out asked answer
 
 -- the report of the answer to the query that is asked: its lines arranged
 abbrev pub formatted : Asked → Answer → List ℕ

@@ -5,11 +5,13 @@ ghost use Rattle.cube_model.specs.Proper.{is_average};
 ghost use Rattle.cube_model.specs.declared.measure.Agg.TheVariants.{Count};
 ghost use Rattle.line_order.specs.Arranging.{arranged};
 ghost use Rattle.report_formats.specs.Arrangements.{arrangement_in, sort_key_in};
-ghost use Rattle.report_formats.specs.Asked.{asked_for, query_for, summed, with_count};
+ghost use Rattle.report_formats.specs.Asked.{asked_for, moded_query_for, query_for, summed, with_count};
+ghost use Rattle.report_formats.specs.Fields.{is_plain_report};
 
 use crate::layout::Layout;
 use cube_model::{Agg, Fault, Items, Query};
 use line_order::{Arranged, Arrangement, SortKey, Sorting};
+use mode_queries::ModeQuery;
 use ssb_reports::Lines;
 use std::alloc::Global;
 
@@ -18,7 +20,7 @@ use std::alloc::Global;
 pub struct Asked {
     pub layout: Layout,
     /// The query to be answered.
-    pub query: Query,
+    pub query: ModeQuery,
     /// The aggregates of the report.
     pub aggregates: Items<Agg>,
     /// The order and the number of its lines. An aggregate is one of the report's.
@@ -33,12 +35,12 @@ impl Asked {
     /// not proper, since it has 9.
     ///
     /// It can only fail when out of memory.
-    pub fn new(alloc: Global, layout: Layout, query: Query) -> Result<Asked, Fault>
+    pub fn new(alloc: Global, layout: Layout, query: ModeQuery) -> Result<Asked, Fault>
         ensures ok { IfOk result (λ asked. asked ≡ asked_for layout query) }
         ensures only { IfErr result (λ fault. fault ≡ Fault.Memory) }
     {
-        let aggregates = Vec::from_slice(alloc, query.aggregates.as_slice())?;
-        let query = query_for(alloc, layout, query)?;
+        let aggregates = Vec::from_slice(alloc, query.query.aggregates.as_slice())?;
+        let query = moded_query_for(alloc, layout, query)?;
         Ok(Asked {
             layout,
             query,
@@ -81,6 +83,13 @@ impl Asked {
         Arranged::new(alloc, lines, self.arrangement_in())
     }
 
+    /// Whether the report is that of a query of the dimensions alone, with bars and with averages as fractions.
+    pub(crate) fn is_plain(&self) -> bool
+        ensures { result ≡ is_plain_report self.now }
+    {
+        self.layout.is_plain() && self.query.place.is_none()
+    }
+
     // The arrangement of the answer's lines.
     fn arrangement_in(&self) -> Arrangement
         ensures { result ≡ arrangement_in self.now }
@@ -121,6 +130,23 @@ impl Asked {
         let aggregates = self.aggregates.as_slice();
         aggregate < aggregates.len() && aggregates[aggregate].is_average()
     }
+}
+
+fn moded_query_for(alloc: Global, layout: Layout, asked: ModeQuery) -> Result<ModeQuery, Fault>
+    ensures ok { IfOk result (λ found. found ≡ moded_query_for layout asked) }
+    ensures only { IfErr result (λ fault. fault ≡ Fault.Memory) }
+{
+    let ModeQuery {
+        query,
+        place,
+        conditions,
+    } = asked;
+    let query = query_for(alloc, layout, query)?;
+    Ok(ModeQuery {
+        query,
+        place,
+        conditions,
+    })
 }
 
 fn query_for(alloc: Global, layout: Layout, query: Query) -> Result<Query, Fault>

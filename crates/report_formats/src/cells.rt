@@ -8,21 +8,33 @@ ghost use Rattle.ssb_reports.specs.Writing.{Writes};
 use crate::decimals::write_decimal;
 use crate::escapes::{Escaping, write_csv_text, write_escaped, write_json_text};
 use crate::layout::{Format, Layout};
-use cube_model::{Agg, Attr, Fault, Value};
+use cube_model::{Agg, Fault, Value};
 use ssb_reports::{Field, write_bytes};
 use std::io::Write;
 
-/// Hands a writer the field of a column: none is ALL.
+/// The name of a column.
+#[derive(Clone, Copy)]
+struct ColumnName<'a>(&'a str);
+
+impl<'a> Field for ColumnName<'a> {
+    ghost text = { λ name. name.0.now };
+
+    fn write_to<W: Write>(&self, out: &mut W) -> Result<(), Fault> {
+        write_bytes(out, self.0.as_bytes())
+    }
+}
+
+/// Hands a writer the field of the column of a name: none is ALL.
 pub(crate) fn write_member_field<W: Write>(
     out: &mut W,
     format: Format,
-    column: Attr,
+    column: &str,
     text: Option<&[u8]>,
 ) -> Result<(), Fault>
     ensures { Writes (W.contents out.old) (W.contents out.new) result
-        (member_field format (column, member_of (option_map (λ one. one.now) text.entry))) }
+        (member_field format (column.now, member_of (option_map (λ one. one.now) text.entry))) }
 {
-    write_name(out, format, &column)?;
+    write_name(out, format, &ColumnName(column))?;
     write_member(out, format, text)
 }
 

@@ -5,8 +5,27 @@ ghost use Rattle.cube_query.specs.GroupLines.{line_at};
 use crate::asked::Asked;
 use crate::cells::{write_member_field, write_value_field};
 use cube_model::{Fault, Value};
-use ssb_reports::{Fields, Lines};
+use mode_queries::ModeQuery;
+use ssb_reports::{Fields, Lines, write_bytes};
 use std::io::Write;
+
+/// The names of the columns of a query.
+#[derive(Clone, Copy)]
+pub(crate) struct ColumnNames<'a>(pub(crate) &'a ModeQuery);
+
+impl<'a> Fields for ColumnNames<'a> {
+    ghost use Rattle.mode_queries.specs.Names.{column_names};
+
+    ghost texts = { λ names. column_names names.0.now };
+
+    fn count(&self) -> usize {
+        self.0.column_count()
+    }
+
+    fn write_field<W: Write>(&self, place: usize, out: &mut W) -> Result<(), Fault> {
+        write_bytes(out, self.0.column_name(place).as_bytes())
+    }
+}
 
 /// The fields of the columns of a line.
 pub(crate) struct MemberFields<'a, L: Lines> {
@@ -34,14 +53,13 @@ impl<'a, L: Lines> Fields for MemberFields<'a, L> {
     fn count(&self) -> usize {
         self.asked
             .query
-            .columns
-            .len()
+            .column_count()
             .min(self.lines.columns(self.place))
     }
 
     fn write_field<W: Write>(&self, place: usize, out: &mut W) -> Result<(), Fault> {
         let asked = self.asked;
-        let column = asked.query.columns.as_slice()[place];
+        let column = asked.query.column_name(place);
         let text = self.lines.text(self.place, place);
         write_member_field(out, asked.layout.format, column, text)
     }

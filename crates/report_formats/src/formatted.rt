@@ -8,7 +8,7 @@ ghost use Rattle.report_formats.specs.Rows.{row_text};
 ghost use Rattle.ssb_reports.specs.Writing.{Writes};
 
 use crate::asked::Asked;
-use crate::fields::{MemberFields, ValueFields};
+use crate::fields::{ColumnNames, MemberFields, ValueFields};
 use crate::layout::Format;
 use cube_model::Fault;
 use ssb_reports::{Fields, Lines, flush, write_bytes, write_count, write_joined, write_report};
@@ -41,14 +41,14 @@ fn write_unarranged<L: Lines, W: Write>(asked: &Asked, lines: &L, out: &mut W) -
     ensures { Writes (W.contents out.old) (W.contents out.new) result
         (unarranged asked.now (record { lines = L.lines lines.now })) }
 {
-    if asked.layout.is_plain() {
-        return write_report(&asked.query, lines, out);
+    if asked.is_plain() {
+        return write_report(&asked.query.query, lines, out);
     }
     write_laid_out(asked, lines, out)?;
     flush(out)
 }
 
-// Hands a writer a report that is none with bars and with averages as fractions.
+// Hands a writer a report with the names of its columns and aggregates, its lines and, with bars, their number.
 fn write_laid_out<L: Lines, W: Write>(asked: &Asked, lines: &L, out: &mut W) -> Result<(), Fault>
     ensures { Writes (W.contents out.old) (W.contents out.new) result
         (laid_out asked.now (record { lines = L.lines lines.now })) }
@@ -61,7 +61,7 @@ fn write_laid_out<L: Lines, W: Write>(asked: &Asked, lines: &L, out: &mut W) -> 
 fn write_header<W: Write>(out: &mut W, asked: &Asked) -> Result<(), Fault>
     ensures { Writes (W.contents out.old) (W.contents out.new) result (header_text asked.now) }
 {
-    let columns = asked.query.columns.as_slice();
+    let columns = ColumnNames(&asked.query);
     let aggregates = asked.aggregates.as_slice();
     match asked.layout.format {
         Format::Json => Ok(()),

@@ -6,9 +6,11 @@ use Rattle.partial_reports.specs.declared.words.Word.{Word}
 use Rattle.partial_reports.specs.declared.words.WordKind.{WordKind}
 use Rattle.partial_reports.specs.declared.words.WordKind.TheVariants.{Q, Set, By, Agg, If}
 use Rattle.partial_reports.specs.Head.{word_if_any, words_given}
-use Rattle.cube_model.specs.Proper.{IsProper}
+use Rattle.mode_queries.specs.declared.query.ModeQuery.{ModeQuery}
+use Rattle.mode_queries.specs.Lawful.{without_modes}
+use Rattle.mode_queries.specs.Proper.{IsProperByModes}
 use Rattle.query_words.specs.Laws.{SpellOneQuery}
-use Rattle.query_words.specs.Words.{SpellsQuery, Words}
+use Rattle.query_words.specs.Words.{SpellsProper, SpellsQuery, Words}
 use Rattle.report_merge.specs.Given.{AreUtf8}
 use Rattle.report_merge.specs.Merging.{SpellsWords}
 
@@ -130,33 +132,28 @@ pub one_query : SpellOneQuery → (list : List Word) (one other : Query) → Spe
     → one ≡ other
 one_query law list one other first second =
     let same : first.words ≡ second.words = same_words first.words second.words (sym first.are ∙ second.are) in
-    law first.words one other first.spelled (subst (λ words. SpellsQuery words other) (sym same) second.spelled)
+    ap (λ (asked : ModeQuery). asked.query)
+    (law first.words (without_modes one) (without_modes other) first.spelled
+    (subst (λ words. SpellsQuery words (without_modes other)) (sym same) second.spelled))
 
--- a query that words spell, once it is found to be one that may be asked
-pub spelled_if : {E : Type 0} (found : Result Query E) (list : List Word) (words : Words) (query : Query)
-    → list ≡ words_given words.q words.set words.by words.agg words.conditions → AreUtf8 list → SpellsQuery words query
-    → IfOk found (λ one. one ≡ query) → IfOk found IsProper
-    → IfOk found (SpellsWords list)
-spelled_if (Ok one) list words query are utf8 spelled same asked =
+pub spelled_by : (list : List Word) (words : Words) (other : Query)
+    → list ≡ words_given words.q words.set words.by words.agg words.conditions
+    → SpellsWords list other → SpellsQuery words (without_modes other)
+spelled_by list words other are spells =
+    subst (λ (w : Words). SpellsQuery w (without_modes other)) (same_words spells.words words (sym spells.are ∙ are))
+    spells.spelled
+
+-- what words spell, where it does not look at ship modes
+pub spelled_if : {E : Type 0} (found : Result Query E) (list : List Word) (words : Words) (asked : ModeQuery)
+    → list ≡ words_given words.q words.set words.by words.agg words.conditions → AreUtf8 list
+    → SpellsProper words asked → IfOk found (λ query. asked ≡ without_modes query) → IfOk found (SpellsWords list)
+spelled_if (Ok query) list words asked are utf8 spelled plain =
+    let proper : IsProperByModes (without_modes query) = subst IsProperByModes plain spelled.1 in
     record {
       words = words;
       utf8 = utf8;
       are = are;
-      spelled = subst (SpellsQuery words) (sym same) spelled;
-      asked = asked;
+      spelled = subst (SpellsQuery words) plain spelled.0;
+      asked = proper.without;
     }
-spelled_if (Err refused) list words query are utf8 spelled same asked = tt
-
--- words that spell a query as they were given spell the one that is read of them
-pub read_of_words : SpellOneQuery → (list : List Word) (words : Words) (query other : Query)
-    → list ≡ words_given words.q words.set words.by words.agg words.conditions
-    → SpellsQuery words query → SpellsWords list other → other ≡ query
-read_of_words law list words query other are spelled spells =
-    let same : words ≡ spells.words = same_words words spells.words (sym are ∙ spells.are) in
-    law words other query (subst (λ (w : Words). SpellsQuery w other) (sym same) spells.spelled) spelled
-
-pub spelled_by : (list : List Word) (words : Words) (other : Query)
-    → list ≡ words_given words.q words.set words.by words.agg words.conditions
-    → SpellsWords list other → SpellsQuery words other
-spelled_by list words other are spells =
-    subst (λ (w : Words). SpellsQuery w other) (same_words spells.words words (sym spells.are ∙ are)) spells.spelled
+spelled_if (Err refused) list words asked are utf8 spelled plain = tt

@@ -1,11 +1,14 @@
 -- Why texts are not merged.
-use Rattle.std.proofs.Common.{◌≡◌, ◌∙◌, sym, ap, refl, subst, ℕ, true, List, length, ◌⊎◌, inl, inr}
-use Rattle.std.specs.Prelude.{◌&&◌, nat_le, nat_lt, Err}
+use Rattle.std.proofs.Common.{◌≡◌, ◌∙◌, sym, ap, refl, subst, ℕ, true, List, length, ◌⊎◌, inl, inr, IfErr}
+use Rattle.std.specs.Prelude.{◌&&◌, nat_le, nat_lt, Result, Ok, Err}
 use Rattle.std.specs.List.{list_all}
 use Rattle.cube_model.specs.declared.query.Query.{Query}
 use Rattle.answer_merge.specs.Lawful.{ReportsReadBack}
 use Rattle.answer_merge.specs.Parts.{partial_query}
 use Rattle.answer_merge.specs.Readable.{IsReadableAnswer}
+use Rattle.mode_queries.specs.declared.query.ModeQuery.{ModeQuery}
+use Rattle.mode_queries.specs.Lawful.{without_modes}
+use Rattle.mode_queries.proofs.CallerLemmas.{proper_without}
 use Rattle.partial_reports.specs.declared.head.Head.{Head}
 use Rattle.partial_reports.specs.declared.refused.Refused.{Refused as Unread}
 use Rattle.partial_reports.specs.declared.refused.Refused.TheVariants.{Memory as NoMemory, At as WrongAt}
@@ -18,7 +21,7 @@ use Rattle.query_words.specs.declared.refused.Refused.TheVariants.{NoAggregate, 
 use Rattle.query_words.specs.Laws.{SpellOneQuery}
 use Rattle.query_words.specs.Mistakes.{IsMistakeOf}
 use Rattle.query_words.specs.Reading.{Reads}
-use Rattle.query_words.specs.Words.{SpellsProper, Words}
+use Rattle.query_words.specs.Words.{SpellsProper, SpellsQuery, Words}
 use Rattle.ssb_reports.specs.Report.{report_of}
 use Rattle.report_merge.specs.declared.refused.Refused.{Refused}
 use Rattle.report_merge.specs.declared.refused.Refused.TheVariants.{Memory, Input, At, OtherWords, OtherParts}
@@ -100,7 +103,19 @@ unread_words given words refused was are (inl memory) is = subst (WordsRefuse gi
 unread_words given words refused was are (inr wrong) is =
     let either = subst (λ (one : Refused). (one ≡ Memory) ⊎ (one ≡ no_query)) (sym is) (unspelled_either was) in
     words_refused given refused either
-    (λ query spells. absurd (wrong.1 query (spelled_by given words query are spells, spells.asked)))
+    (λ query spells. absurd (wrong.1 (without_modes query)
+    (spelled_by given words query are spells, proper_without query spells.asked)))
+
+-- words that spell a query that looks at ship modes spell none of the dimensions alone
+pub moded_words : SpellOneQuery → (found : Result Query Refused) (given : List Word) (words : Words)
+    (asked : ModeQuery) → given ≡ words_given words.q words.set words.by words.agg words.conditions
+    → SpellsQuery words asked
+    → IfErr found (λ refused. (refused ≡ no_query) × ((query : Query) → asked ≡ without_modes query → ⊥))
+    → IfErr found (WordsRefuse given)
+moded_words law (Ok query) given words asked are spelled is = tt
+moded_words law (Err refused) given words asked are spelled is =
+    words_refused given refused (inr is.0) (λ query spells. absurd
+    (is.1 query (law words asked (without_modes query) spelled (spelled_by given words query are spells))))
 
 -- a text whose words are refused is no first part
 pub new_words : (text : List ℕ) (words : List Word) (refused : Refused) → WordsRefuse words refused

@@ -32,7 +32,7 @@ pub record IsNextGiven (kind : WordKind) (words : List Word) (text : Option (Lis
 abbrev pub AreConditions : List Word → Type 0
 AreConditions words = AllByRecursion (λ word. (word.kind ≡ If) × IsUtf8 word.text) words
 
--- the words are no query's. They begin in the fourth line
+-- the words are those of no query of the dimensions alone. They begin in the fourth line
 abbrev pub no_query : Refused
 no_query = At 4 wrong.Words
 

@@ -11,6 +11,7 @@ use Rattle.cube_model.specs.Proper.{IsProper}
 use Rattle.answer_merge.specs.Merges.{merged_answer}
 use Rattle.answer_merge.specs.Parts.{partial_query}
 use Rattle.answer_merge.specs.Readable.{IsReadableAnswer}
+use Rattle.mode_queries.specs.Lawful.{without_modes}
 use Rattle.partial_reports.specs.declared.head.Head.{Head}
 use Rattle.partial_reports.specs.declared.words.Word.{Word}
 use Rattle.partial_reports.specs.Head.{head_text, is_proper, words_given}
@@ -26,12 +27,12 @@ pub record Part : Type 0 where
   pub query : Query
   pub answer : Answer
 
--- words as they were given, which are UTF-8, spell a query that may be asked
+-- words as they were given, which are UTF-8, spell a query that may be asked and does not look at ship modes
 pub record SpellsWords (given : List Word) (query : Query) : Type 0 where
   pub words : Words
   pub utf8 : AllByRecursion (λ word. IsUtf8 word.text) given
   pub are : given ≡ words_given words.q words.set words.by words.agg words.conditions
-  pub spelled : SpellsQuery words query
+  pub spelled : SpellsQuery words (without_modes query)
   pub asked : IsProper query
 
 -- a text is the partial report of a part

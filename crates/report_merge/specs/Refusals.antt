@@ -22,7 +22,7 @@ abbrev pub refused_of : Unread → Refused
 refused_of NoMemory = Memory
 refused_of (WrongAt line wrong) = At line wrong
 
--- words spell no query that may be asked, or memory ran out
+-- words spell no query of the dimensions alone that may be asked, or memory ran out
 abbrev pub WordsRefuse : List Word → Refused → Type 0
 WordsRefuse words Memory = Unit {0}
 WordsRefuse words (At line wrong) = (query : Query) → SpellsWords words query → ⊥

@@ -3,6 +3,7 @@ ghost use Rattle.std.specs.Prelude.{◌≡◌, ◌<◌, ◌++◌, ℕ, length, s
 ghost use Rattle.answer_merge.specs.Finishing.{CanBeFinished, FinishRefuses};
 ghost use Rattle.answer_merge.specs.Parts.{partial_query};
 ghost use Rattle.answer_merge.specs.Wide.{lines_of};
+ghost use Rattle.mode_queries.specs.Lawful.{without_modes};
 ghost use Rattle.partial_reports.specs.Head.{head_text};
 ghost use Rattle.report_formats.specs.Asked.{asked_for, query_for};
 ghost use Rattle.report_merge.specs.Finishing.{finished_for, partial_for};
@@ -22,6 +23,7 @@ use crate::refused::Refused;
 use crate::words::{are_same, queries_of};
 use answer_merge::{WideLine, merge_in, widened};
 use cube_model::{Answer, Fault, Items, Query};
+use mode_queries::ModeQuery;
 use partial_reports::{Head, HeadRead, head_text, heads_read_back, read_answer, read_head};
 use query_words::words_spell_one_query;
 use report_formats::{Asked, Layout};
@@ -167,7 +169,7 @@ impl Merge {
     ///
     /// `SumRange` and `TooManyRows` where a number passes 64 bits, `BadLayout` where a line counts no row; or `Memory`.
     pub fn finish(self, alloc: Global, layout: Layout) -> Result<(Asked, Answer), Fault>
-        ensures asked { IfOk result (λ done. done.0 ≡ asked_for layout self.query) }
+        ensures asked { IfOk result (λ done. done.0 ≡ asked_for layout (without_modes self.query)) }
         ensures answer { IfOk result (λ done. done.1 ≡ finished_for layout self.query self.answer) }
         ensures complete { CanBeFinished self.answer → IfErr result (λ fault. fault ≡ Fault.Memory) }
         ensures refused { IfErr result
@@ -181,9 +183,9 @@ impl Merge {
             lines,
         } = self;
         let counts = asks_for_counts(layout, &query);
-        let asked = Asked::new(alloc, layout, query)?;
+        let asked = Asked::new(alloc, layout, ModeQuery::without_modes(alloc, query))?;
         let lines = counted_lines(alloc, counts, lines)?;
-        let answer = finished(alloc, &asked.query, lines)?;
+        let answer = finished(alloc, &asked.query.query, lines)?;
         Ok((asked, answer))
     }
 

@@ -50,7 +50,7 @@ impl Refused {
         }
     }
 
-    // That the words of a head spell no query that may be asked. They begin in the fourth line.
+    // That the words of a head spell no query of the dimensions alone that may be asked. They begin in the fourth line.
     pub(crate) fn no_query() -> Refused
         ensures { result ≡ no_query }
     {

@@ -1,9 +1,10 @@
-//! The query that the words of a head spell.
+//! The query that the words of a head spell. It is one of the dimensions alone.
 ghost use Rattle.std.specs.Prelude.{◌≡◌, ◌⊎◌, ◌↔◌, ◌++◌, ℕ, List, map, IfErr, IfOk, IsOkAnd, IsTrue, Option, Some};
 ghost use Rattle.std.specs.Prelude.{None};
 ghost use Rattle.std.specs.Option.{option_map};
 ghost use Rattle.cube_model.specs.declared.query.Query.{Query};
 ghost use Rattle.answer_merge.specs.Parts.{partial_query};
+ghost use Rattle.mode_queries.specs.Lawful.{without_modes};
 ghost use Rattle.partial_reports.specs.declared.words.WordKind.TheVariants.{If};
 ghost use Rattle.std.specs.Str.{IsUtf8};
 ghost use Rattle.partial_reports.specs.declared.words.Word.{Word};
@@ -16,12 +17,13 @@ ghost use Rattle.report_merge.specs.Refusals.{UnlessMemory, WordsRefuse};
 use crate::refused::Refused;
 use answer_merge::partial_query;
 use cube_model::Query;
+use mode_queries::ModeQuery;
 use partial_reports::{Word, WordKind};
 use query_words::{QueryWords, read_query, words_spell_one_query};
 use std::alloc::Global;
 
 /// The query that words spell, and that for its partial answers. `At` the fourth line where they spell none that may be
-/// asked; or `Memory`.
+/// asked, or one that looks at ship modes; or `Memory`.
 pub(crate) fn queries_of(alloc: Global, words: &[Word]) -> Result<(Query, Query), Refused>
     ensures query { IfOk result (λ both. SpellsWords words.now both.0) }
     ensures partial { IfOk result (λ both. both.1 ≡ partial_query both.0) }
@@ -54,8 +56,20 @@ fn query_of(alloc: Global, words: &[Word]) -> Result<Query, Refused>
         agg,
         conditions: conditions.as_slice(),
     };
-    let query = read_query(alloc, &words)?;
-    Ok(query)
+    let asked = read_query(alloc, &words)?;
+    plain_of(asked)
+}
+
+// The query that is asked, where it does not look at ship modes.
+fn plain_of(asked: ModeQuery) -> Result<Query, Refused>
+    ensures ok { IfOk result (λ query. asked ≡ without_modes query) }
+    ensures refused { IfErr result (λ refused. (refused ≡ no_query)
+        × ((query : Query) → asked ≡ without_modes query → ⊥)) }
+{
+    match asked.into_plain() {
+        Some(query) => Ok(query),
+        None => Err(Refused::no_query()),
+    }
 }
 
 // The text of the first word where it is of a kind, and the words after it.

@@ -1,6 +1,6 @@
 -- The words of a query in bytes, and the report of it. Our own.
 use Rattle.std.specs.Prelude.{◌≡◌, ℕ, nat_eq, if◌then◌else◌, List, [], length, Option, None, Some}
-use Rattle.cube_model.specs.declared.query.Query.{Query}
+use Rattle.mode_queries.specs.declared.query.ModeQuery.{ModeQuery}
 use Rattle.query_words.specs.Words.{SpellsQuery, Words, parts_by}
 use Rattle.report_formats.specs.declared.asked.Asked.{Asked}
 use Rattle.report_formats.specs.declared.layout.Layout.{Layout}
@@ -29,4 +29,4 @@ cube_words set by agg conditions =
 
 -- the report of the query that words spell
 abbrev pub IsReportOf : Words → Layout → Asked → Type 0
-IsReportOf words layout asked = (query : Query) × SpellsQuery words query × (asked ≡ asked_for layout query)
+IsReportOf words layout asked = (query : ModeQuery) × SpellsQuery words query × (asked ≡ asked_for layout query)

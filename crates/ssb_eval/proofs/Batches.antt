@@ -9,20 +9,20 @@ use Rattle.batch_loader.specs.Rows.{rows_of, row_before, next_number, number_aft
 use Rattle.batch_loader.specs.Tables.{lineorder_row}
 use Rattle.batch_loader.specs.Reading.{TakesRows, IsFirstFault}
 use Rattle.cube_model.specs.declared.answer.Answer.{Answer}
-use Rattle.cube_model.specs.Answers.{answer}
 use Rattle.cube_model.specs.declared.fault.Fault.{Fault}
 use Rattle.cube_model.specs.declared.fault.Fault.TheVariants.{Memory, Input}
-use Rattle.cube_model.specs.declared.query.Query.{Query}
 use Rattle.cube_model.specs.declared.rows.DimRows.{DimRows}
 use Rattle.cube_model.specs.declared.rows.LineOrder.{LineOrder}
 use Rattle.cube_model.specs.Admission.{all_rows, moded_refusal}
 use Rattle.cube_model.specs.Limits.{most_batch_rows}
-use Rattle.cube_query.specs.Groups.{FoldState, RepresentsRows}
 use Rattle.batch_admission.specs.Accepted.{Accepted, HasAccepted}
 use Rattle.batch_admission.specs.Found.{Found, cause_of}
-use Rattle.cube_query.specs.GroupLines.{answer_over}
-use Rattle.cube_query.specs.declared.finished.Groups.{Groups}
-use Rattle.ssb_eval.specs.Evaluation.{facts_after, facts_of, answer_in, answer_of, Gives}
+use Rattle.mode_folds.specs.Answered.{answered_over}
+use Rattle.mode_folds.specs.declared.answered.Answered.{Answered}
+use Rattle.mode_folds.specs.States.{ModeFoldState, RepresentsModeRows}
+use Rattle.mode_queries.specs.Answers.{moded_answer}
+use Rattle.mode_queries.specs.declared.query.ModeQuery.{ModeQuery}
+use Rattle.ssb_eval.specs.Evaluation.{facts_after, facts_of, answer_in, moded_answer_of, Gives}
 use Rattle.ssb_eval.specs.BatchLoop.{AreTaken, FoldsFacts, IsBegun, LeavesFacts}
 use Rattle.batch_admission.proofs.CallerLemmas.{all_rows-last, in_range, known_both, passes, passes-found}
 use Rattle.ssb_eval.proofs.Admitting.{plain}
@@ -105,14 +105,14 @@ facts-more dimensions batches number (line ∷ lines) rows some e =
     (parts_of most_batch_rows (drop most_batch_rows (line ∷ lines)))))) e
 
 -- a batch in which nothing was found is among those that were taken, once it is accepted
-pub taken_more : (dimensions : DimRows) (query : Query) (accepted next : Accepted) (fold more : FoldState)
+pub taken_more : (dimensions : DimRows) (asked : ModeQuery) (accepted next : Accepted) (fold more : ModeFoldState)
     (batches : List (List LineOrder)) (rows : List LineOrder) (found : Found)
-    → AreTaken dimensions query accepted fold batches → moded_refusal dimensions batches (length batches + 1) rows
+    → AreTaken dimensions asked accepted fold batches → moded_refusal dimensions batches (length batches + 1) rows
     ≡ None
     → HasAccepted next (batches ++ rows ∷ [])
-    → IsBegun dimensions query (all_rows batches) rows found more
-    → AreTaken dimensions query next more (batches ++ rows ∷ [])
-taken_more dimensions query accepted next fold more batches rows found taken passed represents begun =
+    → IsBegun dimensions asked (all_rows batches) rows found more
+    → AreTaken dimensions asked next more (batches ++ rows ∷ [])
+taken_more dimensions asked accepted next fold more batches rows found taken passed represents begun =
     let not_refused = plain dimensions batches (length batches + 1) rows passed in
     let pass = passes dimensions batches (length batches + 1) rows not_refused in
     let nothing = passes-found dimensions batches (length batches + 1) rows not_refused in
@@ -167,33 +167,34 @@ leaves_on dimensions text batches number next (Some left) (Some rest) rows some 
     leaves_more dimensions text batches number next left rest rows some before taken counted accepted
 
 -- The end of a fold over batches: a batch that cannot be read
-pub gives-unread : (query : Query) (dimensions : DimRows) (text : List ℕ) (batches : List (List LineOrder)) (number : ℕ)
-    (left : Option (List ℕ)) (fault : Fault) (result : Result Answer Fault)
+pub gives-unread : (asked : ModeQuery) (dimensions : DimRows) (text : List ℕ) (batches : List (List LineOrder))
+    (number : ℕ) (left : Option (List ℕ)) (fault : Fault) (result : Result Answer Fault)
     → LeavesFacts dimensions text batches number left → (fault ≡ Memory)
     ⊎ ((fault ≡ Input) ⊎ IsFirstFault lineorder_row most_batch_rows number left fault) → (y : Fault) × (result ≡ Err y)
-    × (y ≡ fault) → Gives (answer_of query dimensions text) result
-gives-unread query dimensions text batches number None fault result before why stop = absurd before
-gives-unread query dimensions text batches number (Some left) fault result before (inl memory) stop =
+    × (y ≡ fault) → Gives (moded_answer_of asked dimensions text) result
+gives-unread asked dimensions text batches number None fault result before why stop = absurd before
+gives-unread asked dimensions text batches number (Some left) fault result before (inl memory) stop =
     rw (stop.1, stop.2) (inl memory)
-gives-unread query dimensions text batches number (Some left) fault result before (inr (inl input)) stop =
+gives-unread asked dimensions text batches number (Some left) fault result before (inr (inl input)) stop =
     rw (stop.1, stop.2) (inr (inl input))
-gives-unread query dimensions text batches number (Some left) fault result before (inr (inr refused)) stop =
+gives-unread asked dimensions text batches number (Some left) fault result before (inr (inr refused)) stop =
     let found : facts_of dimensions text ≡ Err fault = before
     ∙ facts-fault dimensions batches (next_number number) (lines_of left) fault refused in
-    rw (stop.1, stop.2) (inr (inr (ap (λ facts. and_then facts (λ rows. Ok (answer query dimensions rows))) found)))
+    rw (stop.1, stop.2)
+    (inr (inr (ap (λ facts. and_then facts (λ rows. Ok (moded_answer asked dimensions rows))) found)))
 
 -- one that is refused
-pub gives-refused : (query : Query) (dimensions : DimRows) (text : List ℕ) (batches : List (List LineOrder))
+pub gives-refused : (asked : ModeQuery) (dimensions : DimRows) (text : List ℕ) (batches : List (List LineOrder))
     (number place : ℕ) (left rest : Option (List ℕ)) (rows : List LineOrder) (fault : Fault)
     (result : Result Answer Fault) → LeavesFacts dimensions text batches number left
     → TakesRows lineorder_row most_batch_rows number left rest rows → 1 ≤ length rows → place ≡ length batches + 1
     → Some fault ≡ moded_refusal dimensions batches place rows → (y : Fault) × (result ≡ Err y) × (y ≡ fault)
-    → Gives (answer_of query dimensions text) result
-gives-refused query dimensions text batches number place None rest rows fault result before taken some next refused
+    → Gives (moded_answer_of asked dimensions text) result
+gives-refused asked dimensions text batches number place None rest rows fault result before taken some next refused
     stop = absurd before
-gives-refused query dimensions text batches number place (Some left) None rows fault result before taken some next
+gives-refused asked dimensions text batches number place (Some left) None rows fault result before taken some next
     refused stop = absurd taken
-gives-refused query dimensions text batches number place (Some left) (Some rest) rows fault result before (read, others)
+gives-refused asked dimensions text batches number place (Some left) (Some rest) rows fault result before (read, others)
     some next refused stop =
     let cause : moded_refusal dimensions batches (length batches + 1) rows ≡ Some fault =
     ap (λ n. moded_refusal dimensions batches n rows) (sym next) ∙ sym refused in
@@ -202,7 +203,8 @@ gives-refused query dimensions text batches number place (Some left) (Some rest)
     ∙ ap (λ one. unless one
     (facts_after dimensions (batches ++ rows ∷ []) (number_after (length rows) (next_number number))
     (parts_of most_batch_rows (drop most_batch_rows (lines_of left))))) cause in
-    rw (stop.1, stop.2) (inr (inr (ap (λ facts. and_then facts (λ rows. Ok (answer query dimensions rows))) found)))
+    rw (stop.1, stop.2)
+    (inr (inr (ap (λ facts. and_then facts (λ rows. Ok (moded_answer asked dimensions rows))) found)))
 
 -- and the end of the text
 pub facts-done : (dimensions : DimRows) (text : List ℕ) (batches : List (List LineOrder)) (number : ℕ)
@@ -213,26 +215,26 @@ facts-done dimensions text batches number (Some left) None before takes = absurd
 facts-done dimensions text batches number (Some left) (Some rest) before takes = before
     ∙ facts-end dimensions batches (next_number number) (lines_of left) takes.0
 
-pub folds-stopped : (query : Query) (dimensions : DimRows) (text : List ℕ) (fold : FoldState) (fault : Fault)
+pub folds-stopped : (asked : ModeQuery) (dimensions : DimRows) (text : List ℕ) (fold : ModeFoldState) (fault : Fault)
     (result : Result Unit Fault) → (y : Fault) × (result ≡ Err y) × (y ≡ fault)
-    → Gives (answer_of query dimensions text) (Err fault) → FoldsFacts query dimensions text fold result
-folds-stopped query dimensions text fold fault result stop gives = rw (stop.1, stop.2) gives
+    → Gives (moded_answer_of asked dimensions text) (Err fault) → FoldsFacts asked dimensions text fold result
+folds-stopped asked dimensions text fold fault result stop gives = rw (stop.1, stop.2) gives
 
--- the groups of a fold give the answer over the facts that it took
-pub gives-groups : (query : Query) (dimensions : DimRows) (text : List ℕ) (fold : FoldState)
-    (result : Result Groups Fault) → fold.query ≡ query → FoldsFacts query dimensions text fold (Ok tt)
-    → IfOk result (λ groups. (rows : List LineOrder) → RepresentsRows dimensions fold rows
-    → answer_over dimensions groups ≡ answer fold.query dimensions rows) → IfErr result (λ fault. fault ≡ Memory)
-    → Gives (answer_of query dimensions text) (answer_in dimensions result)
-gives-groups query dimensions text fold (Err fault) same folded answers only = inl only
-gives-groups query dimensions text fold (Ok groups) same folded answers only =
-    let found : answer_over dimensions groups ≡ answer query dimensions folded.0 =
-    answers folded.0 folded.2 ∙ ap (λ q. answer q dimensions folded.0) same in
-    ap (λ facts. and_then facts (λ rows. Ok (answer query dimensions rows))) folded.1 ∙ ap Ok (sym found)
+-- a fold gives the answer over the facts that it took
+pub gives-answered : (asked : ModeQuery) (dimensions : DimRows) (text : List ℕ) (fold : ModeFoldState)
+    (result : Result Answered Fault) → fold.asked ≡ asked → FoldsFacts asked dimensions text fold (Ok tt)
+    → IfOk result (λ found. (rows : List LineOrder) → RepresentsModeRows dimensions fold rows
+    → answered_over dimensions found ≡ moded_answer fold.asked dimensions rows) → IfErr result (λ fault. fault ≡ Memory)
+    → Gives (moded_answer_of asked dimensions text) (answer_in dimensions result)
+gives-answered asked dimensions text fold (Err fault) same folded answers only = inl only
+gives-answered asked dimensions text fold (Ok answered) same folded answers only =
+    let found : answered_over dimensions answered ≡ moded_answer asked dimensions folded.0 =
+    answers folded.0 folded.2 ∙ ap (λ q. moded_answer q dimensions folded.0) same in
+    ap (λ facts. and_then facts (λ rows. Ok (moded_answer asked dimensions rows))) folded.1 ∙ ap Ok (sym found)
 
--- nothing was folded, and there are no groups
-pub gives-no_groups : (query : Query) (dimensions : DimRows) (text : List ℕ) (fault : Fault)
-    (result : Result Groups Fault) → (y : Fault) × (result ≡ Err y) × (y ≡ fault)
-    → Gives (answer_of query dimensions text) (Err fault)
-    → Gives (answer_of query dimensions text) (answer_in dimensions result)
-gives-no_groups query dimensions text fault result stop gives = rw (stop.1, stop.2) gives
+-- nothing was folded, and there is no answer
+pub gives-nothing : (asked : ModeQuery) (dimensions : DimRows) (text : List ℕ) (fault : Fault)
+    (result : Result Answered Fault) → (y : Fault) × (result ≡ Err y) × (y ≡ fault)
+    → Gives (moded_answer_of asked dimensions text) (Err fault)
+    → Gives (moded_answer_of asked dimensions text) (answer_in dimensions result)
+gives-nothing asked dimensions text fault result stop gives = rw (stop.1, stop.2) gives

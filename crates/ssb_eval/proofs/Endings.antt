@@ -1,5 +1,6 @@
 -- How an evaluation ends.
-use Rattle.std.proofs.Common.{◌≡◌, ⊎_elim, ℕ, inl, inr, List, Option, Some, None, Result, Ok, Err, refl, ap}
+use Rattle.std.proofs.Common.{◌≡◌, ⊎_elim, ℕ, inl, inr, List, Option, Some, None, Result, Ok, Err, refl}
+use Rattle.std.proofs.Common.{sym, ap, subst, ◌∙◌}
 use Rattle.std.specs.Io.KnownBytes.{Keeps}
 use Rattle.batch_loader.specs.Outcomes.{and_then}
 use Rattle.cube_model.specs.declared.fault.Fault.{Fault}
@@ -7,14 +8,22 @@ use Rattle.cube_model.specs.declared.fault.Fault.TheVariants.{Memory}
 use Rattle.cube_model.specs.declared.query.Query.{Query}
 use Rattle.cube_model.specs.declared.answer.Answer.{Answer}
 use Rattle.cube_model.specs.declared.rows.DimRows.{DimRows}
+use Rattle.cube_model.specs.declared.rows.LineOrder.{LineOrder}
+use Rattle.cube_model.specs.Answers.{answer}
 use Rattle.report_formats.specs.Arranged.{WritesOrLacksMemory}
-use Rattle.ssb_eval.specs.Evaluation.{Evaluates, Gives, Reports, Texts, answer_of, dimensions_of, eval_as}
+use Rattle.mode_queries.specs.Answers.{moded_answer}
+use Rattle.mode_queries.specs.Lawful.{without_modes}
+use Rattle.mode_queries.proofs.CallerLemmas.{answers_without_ship_modes}
+use Rattle.ssb_eval.specs.declared.star.Evaluated.{Evaluated}
+use Rattle.ssb_eval.specs.Evaluation.{Evaluates, Gives, Reports, Texts, answer_of, dimensions_of, eval_as, facts_of}
+use Rattle.ssb_eval.specs.Evaluation.{moded_answer_of}
 use Rattle.ssb_eval.proofs.TableSteps.{gives-on, gives-stop}
 use Rattle.ssb_reports.specs.Writing.{Writes}
 
 -- the text over dimensions
-abbrev text_over : (Answer → List ℕ) → Query → Texts → DimRows → Result (List ℕ) Fault
-text_over text query texts dimensions = and_then (answer_of query dimensions texts.lineorder) (λ found. Ok (text found))
+abbrev text_over : (Answer → List ℕ) → (DimRows → List ℕ → Result Answer Fault) → Texts → DimRows
+    → Result (List ℕ) Fault
+text_over text answered texts dimensions = and_then (answered dimensions texts.lineorder) (λ found. Ok (text found))
 
 keeps_same : (known : Option (List ℕ)) → Keeps known known
 keeps_same None = tt
@@ -54,31 +63,54 @@ pub reports-memory : {A : Type 0} (known : Option (List ℕ)) (outcome : Result 
 reports-memory known outcome fault result stop memory = rw (stop.1, stop.2) (inr (keeps_same known, inl memory))
 
 -- the dimensions were refused
-eval-no_dims : (text : Answer → List ℕ) (query : Query) (texts : Texts) (fault : Fault)
-    → Gives (dimensions_of texts) (Err fault) → Gives (eval_as text query texts) (Err fault)
-eval-no_dims text query texts fault gives =
-    gives-stop (dimensions_of texts) (text_over text query texts) fault (Err fault) (fault, refl, refl) gives
+eval-no_dims : (text : Answer → List ℕ) (answered : DimRows → List ℕ → Result Answer Fault) (texts : Texts)
+    (fault : Fault) → Gives (dimensions_of texts) (Err fault) → Gives (eval_as text answered texts) (Err fault)
+eval-no_dims text answered texts fault gives =
+    gives-stop (dimensions_of texts) (text_over text answered texts) fault (Err fault) (fault, refl, refl) gives
 
 -- the facts were refused
-eval-no_answer : (text : Answer → List ℕ) (query : Query) (texts : Texts) (dimensions : DimRows) (fault : Fault)
-    → dimensions_of texts ≡ Ok dimensions → Gives (answer_of query dimensions texts.lineorder) (Err fault)
-    → Gives (eval_as text query texts) (Err fault)
-eval-no_answer text query texts dimensions fault is gives =
-    gives-on (dimensions_of texts) (text_over text query texts) dimensions (Err fault) is
-    (gives-stop (answer_of query dimensions texts.lineorder) (λ found. Ok (text found)) fault (Err fault)
+eval-no_answer : (text : Answer → List ℕ) (answered : DimRows → List ℕ → Result Answer Fault) (texts : Texts)
+    (dimensions : DimRows) (fault : Fault) → dimensions_of texts ≡ Ok dimensions
+    → Gives (answered dimensions texts.lineorder) (Err fault)
+    → Gives (eval_as text answered texts) (Err fault)
+eval-no_answer text answered texts dimensions fault is gives =
+    gives-on (dimensions_of texts) (text_over text answered texts) dimensions (Err fault) is
+    (gives-stop (answered dimensions texts.lineorder) (λ found. Ok (text found)) fault (Err fault)
     (fault, refl, refl) gives)
 
 -- the text is that of the answer
-pub eval-is : (text : Answer → List ℕ) (query : Query) (texts : Texts) (dimensions : DimRows) (answer : Answer)
-    → dimensions_of texts ≡ Ok dimensions → answer_of query dimensions texts.lineorder ≡ Ok answer
-    → eval_as text query texts ≡ Ok (text answer)
-eval-is text query texts dimensions answer is found =
-    gives-on (dimensions_of texts) (text_over text query texts) dimensions (Ok (text answer)) is
-    (ap (λ one. and_then one (λ answer. Ok (text answer))) found)
+pub eval-is : (text : Answer → List ℕ) (answered : DimRows → List ℕ → Result Answer Fault) (texts : Texts)
+    (dimensions : DimRows) (found : Answer)
+    → dimensions_of texts ≡ Ok dimensions → answered dimensions texts.lineorder ≡ Ok found
+    → eval_as text answered texts ≡ Ok (text found)
+eval-is text answered texts dimensions found is gives =
+    gives-on (dimensions_of texts) (text_over text answered texts) dimensions (Ok (text found)) is
+    (ap (λ one. and_then one (λ found. Ok (text found))) gives)
 
 -- the dimensions or the facts were refused
-pub eval-refused : (text : Answer → List ℕ) (query : Query) (texts : Texts) (fault : Fault)
-    → Evaluates query texts (Err fault) → Gives (eval_as text query texts) (Err fault)
-eval-refused text query texts fault (inl dims) = eval-no_dims text query texts fault dims
-eval-refused text query texts fault (inr (dimensions, is, facts)) =
-    eval-no_answer text query texts dimensions fault is facts
+pub eval-refused : (text : Answer → List ℕ) (answered : DimRows → List ℕ → Result Answer Fault) (texts : Texts)
+    (fault : Fault) → Evaluates answered texts (Err fault) → Gives (eval_as text answered texts) (Err fault)
+eval-refused text answered texts fault (inl dims) = eval-no_dims text answered texts fault dims
+eval-refused text answered texts fault (inr (dimensions, is, facts)) =
+    eval-no_answer text answered texts dimensions fault is facts
+
+-- ---- a query that does not look at ship modes
+
+-- the answer is that to it as a query of the dimensions alone
+answer-is : (query : Query) (dimensions : DimRows) (text : List ℕ)
+    → moded_answer_of (without_modes query) dimensions text ≡ answer_of query dimensions text
+answer-is query dimensions text =
+    by (facts_of dimensions text)
+  where
+    by : (facts : Result (List LineOrder) Fault)
+        → and_then facts (λ rows. Ok (moded_answer (without_modes query) dimensions rows))
+        ≡ and_then facts (λ rows. Ok (answer query dimensions rows))
+    by (Ok rows) = ap (λ a. Ok a) (answers_without_ship_modes query dimensions rows)
+    by (Err fault) = refl
+
+pub evaluates-plain : (query : Query) (texts : Texts) (result : Result Evaluated Fault)
+    → Evaluates (moded_answer_of (without_modes query)) texts result → Evaluates (answer_of query) texts result
+evaluates-plain query texts (Ok found) (dims, is) = (dims, sym (answer-is query found.dims texts.lineorder) ∙ is)
+evaluates-plain query texts (Err fault) (inl dims) = inl dims
+evaluates-plain query texts (Err fault) (inr (dimensions, is, facts)) =
+    inr (dimensions, is, subst (λ a. Gives a (Err fault)) (answer-is query dimensions texts.lineorder) facts)

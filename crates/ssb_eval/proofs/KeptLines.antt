@@ -3,12 +3,12 @@ use Rattle.std.proofs.Common.{◌≡◌, ℕ, inr, List, Option, Some, None, Res
 use Rattle.std.specs.Prelude.{IfSome}
 use Rattle.batch_loader.specs.Tables.{customer_row, supplier_row, part_row, date_row, lineorder_row}
 use Rattle.batch_loader.specs.Unread.{Unread}
+use Rattle.cube_model.specs.declared.answer.Answer.{Answer}
 use Rattle.cube_model.specs.declared.fault.Fault.{Fault}
-use Rattle.cube_model.specs.declared.query.Query.{Query}
 use Rattle.cube_model.specs.declared.rows.DimRows.{DimRows}
 use Rattle.ssb_eval.specs.declared.star.Evaluated.{Evaluated}
 use Rattle.ssb_eval.specs.declared.unknown.UnknownKey.{UnknownKey}
-use Rattle.ssb_eval.specs.Evaluation.{Evaluates, Gives, Texts, answer_of, dimensions_of}
+use Rattle.ssb_eval.specs.Evaluation.{Evaluates, Gives, Texts, dimensions_of}
 use Rattle.ssb_eval.specs.Tables.{IsFresh, IsInNoRow, IsUnread, KeepLines, KeepsBroken, KeepsCause, KeepsLine}
 use Rattle.ssb_eval.specs.Tables.{StarLines}
 
@@ -53,11 +53,12 @@ keeps-refused new fault result is kept =
     record { dimensions = kept.dimensions; lineorder = kept.lineorder; broken = rw (is.1, is.2) kept.broken }
 
 -- the facts are refused
-pub evaluates-no_answer : (query : Query) (texts : Texts) (dimensions : DimRows) (fault : Fault)
-    (result : Result Evaluated Fault)
+pub evaluates-no_answer : (answered : DimRows → List ℕ → Result Answer Fault) (texts : Texts) (dimensions : DimRows)
+    (fault : Fault) (result : Result Evaluated Fault)
     → (other : Fault) × (result ≡ Err other) × (other ≡ fault) → dimensions_of texts ≡ Ok dimensions
-    → Gives (answer_of query dimensions texts.lineorder) (Err fault) → Evaluates query texts result
-evaluates-no_answer query texts dimensions fault result is dims gives = rw (is.1, is.2) (inr (dimensions, dims, gives))
+    → Gives (answered dimensions texts.lineorder) (Err fault) → Evaluates answered texts result
+evaluates-no_answer answered texts dimensions fault result is dims gives =
+    rw (is.1, is.2) (inr (dimensions, dims, gives))
 
 -- an unread text that nothing changed
 pub unread-rest : (old new : Unread) (text : List ℕ) → new ≡ old → IsUnread old text → IsUnread new text

@@ -42,7 +42,7 @@ not_plain asked dimensions found fault (inr cause) =
 
 -- the dimensions or the facts were refused
 pub partial-refused : (asked : PartAsked) (texts : Texts) (fault : Fault)
-    → Evaluates asked.query texts (Err fault) → Gives (partial_of asked texts) (Err fault)
+    → Evaluates (answer_of asked.query) texts (Err fault) → Gives (partial_of asked texts) (Err fault)
 partial-refused asked texts fault (inl dims) = partial-no_dims asked texts fault dims
 partial-refused asked texts fault (inr (dimensions, is, facts)) =
     partial-no_answer asked texts dimensions fault is facts

@@ -1,12 +1,13 @@
 -- The pieces of a batch, one after the other.
-use Rattle.std.proofs.Common.{◌≡◌, ℕ, ◌+◌, ◌≤◌, List, [], ◌∷◌, ◌++◌, length, true, false, Option, Some, None, is_some}
-use Rattle.std.proofs.Common.{Result, Err, refl, sym, ap, subst, ◌∙◌, arith, append_assoc, append-nil}
+use Rattle.std.proofs.Common.{◌≡◌, ℕ, suc, ◌+◌, ◌<◌, ◌≤◌, List, [], ◌∷◌, ◌++◌, length, true, false, Option, Some, None}
+use Rattle.std.proofs.Common.{is_some, Result, Err, refl, sym, ap, subst, ◌∙◌, arith, append_assoc, append-nil}
+use Rattle.std.specs.Prelude.{slice_index_or}
+use Rattle.std.specs.List.{AllByRecursion}
 use Rattle.std.proofs.lemmas.List.{length-append}
 use Rattle.batch_loader.specs.Reading.{RefusesBatch}
 use Rattle.batch_loader.specs.Tables.{lineorder_row}
 use Rattle.batch_loader.specs.Unread.{Unread}
 use Rattle.cube_model.specs.declared.fault.Fault.{Fault}
-use Rattle.cube_model.specs.declared.query.Query.{Query}
 use Rattle.cube_model.specs.declared.rows.DimRows.{DimRows}
 use Rattle.cube_model.specs.declared.rows.LineOrder.{LineOrder}
 use Rattle.cube_model.specs.Admission.{all_rows}
@@ -16,22 +17,25 @@ use Rattle.batch_admission.specs.Found.{Found, cause_of, found_in}
 use Rattle.batch_admission.specs.Totals.{totals_of}
 use Rattle.batch_admission.specs.declared.totals.Totals.{Totals}
 use Rattle.batch_admission.proofs.CallerLemmas.{found-clean, found-earlier, known_both}
-use Rattle.cube_query.specs.Groups.{FoldState, CanTake, Takes, RepresentsRows}
-use Rattle.ssb_eval.specs.BatchLoop.{AreTaken, IsBegun, IsUnderWay, LooksAtNext}
+use Rattle.cube_query.specs.Groups.{FoldState, IsOver}
+use Rattle.mode_folds.specs.States.{CanTakeByModes, IsOverByModes, ModeFoldState, RepresentsModeRows, TakesByModes}
+use Rattle.mode_queries.specs.declared.query.ModeQuery.{ModeQuery}
+use Rattle.ssb_eval.specs.BatchLoop.{AreTaken, IsBegun, LooksAtNext}
 use Rattle.ssb_eval.specs.ShipModes.{HasMetRows, Met}
 use Rattle.ssb_eval.proofs.Admitting.{early-before}
-
-no_cause_some : (cause : Option Fault) → is_some cause ≡ true → cause ≡ None → ⊥
-no_cause_some None none e = cc
-no_cause_some (Some fault) none e = cc
 
 -- no cause, by the test
 pub no_cause : (cause : Option Fault) → is_some cause ≡ false → cause ≡ None
 no_cause None none = refl
 no_cause (Some fault) none = cc
 
-module _ (dimensions : DimRows) (query : Query) (before earlier rows : List LineOrder) (found more : Found)
-    (fold : FoldState) (begun : IsBegun dimensions query before earlier found fold)
+-- a cause, by the test
+pub some_cause : (cause : Option Fault) → is_some cause ≡ true → cause ≡ None → ⊥
+some_cause None some e = cc
+some_cause (Some fault) some e = cc
+
+module _ (dimensions : DimRows) (asked : ModeQuery) (before earlier rows : List LineOrder) (found more : Found)
+    (fold : ModeFoldState) (begun : IsBegun dimensions asked before earlier found fold)
     (looked : more ≡ found_in dimensions (totals_of before) (earlier ++ rows)) where
   -- what was found in all of them was found in none of the first
   clean_before : cause_of more ≡ None → cause_of found ≡ None
@@ -39,8 +43,9 @@ module _ (dimensions : DimRows) (query : Query) (before earlier rows : List Line
       ∙ found-earlier dimensions (totals_of before) earlier rows (ap cause_of (sym looked) ∙ none)
 
   -- nothing was found: they may be folded
-  pub can_add : cause_of more ≡ None → length (earlier ++ rows) ≤ most_batch_rows → CanTake dimensions fold rows
-  can_add none few =
+  pub can_add : length (earlier ++ rows) ≤ most_batch_rows → cause_of more ≡ None
+      → CanTakeByModes dimensions fold rows
+  can_add few none =
       let clean = found-clean dimensions before (earlier ++ rows) (ap cause_of (sym looked) ∙ none) in
       let joined : (before ++ earlier) ++ rows ≡ before ++ (earlier ++ rows) = append_assoc before earlier rows in
       let longer : length (before ++ (earlier ++ rows)) ≡ length before + length (earlier ++ rows) =
@@ -56,131 +61,96 @@ module _ (dimensions : DimRows) (query : Query) (before earlier rows : List Line
         ),
       )
 
-  -- and then they were
-  pub IsBegun-added : (next : FoldState) → cause_of more ≡ None → Takes dimensions fold rows next
-      → IsBegun dimensions query before (earlier ++ rows) more next
-  IsBegun-added next none takes = record {
+  -- and then they were, unless something was found
+  pub IsBegun-more : (next : ModeFoldState) → (cause_of more ≡ None → TakesByModes dimensions fold rows next)
+      → next.asked ≡ fold.asked → IsBegun dimensions asked before (earlier ++ rows) more next
+  IsBegun-more next takes same = record {
     found_is = looked;
-    query_is = takes.query ∙ begun.query_is;
-    folded = λ again. subst (RepresentsRows dimensions next) (append_assoc before earlier rows)
-        (takes.represents (before ++ earlier) (begun.folded (clean_before none)));
-    few = begun.few;
-    known = begun.known;
-    clean = begun.clean;
-  }
-
-  -- something was found: nothing was folded, and nothing has to be
-  pub IsBegun-refused : is_some (cause_of more) ≡ true → IsBegun dimensions query before (earlier ++ rows) more fold
-  IsBegun-refused some = record {
-    found_is = looked;
-    query_is = begun.query_is;
-    folded = λ none. absurd (no_cause_some (cause_of more) some none);
+    query_is = same ∙ begun.query_is;
+    folded = λ none. subst (RepresentsModeRows dimensions next) (append_assoc before earlier rows)
+        ((takes none).represents (before ++ earlier) (begun.folded (clean_before none)));
     few = begun.few;
     known = begun.known;
     clean = begun.clean;
   }
 
 -- a batch of which nothing was taken yet
-pub IsBegun-start : (dimensions : DimRows) (query : Query) (accepted : Accepted) (fold : FoldState)
-    (batches : List (List LineOrder)) (found : Found) → AreTaken dimensions query accepted fold batches
+pub IsBegun-start : (dimensions : DimRows) (asked : ModeQuery) (accepted : Accepted) (fold : ModeFoldState)
+    (batches : List (List LineOrder)) (found : Found) → AreTaken dimensions asked accepted fold batches
     → length batches ≤ most_batches → found ≡ found_in dimensions accepted.totals [] → cause_of found ≡ None
-    → IsBegun dimensions query (all_rows batches) [] found fold
-IsBegun-start dimensions query accepted fold batches found taken few is none =
+    → IsBegun dimensions asked (all_rows batches) [] found fold
+IsBegun-start dimensions asked accepted fold batches found taken few is none =
     let found_is = is ∙ ap (λ totals. found_in dimensions totals []) taken.represents.totals in
     record {
       found_is = found_is;
       query_is = taken.query_is;
-      folded = λ none. subst (RepresentsRows dimensions fold) (sym (append-nil (all_rows batches))) taken.folded;
+      folded = λ none. subst (RepresentsModeRows dimensions fold) (sym (append-nil (all_rows batches))) taken.folded;
       few = omega (arith, taken.few, few);
       known = taken.foldable.known;
       clean = ap cause_of (sym found_is) ∙ none;
     }
 
 -- where it has no row, all is as before
-pub AreTaken-none : (dimensions : DimRows) (query : Query) (accepted : Accepted) (fold next : FoldState)
+pub AreTaken-none : (dimensions : DimRows) (asked : ModeQuery) (accepted : Accepted) (fold next : ModeFoldState)
     (batches : List (List LineOrder)) (rows : List LineOrder) (found : Found)
-    → AreTaken dimensions query accepted fold batches
-    → IsBegun dimensions query (all_rows batches) rows found next → found.row_count ≡ 0
-    → AreTaken dimensions query accepted next batches
-AreTaken-none dimensions query accepted fold next batches (row ∷ rows) found taken begun none =
+    → AreTaken dimensions asked accepted fold batches
+    → IsBegun dimensions asked (all_rows batches) rows found next → found.row_count ≡ 0
+    → AreTaken dimensions asked accepted next batches
+AreTaken-none dimensions asked accepted fold next batches (row ∷ rows) found taken begun none =
     absurd (omega (arith, none, ap (λ some. some.row_count) begun.found_is))
-AreTaken-none dimensions query accepted fold next batches [] found taken begun none = record {
+AreTaken-none dimensions asked accepted fold next batches [] found taken begun none = record {
   represents = taken.represents;
   query_is = begun.query_is;
-  folded = subst (RepresentsRows dimensions next) (append-nil (all_rows batches))
+  folded = subst (RepresentsModeRows dimensions next) (append-nil (all_rows batches))
       (begun.folded (ap cause_of begun.found_is ∙ begun.clean));
   few = taken.few;
   foldable = taken.foldable;
 }
 
 -- as many rows as were counted
-pub counted : (dimensions : DimRows) (query : Query) (before rows : List LineOrder) (found : Found) (fold : FoldState)
-    → IsBegun dimensions query before rows found fold → found.row_count ≡ length rows
-counted dimensions query before rows found fold begun = ap (λ some. some.row_count) begun.found_is
+pub counted : (dimensions : DimRows) (asked : ModeQuery) (before rows : List LineOrder) (found : Found)
+    (fold : ModeFoldState) → IsBegun dimensions asked before rows found fold → found.row_count ≡ length rows
+counted dimensions asked before rows found fold begun = ap (λ some. some.row_count) begun.found_is
 
 -- what was found, after the batches that are there
-pub found-after : (dimensions : DimRows) (query : Query) (accepted : Accepted) (batches : List (List LineOrder))
-    (rows : List LineOrder) (found : Found) (fold : FoldState) → HasAccepted accepted batches
-    → IsBegun dimensions query (all_rows batches) rows found fold → found ≡ found_in dimensions accepted.totals rows
-found-after dimensions query accepted batches rows found fold represents begun = begun.found_is
+pub found-after : (dimensions : DimRows) (asked : ModeQuery) (accepted : Accepted) (batches : List (List LineOrder))
+    (rows : List LineOrder) (found : Found) (fold : ModeFoldState) → HasAccepted accepted batches
+    → IsBegun dimensions asked (all_rows batches) rows found fold → found ≡ found_in dimensions accepted.totals rows
+found-after dimensions asked accepted batches rows found fold represents begun = begun.found_is
     ∙ ap (λ totals. found_in dimensions totals rows) (sym represents.totals)
 
--- what was begun, by the fold's own query, and back
-pub IsBegun-own : (dimensions : DimRows) (query : Query) (before earlier : List LineOrder) (found : Found)
-    (fold : FoldState) → IsBegun dimensions query before earlier found fold
-    → IsBegun dimensions fold.query before earlier found fold
-IsBegun-own dimensions query before earlier found fold begun = record {
-  found_is = begun.found_is;
-  query_is = refl;
-  folded = begun.folded;
-  few = begun.few;
-  known = begun.known;
-  clean = begun.clean;
+-- a fold that represents fact rows is over the dimensions
+all_over : (dimensions : DimRows) (folds : List FoldState)
+    → ((i : ℕ) (fold : FoldState) → i < length folds → IsOver dimensions (slice_index_or folds i fold))
+    → AllByRecursion (IsOver dimensions) folds
+all_over dimensions [] each = tt
+all_over dimensions (fold ∷ folds) each =
+    (each 0 fold (omega arith), all_over dimensions folds (λ i part lt. each (suc i) part (omega (arith, lt))))
+
+pub over_rows : (dimensions : DimRows) (fold : ModeFoldState) (rows : List LineOrder)
+    → RepresentsModeRows dimensions fold rows → IsOverByModes dimensions fold
+over_rows dimensions fold rows represents = record {
+  together = represents.together.over;
+  each = all_over dimensions fold.folds (λ i part lt.
+      (represents.each i [] part (omega (arith, lt, represents.counted))).over);
 }
 
-pub IsBegun-of : (dimensions : DimRows) (query other : Query) (before earlier : List LineOrder) (found : Found)
-    (fold : FoldState) → query ≡ other → IsBegun dimensions query before earlier found fold
-    → IsBegun dimensions other before earlier found fold
-IsBegun-of dimensions query other before earlier found fold same begun =
-    subst (λ q. IsBegun dimensions q before earlier found fold) same begun
-
--- some rows of a batch were looked at: further ones may be folded where nothing was found
-pub can_add_after : (dimensions : DimRows) (rows : List LineOrder) (found more : Found) (fold : FoldState)
-    → IsUnderWay dimensions found fold
-    → ((totals : Totals) (earlier : List LineOrder) → found ≡ found_in dimensions totals earlier
-    → more ≡ found_in dimensions totals (earlier ++ rows))
-    → is_some (cause_of more) ≡ false → found.row_count + length rows ≤ most_batch_rows → CanTake dimensions fold rows
-can_add_after dimensions rows found more fold (before, (earlier, begun)) looked none few =
-    can_add dimensions fold.query before earlier rows found more fold begun
-    (looked (totals_of before) earlier begun.found_is) (no_cause (cause_of more) none)
-    (omega (arith, few, length-append earlier rows, counted dimensions fold.query before earlier found fold begun))
-
--- a piece more, by the fold's own query
-pub begun_more : (dimensions : DimRows) (query : Query) (before earlier rows : List LineOrder) (found more : Found)
-    (fold next : FoldState) → IsBegun dimensions query before earlier found fold
-    → ((before earlier : List LineOrder) → IsBegun dimensions fold.query before earlier found fold
-    → IsBegun dimensions fold.query before (earlier ++ rows) more next)
-    → IsBegun dimensions query before (earlier ++ rows) more next
-begun_more dimensions query before earlier rows found more fold next begun each =
-    IsBegun-of dimensions fold.query query before (earlier ++ rows) more next begun.query_is
-    (each before earlier (IsBegun-own dimensions query before earlier found fold begun))
-
 -- a piece that could not be read
-pub LooksAtNext-refused : (dimensions : DimRows) (query : Query) (before : List LineOrder) (old new : Unread)
-    (met : Met) (fold : FoldState) (fault : Fault) (result : Result Found Fault)
+pub LooksAtNext-refused : (dimensions : DimRows) (asked : ModeQuery) (before : List LineOrder) (old new : Unread)
+    (met : Met) (fold : ModeFoldState) (fault : Fault) (result : Result Found Fault)
     → RefusesBatch lineorder_row most_batch_rows old fault
     → (other : Fault) × (result ≡ Err other) × (other ≡ fault)
-    → LooksAtNext dimensions query before old new met fold result
-LooksAtNext-refused dimensions query before old new met fold fault result refused is = rw (is.1, is.2) refused
+    → LooksAtNext dimensions asked before old new met fold result
+LooksAtNext-refused dimensions asked before old new met fold fault result refused is = rw (is.1, is.2) refused
 
 -- the ship modes of a piece more
-pub modes_more : (dimensions : DimRows) (query : Query) (before earlier rows : List LineOrder) (found more : Found)
-    (fold next : FoldState) (old new : Met) (count : ℕ) → IsBegun dimensions query before earlier found fold
-    → IsBegun dimensions query before (earlier ++ rows) more next → count ≡ found.row_count
+pub modes_more : (dimensions : DimRows) (asked : ModeQuery) (before earlier rows : List LineOrder) (found more : Found)
+    (fold next : ModeFoldState) (old new : Met) (count : ℕ) → IsBegun dimensions asked before earlier found fold
+    → IsBegun dimensions asked before (earlier ++ rows) more next → count ≡ found.row_count
     → HasMetRows found old before earlier
     → ((others earlier : List LineOrder) → count ≡ length earlier → HasMetRows more old others earlier
     → HasMetRows more new others (earlier ++ rows))
     → HasMetRows more new before (earlier ++ rows)
-modes_more dimensions query before earlier rows found more fold next old new count begun also count_is has each =
+modes_more dimensions asked before earlier rows found more fold next old new count begun also count_is has each =
     each before earlier (count_is ∙ ap (λ some. some.row_count) begun.found_is)
     (λ none. has (early-before dimensions (totals_of before) earlier rows found more begun.found_is also.found_is none))

@@ -9,26 +9,26 @@ use Rattle.batch_loader.specs.Tables.{lineorder_row}
 use Rattle.batch_loader.specs.Unread.{Unread}
 use Rattle.cube_model.specs.declared.fault.Fault.{Fault}
 use Rattle.cube_model.specs.declared.fault.Fault.TheVariants.{Memory, Input}
-use Rattle.cube_model.specs.declared.query.Query.{Query}
 use Rattle.cube_model.specs.declared.rows.DimRows.{DimRows}
 use Rattle.cube_model.specs.declared.rows.LineOrder.{LineOrder}
 use Rattle.cube_model.specs.Admission.{all_rows, moded_refusal, HaveKnownKeys}
 use Rattle.cube_model.specs.Limits.{most_batch_rows, most_batches}
 use Rattle.cube_model.specs.ShipModes.{modes_in}
-use Rattle.cube_query.specs.Groups.{FoldState, RepresentsRows}
 use Rattle.cube_query.specs.Limits.{AreFoldable}
 use Rattle.batch_admission.specs.Accepted.{Accepted, HasAccepted}
 use Rattle.batch_admission.specs.Found.{Found, cause_of, found_in}
 use Rattle.batch_admission.specs.Totals.{totals_of}
-use Rattle.ssb_eval.specs.Evaluation.{Gives, answer_of, facts_of, facts_after}
+use Rattle.mode_folds.specs.States.{ModeFoldState, RepresentsModeRows}
+use Rattle.mode_queries.specs.declared.query.ModeQuery.{ModeQuery}
+use Rattle.ssb_eval.specs.Evaluation.{Gives, facts_of, facts_after, moded_answer_of}
 use Rattle.ssb_eval.specs.ShipModes.{HasMet, HasMetRows, Met}
 
 -- batches were accepted, and their rows were folded
-pub record AreTaken (dimensions : DimRows) (query : Query) (accepted : Accepted) (fold : FoldState)
+pub record AreTaken (dimensions : DimRows) (asked : ModeQuery) (accepted : Accepted) (fold : ModeFoldState)
     (batches : List (List LineOrder)) : Type 0 where
   pub represents : HasAccepted accepted batches
-  pub query_is : fold.query ≡ query
-  pub folded : RepresentsRows dimensions fold (all_rows batches)
+  pub query_is : fold.asked ≡ asked
+  pub folded : RepresentsModeRows dimensions fold (all_rows batches)
   pub few : length (all_rows batches) ≤ most_batch_rows * length batches
   pub foldable : AreFoldable dimensions (all_rows batches)
 
@@ -40,47 +40,42 @@ LeavesFacts dimensions text batches number (Some left) =
     (parts_of most_batch_rows (lines_of left))
 
 -- some batches were taken, and others may follow
-abbrev pub CanGoOn : DimRows → Accepted → FoldState → Type 0
+abbrev pub CanGoOn : DimRows → Accepted → ModeFoldState → Type 0
 CanGoOn dimensions accepted fold = (batches : List (List LineOrder))
-    × AreTaken dimensions fold.query accepted fold batches
+    × AreTaken dimensions fold.asked accepted fold batches
 
 -- The first rows of a batch were looked at after those of accepted batches, and folded unless something was found in
 -- them. The totals found are those of all these rows
-pub record IsBegun (dimensions : DimRows) (query : Query) (before earlier : List LineOrder) (found : Found)
-    (fold : FoldState) : Type 0 where
+pub record IsBegun (dimensions : DimRows) (asked : ModeQuery) (before earlier : List LineOrder) (found : Found)
+    (fold : ModeFoldState) : Type 0 where
   pub found_is : found ≡ found_in dimensions (totals_of before) earlier
-  pub query_is : fold.query ≡ query
-  pub folded : cause_of found ≡ None → RepresentsRows dimensions fold (before ++ earlier)
+  pub query_is : fold.asked ≡ asked
+  pub folded : cause_of found ≡ None → RepresentsModeRows dimensions fold (before ++ earlier)
   pub few : length before ≤ most_batch_rows * most_batches
   pub known : HaveKnownKeys dimensions before
   pub clean : cause_of (found_in dimensions (totals_of before) []) ≡ None
 
--- some rows of a batch were looked at, and others may follow
-abbrev pub IsUnderWay : DimRows → Found → FoldState → Type 0
-IsUnderWay dimensions found fold = (before : List LineOrder)
-    × ((earlier : List LineOrder) × IsBegun dimensions fold.query before earlier found fold)
-
 -- the rows of the next batch of a text were read, looked at, and folded unless something was found in them
-pub record IsLookedAt (dimensions : DimRows) (query : Query) (before : List LineOrder) (old new : Unread)
-    (found : Found) (met : Met) (fold : FoldState) (rows : List LineOrder) : Type 0 where
+pub record IsLookedAt (dimensions : DimRows) (asked : ModeQuery) (before : List LineOrder) (old new : Unread)
+    (found : Found) (met : Met) (fold : ModeFoldState) (rows : List LineOrder) : Type 0 where
   pub read : TakesBatch lineorder_row most_batch_rows old new rows
-  pub begun : IsBegun dimensions query before rows found fold
+  pub begun : IsBegun dimensions asked before rows found fold
   pub modes : HasMetRows found met before rows
 
 -- they were; or memory was refused, a read failed, or one of its lines is refused
-abbrev pub LooksAtNext : DimRows → Query → List LineOrder → Unread → Unread → Met → FoldState → Result Found Fault
-    → Type 0
-LooksAtNext dimensions query before old new met fold (Ok found) = (rows : List LineOrder)
-    × IsLookedAt dimensions query before old new found met fold rows
-LooksAtNext dimensions query before old new met fold (Err fault) = RefusesBatch lineorder_row most_batch_rows old fault
+abbrev pub LooksAtNext : DimRows → ModeQuery → List LineOrder → Unread → Unread → Met → ModeFoldState
+    → Result Found Fault → Type 0
+LooksAtNext dimensions asked before old new met fold (Ok found) = (rows : List LineOrder)
+    × IsLookedAt dimensions asked before old new found met fold rows
+LooksAtNext dimensions asked before old new met fold (Err fault) = RefusesBatch lineorder_row most_batch_rows old fault
 
 -- the next batch of a text, with a row or more, was read, accepted and folded
-pub record IsNextBatch (dimensions : DimRows) (query : Query) (batches : List (List LineOrder)) (old new : Unread)
-    (accepted : Accepted) (met : Met) (fold : FoldState) (rows : List LineOrder) : Type 0 where
+pub record IsNextBatch (dimensions : DimRows) (asked : ModeQuery) (batches : List (List LineOrder)) (old new : Unread)
+    (accepted : Accepted) (met : Met) (fold : ModeFoldState) (rows : List LineOrder) : Type 0 where
   pub some : 1 ≤ length rows
   pub read : TakesBatch lineorder_row most_batch_rows old new rows
   pub passes : moded_refusal dimensions batches (length batches + 1) rows ≡ None
-  pub taken : AreTaken dimensions query accepted fold (batches ++ rows ∷ [])
+  pub taken : AreTaken dimensions asked accepted fold (batches ++ rows ∷ [])
   pub modes : HasMet met (modes_in (all_rows (batches ++ rows ∷ []))) []
 
 -- the next batch of a text, with a row or more, was read and is refused
@@ -92,27 +87,27 @@ pub record IsRefusedBatch (dimensions : DimRows) (batches : List (List LineOrder
 
 -- The next batch was taken, or no row was left. Or memory was refused, a read failed, one of its lines is refused, or
 -- it is refused itself
-abbrev pub TakesNextBatch : DimRows → Query → List (List LineOrder) → Unread → Unread → Accepted → Met → FoldState
-    → Result Bool Fault → Type 0
-TakesNextBatch dimensions query batches old new accepted met fold (Ok true) = (rows : List LineOrder)
-    × IsNextBatch dimensions query batches old new accepted met fold rows
-TakesNextBatch dimensions query batches old new accepted met fold (Ok false) =
-    TakesBatch lineorder_row most_batch_rows old new [] × AreTaken dimensions query accepted fold batches
-TakesNextBatch dimensions query batches old new accepted met fold (Err fault) =
+abbrev pub TakesNextBatch : DimRows → ModeQuery → List (List LineOrder) → Unread → Unread → Accepted → Met
+    → ModeFoldState → Result Bool Fault → Type 0
+TakesNextBatch dimensions asked batches old new accepted met fold (Ok true) = (rows : List LineOrder)
+    × IsNextBatch dimensions asked batches old new accepted met fold rows
+TakesNextBatch dimensions asked batches old new accepted met fold (Ok false) =
+    TakesBatch lineorder_row most_batch_rows old new [] × AreTaken dimensions asked accepted fold batches
+TakesNextBatch dimensions asked batches old new accepted met fold (Err fault) =
     (fault ≡ Memory)
     ⊎ ((fault ≡ Input)
     ⊎ (IsFirstFault lineorder_row most_batch_rows old.number old.left fault
     ⊎ ((rows : List LineOrder) × IsRefusedBatch dimensions batches old new fault rows)))
 
 -- a fold that took all fact rows that it was to take: it represents some that may be folded
-pub record IsDone (dimensions : DimRows) (query : Query) (fold : FoldState) : Type 0 where
-  pub query_is : fold.query ≡ query
+pub record IsDone (dimensions : DimRows) (asked : ModeQuery) (fold : ModeFoldState) : Type 0 where
+  pub query_is : fold.asked ≡ asked
   pub rows : List LineOrder
-  pub folded : RepresentsRows dimensions fold rows
+  pub folded : RepresentsModeRows dimensions fold rows
   pub foldable : AreFoldable dimensions rows
 
 -- All fact rows of a text were folded. Or memory was refused, a read failed, or the rows are refused
-abbrev pub FoldsFacts : Query → DimRows → List ℕ → FoldState → Result Unit Fault → Type 0
-FoldsFacts query dimensions text fold (Ok done) = (rows : List LineOrder) × (facts_of dimensions text ≡ Ok rows)
-    × RepresentsRows dimensions fold rows
-FoldsFacts query dimensions text fold (Err fault) = Gives (answer_of query dimensions text) (Err fault)
+abbrev pub FoldsFacts : ModeQuery → DimRows → List ℕ → ModeFoldState → Result Unit Fault → Type 0
+FoldsFacts asked dimensions text fold (Ok done) = (rows : List LineOrder) × (facts_of dimensions text ≡ Ok rows)
+    × RepresentsModeRows dimensions fold rows
+FoldsFacts asked dimensions text fold (Err fault) = Gives (moded_answer_of asked dimensions text) (Err fault)

@@ -16,8 +16,10 @@ use Rattle.cube_model.specs.Admission.{all_rows, moded_refusal}
 use Rattle.cube_model.specs.Limits.{most_batch_rows}
 use Rattle.cube_model.specs.Answers.{answer}
 use Rattle.cube_model.specs.Validity.{invalid_cause}
-use Rattle.cube_query.specs.GroupLines.{answer_over}
-use Rattle.cube_query.specs.declared.finished.Groups.{Groups}
+use Rattle.mode_folds.specs.Answered.{answered_over}
+use Rattle.mode_folds.specs.declared.answered.Answered.{Answered}
+use Rattle.mode_queries.specs.Answers.{moded_answer}
+use Rattle.mode_queries.specs.declared.query.ModeQuery.{ModeQuery}
 use Rattle.report_formats.specs.declared.asked.Asked.{Asked}
 use Rattle.report_formats.specs.Fields.{formatted}
 use Rattle.ssb_eval.specs.declared.star.Evaluated.{Evaluated}
@@ -75,40 +77,45 @@ FactsAreRows = (dimensions : DimRows) (text : List ℕ) (rows : List LineOrder) 
 abbrev pub answer_of : Query → DimRows → List ℕ → Result Answer Fault
 answer_of query dimensions text = and_then (facts_of dimensions text) (λ rows. Ok (answer query dimensions rows))
 
--- the answer of groups, none of whose lines is made
-abbrev pub answer_in : DimRows → Result Groups Fault → Result Answer Fault
-answer_in dimensions (Ok groups) = Ok (answer_over dimensions groups)
+-- and that to a query that may look at ship modes
+abbrev pub moded_answer_of : ModeQuery → DimRows → List ℕ → Result Answer Fault
+moded_answer_of asked dimensions text =
+    and_then (facts_of dimensions text) (λ rows. Ok (moded_answer asked dimensions rows))
+
+-- an answer that was found
+abbrev pub answer_in : DimRows → Result Answered Fault → Result Answer Fault
+answer_in dimensions (Ok found) = Ok (answered_over dimensions found)
 answer_in dimensions (Err fault) = Err fault
 
--- the bytes that a text of the answer has
-abbrev pub eval_as : (Answer → List ℕ) → Query → Texts → Result (List ℕ) Fault
-eval_as text query texts =
+-- the bytes that a text of an answer has, which the dimensions and the text of the fact table give
+abbrev pub eval_as : (Answer → List ℕ) → (DimRows → List ℕ → Result Answer Fault) → Texts → Result (List ℕ) Fault
+eval_as text answered texts =
     and_then (dimensions_of texts) (λ dimensions.
-    and_then (answer_of query dimensions texts.lineorder) (λ found.
+    and_then (answered dimensions texts.lineorder) (λ found.
     Ok (text found)))
 
 -- the bytes of the report
 abbrev pub eval_of : Query → Texts → Result (List ℕ) Fault
-eval_of query texts = eval_as (report_of query) query texts
+eval_of query texts = eval_as (report_of query) (answer_of query) texts
 
 -- the bytes of a report in a layout
 abbrev pub formatted_of : Asked → Texts → Result (List ℕ) Fault
-formatted_of asked texts = eval_as (formatted asked) asked.query texts
+formatted_of asked texts = eval_as (formatted asked) (moded_answer_of asked.query) texts
 
 -- a call found what a definition says, or its refusal; or memory was refused, or a reader failed
 abbrev pub Gives : {A : Type 0} → Result A Fault → Result A Fault → Type 0
 Gives outcome (Ok value) = outcome ≡ Ok value
 Gives outcome (Err fault) = (fault ≡ Memory) ⊎ ((fault ≡ Input) ⊎ (outcome ≡ Err fault))
 
--- the dimensions and the groups of a query, which are those of texts, or the first refusal; or memory was refused, or a
--- reader failed
-abbrev pub Evaluates : Query → Texts → Result Evaluated Fault → Type 0
-Evaluates query texts (Ok found) = (dimensions_of texts ≡ Ok found.dims)
-    × (answer_of query found.dims texts.lineorder ≡ Ok (answer_over found.dims found.groups))
-Evaluates query texts (Err fault) =
+-- the dimensions and an answer, which are those of texts, or the first refusal; or memory was refused, or a reader
+-- failed
+abbrev pub Evaluates : (DimRows → List ℕ → Result Answer Fault) → Texts → Result Evaluated Fault → Type 0
+Evaluates answered texts (Ok found) = (dimensions_of texts ≡ Ok found.dims)
+    × (answered found.dims texts.lineorder ≡ Ok (answered_over found.dims found.answered))
+Evaluates answered texts (Err fault) =
     Gives (dimensions_of texts) (Err fault)
     ⊎ ((dimensions : DimRows) × (dimensions_of texts ≡ Ok dimensions)
-    × Gives (answer_of query dimensions texts.lineorder) (Err fault))
+    × Gives (answered dimensions texts.lineorder) (Err fault))
 
 -- readers have the bytes of texts left
 pub record HaveTexts (customer supplier part date lineorder : Option (List ℕ)) (texts : Texts) : Type 0 where

@@ -6,6 +6,7 @@ ghost use Rattle.ssb_eval.specs.Evaluation.{HaveTexts, Reports, Texts, eval_of};
 
 use crate::star::Tables;
 use cube_model::{Fault, Query};
+use mode_queries::QueryRef;
 use ssb_reports::write_report;
 use std::alloc::Global;
 use std::io::{Read, Write};
@@ -44,6 +45,6 @@ pub fn eval_texts<
 {
     query.check()?;
     let mut tables = Tables::new(alloc, customer, supplier, part, date, lineorder)?;
-    let found = tables.evaluate(alloc, query)?;
-    write_report(query, &found.groups.over(&found.dims), out)
+    let found = tables.evaluate(alloc, QueryRef::Plain(query))?;
+    write_report(query, &found.answered.over(&found.dims), out)
 }

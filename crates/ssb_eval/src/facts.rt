@@ -2,19 +2,19 @@
 ghost use Rattle.std.specs.Prelude.{◌≡◌, ◌+◌, ◌≤◌, ◌++◌, ◌∷◌, [], ℕ, List, None, IfOk, IfErr, IfSome, OnOk, length};
 ghost use Rattle.std.specs.Result.{result_err};
 ghost use Rattle.batch_admission.specs.Accepted.{HasAccepted};
-ghost use Rattle.batch_admission.specs.Found.{found_in};
+ghost use Rattle.batch_admission.specs.Found.{cause_of, found_in};
 ghost use Rattle.batch_loader.specs.Tables.{lineorder_row};
-ghost use Rattle.cube_model.specs.Proper.{IsProper};
 ghost use Rattle.cube_model.specs.declared.rows.DimRows.{DimRows};
 ghost use Rattle.cube_model.specs.declared.rows.LineOrder.{LineOrder};
 ghost use Rattle.cube_model.specs.Admission.{all_rows, moded_refusal};
 ghost use Rattle.cube_model.specs.Limits.{most_batch_rows};
 ghost use Rattle.cube_model.specs.ShipModes.{modes_in};
-ghost use Rattle.cube_query.specs.GroupLines.{AreGroupsOver};
-ghost use Rattle.cube_query.specs.Groups.{Begins};
-ghost use Rattle.ssb_eval.specs.Evaluation.{Gives, answer_in, answer_of};
-ghost use Rattle.ssb_eval.specs.BatchLoop.{AreTaken, CanGoOn, FoldsFacts, IsDone, IsBegun, IsUnderWay, LooksAtNext};
-ghost use Rattle.ssb_eval.specs.BatchLoop.{TakesNextBatch};
+ghost use Rattle.mode_folds.specs.Answered.{IsAnsweredOver};
+ghost use Rattle.mode_folds.specs.States.{BeginsByModes, CanTakeByModes, TakesByModes};
+ghost use Rattle.mode_queries.specs.Proper.{IsProperByModes};
+ghost use Rattle.mode_queries.specs.References.{asked_by};
+ghost use Rattle.ssb_eval.specs.Evaluation.{Gives, answer_in, moded_answer_of};
+ghost use Rattle.ssb_eval.specs.BatchLoop.{AreTaken, CanGoOn, FoldsFacts, IsDone, LooksAtNext, TakesNextBatch};
 ghost use Rattle.ssb_eval.specs.ShipModes.{HasMet, HasMetRows};
 ghost use Rattle.ssb_eval.specs.Tables.{IsInNoRow, IsUnread, KeepsLine};
 
@@ -23,9 +23,10 @@ use crate::unknown::{UnknownKey, keep_unknown};
 use batch_admission::{Admission, Findings};
 use batch_loader::{Lines, read_batch_into};
 use cube_model::limits::MOST_BATCH_ROWS;
-use cube_model::{Fault, Items, LineOrder, Query};
-use cube_query::{Fold, Groups};
+use cube_model::{Fault, Items, LineOrder};
 use dimensions::Dims;
+use mode_folds::{Answered, ModeFold};
+use mode_queries::QueryRef;
 use std::alloc::Global;
 use std::io::Read;
 
@@ -35,28 +36,29 @@ const PIECE_ROWS: usize = 4096;
 // The pieces of a whole batch.
 const BATCH_PIECES: usize = MOST_BATCH_ROWS / PIECE_ROWS;
 
-/// Reads the fact rows batch by batch, checks each batch, and folds it: the groups of the answer. Memory grows with the
-/// different ship modes, and not with the rows. The key for which a batch is refused is kept.
+/// Reads the fact rows batch by batch, checks each batch, and folds it: the answer to a query. Memory grows with the
+/// different ship modes and the groups of the answer, and not with the rows. The key for which a batch is refused is
+/// kept.
 pub fn group_facts<R: Read>(
     alloc: Global,
     dims: &Dims,
-    query: &Query,
+    asked: QueryRef<'_>,
     lines: &mut Lines<R>,
     unknown: &mut Option<UnknownKey>,
-) -> Result<Groups, Fault>
-    requires proper { IsProper query.now }
-    ensures over { IfOk result (AreGroupsOver dims.now) }
+) -> Result<Answered, Fault>
+    requires proper { IsProperByModes (asked_by asked) }
+    ensures over { IfOk result (IsAnsweredOver dims.now) }
     ensures answer { (text : List ℕ) → IsUnread lines.old text
-        → Gives (answer_of query.now dims.now text) (answer_in dims.now result) }
+        → Gives (moded_answer_of (asked_by asked.entry) dims.now text) (answer_in dims.now result) }
     ensures unknown { IfSome unknown.old (IsInNoRow dims.now) → IfSome unknown.new (IsInNoRow dims.now) }
     ensures line { lines.old.fault ≡ None → KeepsLine lineorder_row lines.new }
 {
     if let Some(fault) = lines.fault() {
         return Err(fault);
     }
-    let mut fold = Fold::new(alloc, dims, query)?;
+    let mut fold = ModeFold::new(alloc, dims, asked)?;
     fold_lines(alloc, dims, lines, &mut fold, unknown)?;
-    fold.into_groups(dims)
+    fold.into_answered(dims)
 }
 
 /// Folds all batches of some lines, by a fold that begins.
@@ -64,14 +66,14 @@ fn fold_lines<R: Read>(
     alloc: Global,
     dims: &Dims,
     lines: &mut Lines<R>,
-    fold: &mut Fold,
+    fold: &mut ModeFold<'_>,
     unknown: &mut Option<UnknownKey>,
 ) -> Result<(), Fault>
-    requires begins { Begins dims.now fold.old.query fold.old }
+    requires begins { BeginsByModes dims.now fold.old.asked fold.old }
     requires fault { lines.old.fault ≡ None }
-    ensures folded { OnOk result (IsDone dims.now fold.old.query fold.new) }
+    ensures folded { OnOk result (IsDone dims.now fold.old.asked fold.new) }
     ensures facts { (text : List ℕ) → IsUnread lines.old text
-        → FoldsFacts fold.old.query dims.now text fold.new result }
+        → FoldsFacts fold.old.asked dims.now text fold.new result }
     ensures unknown { IfSome unknown.old (IsInNoRow dims.now) → IfSome unknown.new (IsInNoRow dims.now) }
     ensures line { KeepsLine lineorder_row lines.new }
 {
@@ -100,14 +102,14 @@ fn take_batch<R: Read>(
     lines: &mut Lines<R>,
     admission: &mut Admission,
     modes: &mut ShipModes,
-    fold: &mut Fold,
+    fold: &mut ModeFold<'_>,
     unknown: &mut Option<UnknownKey>,
 ) -> Result<bool, Fault>
     requires goes_on { CanGoOn dims.now admission.old fold.old }
     requires fault { lines.old.fault ≡ None }
-    ensures takes { (batches : List (List LineOrder)) → AreTaken dims.now fold.old.query admission.old fold.old batches
+    ensures takes { (batches : List (List LineOrder)) → AreTaken dims.now fold.old.asked admission.old fold.old batches
         → HasMet modes.old (modes_in (all_rows batches)) []
-        → TakesNextBatch dims.now fold.old.query batches lines.old lines.new admission.new modes.new fold.new result }
+        → TakesNextBatch dims.now fold.old.asked batches lines.old lines.new admission.new modes.new fold.new result }
     ensures unknown { IfSome unknown.old (IsInNoRow dims.now) → IfSome unknown.new (IsInNoRow dims.now) }
     ensures line { KeepsLine lineorder_row lines.new }
 {
@@ -150,14 +152,14 @@ fn look_at_batch<R: Read>(
     lines: &mut Lines<R>,
     admission: &Admission,
     modes: &mut ShipModes,
-    fold: &mut Fold,
+    fold: &mut ModeFold<'_>,
     unknown: &mut Option<UnknownKey>,
 ) -> Result<Findings, Fault>
     requires goes_on { CanGoOn dims.now admission.now fold.old }
     requires fault { lines.old.fault ≡ None }
-    ensures looks { (batches : List (List LineOrder)) → AreTaken dims.now fold.old.query admission.now fold.old batches
+    ensures looks { (batches : List (List LineOrder)) → AreTaken dims.now fold.old.asked admission.now fold.old batches
         → HasMet modes.old (modes_in (all_rows batches)) []
-        → LooksAtNext dims.now fold.old.query (all_rows batches) lines.old lines.new modes.new fold.new result }
+        → LooksAtNext dims.now fold.old.asked (all_rows batches) lines.old lines.new modes.new fold.new result }
     ensures unknown { IfSome unknown.old (IsInNoRow dims.now) → IfSome unknown.new (IsInNoRow dims.now) }
     ensures line { KeepsLine lineorder_row lines.new }
 {
@@ -166,7 +168,7 @@ fn look_at_batch<R: Read>(
     for _ in 0..BATCH_PIECES {
         rows = read_batch_into(alloc, lines, PIECE_ROWS, rows)?;
         let before = found.row_count();
-        found = look_at_piece(dims, rows.as_slice(), found, fold)?;
+        found = found.more(dims, rows.as_slice());
         look_at_modes(alloc, before, rows.as_slice(), &found, modes)?;
         keep_unknown(
             dims,
@@ -175,32 +177,13 @@ fn look_at_batch<R: Read>(
             lines.number(),
             unknown,
         );
-        if rows.len() < PIECE_ROWS {
+        let count = rows.len();
+        rows = fold_piece(dims, rows, &found, fold)?;
+        if count < PIECE_ROWS {
             return Ok(found);
         }
     }
     Ok(found)
-}
-
-/// Looks at the next rows of a batch, and folds them unless something was found in the batch.
-fn look_at_piece(
-    dims: &Dims,
-    rows: &[LineOrder],
-    found: Findings,
-    fold: &mut Fold,
-) -> Result<Findings, Fault>
-    requires few { found.row_count + length rows.now ≤ most_batch_rows }
-    requires begun { IsUnderWay dims.now found fold.old }
-    ensures ok { (before earlier : List LineOrder) → IsBegun dims.now fold.old.query before earlier found fold.old
-        → IfOk result (λ more. IsBegun dims.now fold.old.query before (earlier ++ rows.now) more fold.new) }
-    ensures only { IfErr result (λ fault. fault ≡ Fault.Memory) }
-{
-    let more = found.more(dims, rows);
-    if more.cause().is_some() {
-        return Ok(more);
-    }
-    fold.add_rows(dims, rows)?;
-    Ok(more)
 }
 
 /// Looks at the ship modes of the next rows of a batch, after so many of its rows, unless an early cause was found in
@@ -222,4 +205,24 @@ fn look_at_modes(
         return Ok(());
     }
     modes.add_rows(alloc, before, rows)
+}
+
+/// Folds the next rows of a batch, unless something was found in the batch, and gives back rows whose memory may be
+/// used again.
+fn fold_piece(
+    dims: &Dims,
+    rows: Items<LineOrder>,
+    found: &Findings,
+    fold: &mut ModeFold<'_>,
+) -> Result<Items<LineOrder>, Fault>
+    requires can { cause_of found.now ≡ None → CanTakeByModes dims.now fold.old rows }
+    ensures ok { OnOk result (cause_of found.now ≡ None → TakesByModes dims.now fold.old rows fold.new) }
+    ensures query { OnOk result (fold.new.asked ≡ fold.old.asked) }
+    ensures only { IfErr result (λ fault. fault ≡ Fault.Memory) }
+{
+    if found.cause().is_some() {
+        return Ok(rows);
+    }
+    let done = fold.add_rows(dims, rows.into_vec())?;
+    Ok(Items::from_vec(done))
 }

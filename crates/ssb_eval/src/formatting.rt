@@ -1,19 +1,23 @@
 //! A query over the texts of the five tables, with its report in a layout.
 ghost use Rattle.std.specs.Prelude.{◌≡◌, Ok, Err, IfOk};
 ghost use Rattle.std.specs.Io.KnownBytes.{Keeps};
-ghost use Rattle.cube_model.specs.Proper.{IsProper};
+ghost use Rattle.mode_queries.specs.Proper.{IsProperByModes};
 ghost use Rattle.ssb_eval.specs.Evaluation.{Reports, Texts, dimensions_of, formatted_of};
 ghost use Rattle.ssb_eval.specs.Tables.{IsFresh, IsUnreadStar, KeepsCause, KeepsUnknown};
 
 use crate::star::Tables;
 use cube_model::Fault;
 use dimensions::Dims;
+use mode_queries::QueryRef;
 use report_formats::{Asked, write_formatted};
 use std::alloc::Global;
 use std::io::{Read, Write};
 
 /// Writes the report that is asked for as `eval_texts` writes one with bars, over tables of which nothing was read yet,
 /// and returns the dimensions.
+///
+/// The query may look at ship modes. Where one of its columns is the ship mode, memory grows with the groups of each
+/// ship mode, and still not with the rows.
 pub fn eval_formatted<
     C: Read + Drop,
     S: Read + Drop,
@@ -28,7 +32,7 @@ pub fn eval_formatted<
     out: &mut W,
 ) -> Result<Dims, Fault>
     // Of a proper query the outcome is that of the texts.
-    ensures proper { IsProper asked.now.query → (texts : Texts) → IsUnreadStar tables.old texts
+    ensures proper { IsProperByModes asked.now.query → (texts : Texts) → IsUnreadStar tables.old texts
         → Reports (W.contents out.old) (W.contents out.new) (formatted_of asked.now texts) result }
 
     // The dimensions are those of the texts.
@@ -36,7 +40,7 @@ pub fn eval_formatted<
         → IfOk result (λ dims. dimensions_of texts ≡ Ok dims) }
 
     // Any other query is refused before a text is read.
-    ensures improper { (IsProper asked.now.query → ⊥) → (result ≡ Err Fault.BadQuery)
+    ensures improper { (IsProperByModes asked.now.query → ⊥) → (result ≡ Err Fault.BadQuery)
         × Keeps (W.contents out.old) (W.contents out.new) }
 
     // After a refusal the tables have what was refused.
@@ -44,7 +48,7 @@ pub fn eval_formatted<
     ensures unknown { (texts : Texts) → IsUnreadStar tables.old texts → KeepsUnknown texts tables.new }
 {
     asked.query.check()?;
-    let found = tables.evaluate(alloc, &asked.query)?;
-    write_formatted(alloc, asked, &found.groups.over(&found.dims), out)?;
+    let found = tables.evaluate(alloc, QueryRef::ByModes(&asked.query))?;
+    write_formatted(alloc, asked, &found.answered.over(&found.dims), out)?;
     Ok(found.dims)
 }

@@ -9,6 +9,7 @@ ghost use Rattle.ssb_eval.specs.Tables.{IsFresh, IsUnreadStar, KeepsCause, Keeps
 use crate::star::Tables;
 use cube_model::Fault;
 use dimensions::Dims;
+use mode_queries::QueryRef;
 use partial_reports::{PartAsked, begin_partial, write_partial};
 use std::alloc::Global;
 use std::io::{Read, Write};
@@ -45,8 +46,13 @@ pub fn eval_partial<
     ensures unknown { (texts : Texts) → IsUnreadStar tables.old texts → KeepsUnknown texts tables.new }
 {
     asked.query.check()?;
-    let found = tables.evaluate(alloc, &asked.query)?;
-    let head = begin_partial(alloc, asked, &found.dims, &found.groups.over(&found.dims))?;
-    write_partial(asked, head.as_slice(), &found.groups.over(&found.dims), out)?;
+    let found = tables.evaluate(alloc, QueryRef::Plain(&asked.query))?;
+    let head = begin_partial(alloc, asked, &found.dims, &found.answered.over(&found.dims))?;
+    write_partial(
+        asked,
+        head.as_slice(),
+        &found.answered.over(&found.dims),
+        out,
+    )?;
     Ok(found.dims)
 }

@@ -1,8 +1,9 @@
 //! The five tables while a query is answered over them. After a refusal they have what was refused.
 ghost use Rattle.std.specs.Prelude.{◌≡◌, None, Some, IfErr, IfNone, IfOk, IfSome, OnOk};
-ghost use Rattle.cube_model.specs.Proper.{IsProper};
-ghost use Rattle.cube_query.specs.GroupLines.{AreGroupsOver};
-ghost use Rattle.ssb_eval.specs.Evaluation.{Evaluates, Gives, HaveTexts, Texts, dimensions_of};
+ghost use Rattle.mode_folds.specs.Answered.{IsAnsweredOver};
+ghost use Rattle.mode_queries.specs.Proper.{IsProperByModes};
+ghost use Rattle.mode_queries.specs.References.{asked_by};
+ghost use Rattle.ssb_eval.specs.Evaluation.{Evaluates, Gives, HaveTexts, Texts, dimensions_of, moded_answer_of};
 ghost use Rattle.ssb_eval.specs.Tables.{AreFresh, AreUnread, IsFresh, IsRefusedFor, IsUnreadStar, KeepLines};
 ghost use Rattle.ssb_eval.specs.Tables.{KeepsBroken, KeepsCause, KeepsUnknown};
 
@@ -10,18 +11,19 @@ use crate::facts::group_facts;
 use crate::tables::{DimensionTables, RefusedLine};
 use crate::unknown::UnknownKey;
 use batch_loader::Lines;
-use cube_model::{DimRows, Fault, Query};
-use cube_query::Groups;
+use cube_model::{DimRows, Fault};
 use dimensions::Dims;
+use mode_folds::Answered;
+use mode_queries::QueryRef;
 use std::alloc::Global;
 use std::io::Read;
 use std::marker::Model;
 
-/// The dimensions of the tables, and the groups of the answer to a query over them.
+/// The dimensions of the tables, and the answer to a query over them.
 #[derive(Drop)]
 pub struct Evaluated {
     pub dims: Dims,
-    pub groups: Groups,
+    pub answered: Answered,
 }
 
 /// The five tables, line by line, and what is kept of a refusal.
@@ -80,10 +82,15 @@ impl<C: Read + Drop, S: Read + Drop, P: Read + Drop, D: Read + Drop, L: Read + D
 
     /// Reads the four tables of the dimensions, and then checks their rows; checks the fact rows batch by batch, and
     /// folds them. The first refusal decides.
-    pub(crate) fn evaluate(&mut self, alloc: Global, query: &Query) -> Result<Evaluated, Fault>
-        requires proper { IsProper query.now }
-        ensures over { IfOk result (λ found. AreGroupsOver found.dims found.groups) }
-        ensures evaluates { (texts : Texts) → IsUnreadStar self.old texts → Evaluates query.now texts result }
+    pub(crate) fn evaluate(
+        &mut self,
+        alloc: Global,
+        asked: QueryRef<'_>,
+    ) -> Result<Evaluated, Fault>
+        requires proper { IsProperByModes (asked_by asked) }
+        ensures over { IfOk result (λ found. IsAnsweredOver found.dims found.answered) }
+        ensures evaluates { (texts : Texts) → IsUnreadStar self.old texts
+            → Evaluates (moded_answer_of (asked_by asked.entry)) texts result }
         ensures cause { IsFresh self.old → KeepsCause self.new result }
         ensures whole { IsFresh self.old → OnOk result (self.new.broken ≡ None) }
         ensures unknown { (texts : Texts) → IsUnreadStar self.old texts → KeepsUnknown texts self.new }
@@ -94,8 +101,8 @@ impl<C: Read + Drop, S: Read + Drop, P: Read + Drop, D: Read + Drop, L: Read + D
             unknown,
             ..
         } = self;
-        let groups = group_facts(alloc, &dims, query, lineorder, unknown)?;
-        Ok(Evaluated { dims, groups })
+        let answered = group_facts(alloc, &dims, asked, lineorder, unknown)?;
+        Ok(Evaluated { dims, answered })
     }
 
     // Reads the four tables of the dimensions, and then checks their rows. Those that break a rule are kept.

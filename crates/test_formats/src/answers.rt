@@ -2,6 +2,7 @@
 use cube_model::{
     Agg, Answer, Attr, Fault, Fraction, Items, Kind, Line, Measure, Member, Query, Value,
 };
+use mode_queries::ModeQuery;
 use report_formats::{Asked, Format, Layout, write_formatted};
 use std::alloc::Global;
 
@@ -130,8 +131,9 @@ pub fn answer(alloc: Global, aggregates: &[Agg]) -> Result<Answer, Fault> {
 
 /// The report in a format, with so many digits after the point.
 pub fn report(alloc: Global, format: Format, decimals: Option<u32>) -> Result<Vec<u8>, Fault> {
-    let asked = Asked::new(alloc, Layout { format, decimals }, query(alloc)?)?;
-    let answer = answer(alloc, asked.query.aggregates.as_slice())?;
+    let query = ModeQuery::without_modes(alloc, query(alloc)?);
+    let asked = Asked::new(alloc, Layout { format, decimals }, query)?;
+    let answer = answer(alloc, asked.query.query.aggregates.as_slice())?;
     let mut out = Vec::new(alloc);
     write_formatted(alloc, &asked, &answer, &mut out)?;
     Ok(out)

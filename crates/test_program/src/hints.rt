@@ -202,10 +202,10 @@ fn are_known(alloc: Global, known: Known, count: usize) -> Result<bool, Fault> {
 static COUNTS: [(Known, usize); 6] = [
     (Known::Query, 13),
     (Known::Set, 3),
-    (Known::Attribute, 14),
+    (Known::Attribute, 15),
     (Known::Aggregate, 5),
     (Known::Measure, 6),
-    (Known::Ranged, 16),
+    (Known::Ranged, 17),
 ];
 
 #[test]

@@ -151,7 +151,7 @@ fn is_kept(alloc: Global, case: &Case) -> Result<bool, Fault> {
         format: Format::Bars,
         decimals: None,
     };
-    let asked = Asked::new(alloc, layout, FIRST.read(alloc)?)?;
+    let asked = Asked::new(alloc, layout, FIRST.asked(alloc)?)?;
     let mut out = Vec::new(alloc);
     let done = match eval_formatted(alloc, &mut star, &asked, &mut out) {
         Ok(_dims) => Ok(()),

@@ -1,5 +1,6 @@
 //! Words as constants.
 use cube_model::{Fault, Query};
+use mode_queries::ModeQuery;
 use query_words::{QueryWords, read_query};
 use std::alloc::Global;
 
@@ -29,7 +30,16 @@ pub const FIRST: Words = Words {
 };
 
 impl Words {
+    /// The query that the words spell, which is none by ship mode.
     pub fn read(&self, alloc: Global) -> Result<Query, Fault> {
+        match self.asked(alloc)?.into_plain() {
+            Some(query) => Ok(query),
+            None => Err(Fault::BadQuery),
+        }
+    }
+
+    /// The query that the words spell.
+    pub fn asked(&self, alloc: Global) -> Result<ModeQuery, Fault> {
         let words = QueryWords {
             q: self.q,
             set: self.set,

@@ -7,6 +7,8 @@ use Rattle.cube_model.specs.declared.fault.Fault.{Fault}
 use Rattle.cube_model.specs.declared.fault.Fault.TheVariants.{Output, Device}
 use Rattle.cube_model.specs.declared.query.Query.{Query}
 use Rattle.cube_model.specs.Answers.{answer_as_of}
+use Rattle.mode_queries.specs.declared.query.ModeQuery.{ModeQuery}
+use Rattle.mode_reports.specs.Reports.{IsAskedByModes, RefusesByModes, moded_answer_as_of}
 use Rattle.object_store.specs.Disk.{Leaves}
 use Rattle.report_formats.specs.declared.asked.Asked.{Asked}
 use Rattle.report_formats.specs.Fields.{formatted}
@@ -29,17 +31,33 @@ asked_for w None = length w.batches
 abbrev pub answered_by : (Answer → List ℕ) → Warehouse → ℕ → Query → List ℕ
 answered_by text w count query = text (answer_as_of query count w.rows w.batches)
 
--- The text of the answer was written. Or the writer failed, after a beginning of it. Or nothing was written: the device
--- failed, or the query is refused
+-- and of that to a query that may look at ship modes
+abbrev pub answered_by_modes : (Answer → List ℕ) → Warehouse → ℕ → ModeQuery → List ℕ
+answered_by_modes text w count asked = text (moded_answer_as_of asked count w.rows w.batches)
+
+-- A text was written, which may be asked for. Or the writer failed, after a beginning of it. Or nothing was written:
+-- the device failed, or the text is refused
+abbrev pub WritesAsked : {D A : Type 0} → List ℕ → (MayBeAsked : Type 0) → (Refuses : Fault → Type 0) → (g : Ghosts D)
+    → Warehouse → (new : Session D g) → (before after : Option (List ℕ)) → Result A Fault → Type 0
+WritesAsked text MayBeAsked Refuses g w new before after (Ok done) =
+    IsAt g new w × MayBeAsked × Appends before after text
+WritesAsked text MayBeAsked Refuses g w new before after (Err fault) =
+    ((fault ≡ Output) × IsAt g new w × MayBeAsked × AppendsBeginning before after text)
+    ⊎ (Keeps before after × (((fault ≡ Device) × (has_failed new ≡ true)) ⊎ (Refuses fault × IsAt g new w)))
+
+-- a text of the answer to a query over the first batches was written, or not
 abbrev pub Answers : {D A : Type 0} → (Answer → List ℕ) → (g : Ghosts D) → Warehouse → ℕ → Query → (new : Session D g)
     → (before after : Option (List ℕ)) → Result A Fault → Type 0
-Answers text g w count query new before after (Ok done) = IsAt g new w × IsAsked w count query
-    × Appends before after (answered_by text w count query)
-Answers text g w count query new before after (Err fault) =
-    ((fault ≡ Output) × IsAt g new w × IsAsked w count query
-    × AppendsBeginning before after (answered_by text w count query))
-    ⊎ (Keeps before after
-    × (((fault ≡ Device) × (has_failed new ≡ true)) ⊎ (QueryRefuses w count query fault × IsAt g new w)))
+Answers text g w count query new before after result =
+    WritesAsked (answered_by text w count query) (IsAsked w count query) (QueryRefuses w count query) g w new before
+    after result
+
+-- and a text of the answer to one that may look at ship modes
+abbrev pub AnswersByModes : {D A : Type 0} → (Answer → List ℕ) → (g : Ghosts D) → Warehouse → ℕ → ModeQuery
+    → (new : Session D g) → (before after : Option (List ℕ)) → Result A Fault → Type 0
+AnswersByModes text g w count asked new before after result =
+    WritesAsked (answered_by_modes text w count asked) (IsAskedByModes w count asked) (RefusesByModes w count asked) g w
+    new before after result
 
 -- a report, which leaves the warehouse as it is at each moment
 pub record Reports {D A : Type 0} (g : Ghosts D) (w : Warehouse) (as_of : Option ℕ) (query : Query)
@@ -50,7 +68,7 @@ pub record Reports {D A : Type 0} (g : Ghosts D) (w : Warehouse) (as_of : Option
 -- a report in a layout, which leaves the warehouse as it is at each moment
 pub record ReportsIn {D A : Type 0} (g : Ghosts D) (w : Warehouse) (as_of : Option ℕ) (asked : Asked)
     (old new : Session D g) (before after : Option (List ℕ)) (result : Result A Fault) : Type 0 where
-  pub ends : Answers (formatted asked) g w (asked_for w as_of) asked.query new before after result
+  pub ends : AnswersByModes (formatted asked) g w (asked_for w as_of) asked.query new before after result
   pub leaves : Leaves (disk_of g old) (disk_of g new) (λ c. Represents c w)
 
 -- the numbers of the warehouse are written, or the writer fails after a beginning of them

@@ -7,10 +7,11 @@ ghost use Rattle.report_formats.specs.Fields.{formatted};
 ghost use Rattle.warehouse_objects.specs.Warehouse.{Warehouse};
 ghost use Rattle.warehouse_objects.specs.Represents.{Represents};
 ghost use Rattle.warehouse.specs.Session.{device_of, disk_of, has_failed, IsAt};
-ghost use Rattle.warehouse_jobs.specs.Reporting.{Answers, ReportsIn};
+ghost use Rattle.warehouse_jobs.specs.Reporting.{AnswersByModes, ReportsIn};
 
 use crate::reporting::batches_asked;
 use cube_model::Fault;
+use mode_reports::answered;
 use report_formats::{Asked, write_formatted};
 use sector_device::Sectors;
 use std::alloc::Global;
@@ -18,6 +19,7 @@ use std::io::Write;
 use warehouse::Session;
 
 /// Writes the report that is asked for, over the first batches or over all, as the job `Report` writes one with bars.
+/// Its query may look at ship modes.
 ///
 /// `BadQuery` where its query is not proper, `NoSuchPrefix` where there are fewer batches, `Memory`, `Device` where the
 /// device fails, and `Output` where the writer fails, after a beginning of the report; `Failed` where the device failed
@@ -54,13 +56,13 @@ fn formatted_over<D: Sectors, W: Write>(
     out: &mut W,
 ) -> Result<(), Fault>
     ensures ends { (w : Warehouse) → IsAt D.Sectors session.old w → D.keeps_word (device_of session.new)
-        → Answers (formatted asked.now) D.Sectors w count asked.now.query session.new (W.contents out.old)
+        → AnswersByModes (formatted asked.now) D.Sectors w count asked.now.query session.new (W.contents out.old)
         (W.contents out.new) result }
     ensures leaves { (w : Warehouse) → IsAt D.Sectors session.old w
         → Leaves (disk_of D.Sectors session.old) (disk_of D.Sectors session.new) (λ c. Represents c w) }
     ensures word { D.keeps_word (device_of session.new) → D.keeps_word (device_of session.old) }
 {
-    let found = session.query_groups(alloc, count, &asked.query)?;
+    let found = answered(alloc, session, count, &asked.query)?;
     let lines = found.lines();
     write_formatted(alloc, asked, &lines, out)
 }

@@ -1,5 +1,5 @@
 use Rattle.std.proofs.Common.{inr, List, subst}
-use Rattle.cube_model.specs.declared.attr.Attr.{Attr}
+use Rattle.query_words.specs.declared.known.Column.{Column}
 use Rattle.query_words.specs.Limits.{OccursTwice}
 use Rattle.query_words.proofs.limits.limit_mistake.Goals as goal
 
@@ -10,5 +10,5 @@ returns-in-Some c = inr (inr (inr (
   c.of.ensures,
   c.name.ensures,
   subst (λ
-      (columns : List Attr). OccursTwice columns c.in-Some.column) c.as_slice.ensures c.in-Some.ensures,
+      (columns : List Column). OccursTwice columns c.in-Some.column) c.as_slice.ensures c.in-Some.ensures,
 )))

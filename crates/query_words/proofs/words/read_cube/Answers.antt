@@ -1,7 +1,8 @@
-use Rattle.std.proofs.Common.{Bor, List, ℕ, Option, None, map, refl}
+use Rattle.std.proofs.Common.{Bor, List, ℕ, Option, map, subst, sym}
 use Rattle.std.specs.Option.{option_map}
-use Rattle.cube_model.specs.declared.query.Query.{Query}
-use Rattle.query_words.proofs.Whole.{ArePartsOf, columns_stop, conditions_stop, exceeds, within}
+use Rattle.query_words.specs.declared.cube_parts.CubeParts.{CubeParts}
+use Rattle.query_words.specs.Words.{SpellsProper}
+use Rattle.query_words.proofs.Whole.{ArePartsOf, columns_stop, conditions_stop, cube_words, exceeds, within}
 use Rattle.query_words.proofs.words.read_cube.Goals as goal
 
 abbrev text_in : Option (Bor (List ℕ)) → Option (List ℕ)
@@ -22,45 +23,43 @@ returns-in_err-conditions c = conditions_stop (text_in c.args.set) (text_in c.ar
 
 pub returns-in-None : goal.returns-in-None
 returns-in-None c =
-    let query : Query = record {
+    let parts : CubeParts = record {
       kind = c.in_ok-kind.kind;
       columns = c.in_ok-columns.columns;
       conditions = c.in_ok-conditions.conditions;
       aggregates = c.in_ok-aggregates.aggregates;
-      order = None;
     } in
     let are : ArePartsOf (text_in c.args.set) (text_in c.args.by) c.args.agg.now (texts_in c.args.conditions.now)
-    query = record {
+    parts = record {
       kind =
           c.in_ok-kind.ensures;
       columns = c.in_ok-columns.ensures;
       fit = c.in_ok-conditions.ensures;
       aggregates =
           c.in_ok-aggregates.ensures;
-      order = refl;
     } in
-    within (text_in c.args.set) (text_in c.args.by) c.args.agg.now (texts_in c.args.conditions.now) query are
-    c.in-None.ensures
+    subst (SpellsProper (cube_words (text_in c.args.set) (text_in c.args.by) c.args.agg.now
+    (texts_in c.args.conditions.now))) (sym c.in_ok-into_query-in-None.ensures)
+    (within (text_in c.args.set) (text_in c.args.by) c.args.agg.now (texts_in c.args.conditions.now) parts are
+    c.in-None.ensures)
 
 pub returns : goal.returns
 returns c =
-    let query : Query = record {
+    let parts : CubeParts = record {
       kind = c.in_ok-kind.kind;
       columns = c.in_ok-columns.columns;
       conditions = c.in_ok-conditions.conditions;
       aggregates = c.in_ok-aggregates.aggregates;
-      order = None;
     } in
     let are : ArePartsOf (text_in c.args.set) (text_in c.args.by) c.args.agg.now (texts_in c.args.conditions.now)
-    query = record {
+    parts = record {
       kind =
           c.in_ok-kind.ensures;
       columns = c.in_ok-columns.ensures;
       fit = c.in_ok-conditions.ensures;
       aggregates =
           c.in_ok-aggregates.ensures;
-      order = refl;
     } in
-    exceeds (text_in c.args.set) (text_in c.args.by) c.args.agg.now (texts_in c.args.conditions.now) query
+    exceeds (text_in c.args.set) (text_in c.args.by) c.args.agg.now (texts_in c.args.conditions.now) parts
     c.in-Some.refused are
     c.in-Some.ensures

@@ -1,9 +1,9 @@
 use Rattle.std.proofs.Common.{◌≡◌, ◌∙◌, false, sym}
 use Rattle.ssb_reports.proofs.Beginnings.{Writes-flushed}
-use Rattle.report_formats.specs.Rows.{is_plain}
+use Rattle.report_formats.specs.Fields.{is_plain_report}
 use Rattle.report_formats.proofs.formatted.write_unarranged.Goals as goal
 
 pub returns : goal.returns
 returns g c =
-    let laid_out : is_plain c.args.asked.now.layout ≡ false = sym c.is_plain.ensures ∙ c.if-is_plain.false in
+    let laid_out : is_plain_report c.args.asked.now ≡ false = sym c.is_plain.ensures ∙ c.if-is_plain.false in
     rw laid_out (Writes-flushed _ _ _ _ _ c.in_ok-write_laid_out.ensures c.flush.ensures.bytes c.flush.ensures.fault)

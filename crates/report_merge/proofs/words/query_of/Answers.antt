@@ -8,7 +8,8 @@ use Rattle.query_words.specs.Words.{SpellsProper, Words}
 use Rattle.report_merge.specs.declared.refused.Refused.{Refused}
 use Rattle.report_merge.specs.declared.refused.Refused.TheVariants.{Memory}
 use Rattle.report_merge.specs.Given.{no_query}
-use Rattle.report_merge.proofs.Refusing.{unread_words, words_refused}
+use Rattle.report_merge.proofs.Given.{spelled_if}
+use Rattle.report_merge.proofs.Refusing.{moded_words, unread_words, words_refused}
 use Rattle.report_merge.proofs.Takings.{after_agg, after_by, after_q, after_set, last_given, next_agg, next_by, next_q}
 use Rattle.report_merge.proofs.Takings.{next_set}
 use Rattle.report_merge.proofs.words.query_of.Goals as goal
@@ -70,8 +71,8 @@ returns-in_err-conditions-clause-refused c =
     (next_agg given query spells c.in_ok-by.left.now by.1) in
     p.2 ∙ c.in_err-conditions.ensures.complete (last_given given query spells c.in_ok-agg.left.now agg.1)))
 
-pub returns-in_err-query-clause-refused : goal.returns-in_err-query-clause-refused
-returns-in_err-query-clause-refused c =
+pub returns-in_err-asked-clause-refused : goal.returns-in_err-asked-clause-refused
+returns-in_err-asked-clause-refused c =
     let q = option_map (λ word. word.now) c.in_ok-q.q in
     let set = option_map (λ word. word.now) c.in_ok-set.set in
     let by = option_map (λ word. word.now) c.in_ok-by.by in
@@ -90,8 +91,8 @@ returns-in_err-query-clause-refused c =
     let after_by = c.in_ok-by.ensures.ok ∙ ap (λ (rest : List Word). word_if_any By by ++ rest) after_agg in
     let after_set = c.in_ok-set.ensures.ok ∙ ap (λ (rest : List Word). word_if_any Set set ++ rest) after_by in
     let are = c.in_ok-q.ensures.ok ∙ ap (λ (rest : List Word). word_if_any Q q ++ rest) after_set in
-    let p = err_from_is_err_and c.from_residual-in_err-query.result c.from_residual-in_err-query.ensures.1 in
-    rw p.1 (unread_words c.args.words.now words p.0 _ are (rw c.as_slice.ensures.value at c.in_err-query.ensures) p.2)
+    let p = err_from_is_err_and c.from_residual-in_err-asked.result c.from_residual-in_err-asked.ensures.1 in
+    rw p.1 (unread_words c.args.words.now words p.0 _ are (rw c.as_slice.ensures.value at c.in_err-asked.ensures) p.2)
 
 pub returns-clause-ok : goal.returns-clause-ok
 returns-clause-ok c =
@@ -112,13 +113,33 @@ returns-clause-ok c =
     ∙ ap (λ (rest : List Word). word_if_any Agg agg ++ rest) c.in_ok-conditions.ensures.ok in
     let after_by = c.in_ok-by.ensures.ok ∙ ap (λ (rest : List Word). word_if_any By by ++ rest) after_agg in
     let after_set = c.in_ok-set.ensures.ok ∙ ap (λ (rest : List Word). word_if_any Set set ++ rest) after_by in
-    let read : SpellsProper words c.in_ok-query.query = rw c.as_slice.ensures.value at c.in_ok-query.ensures in
+    let are = c.in_ok-q.ensures.ok ∙ ap (λ (rest : List Word). word_if_any Q q ++ rest) after_set in
+    let read : SpellsProper words c.in_ok-asked.asked = rw c.as_slice.ensures.value at c.in_ok-asked.ensures in
+    let utf8 = c.in_ok-q.ensures.utf8
+    (c.in_ok-set.ensures.utf8
+    (c.in_ok-by.ensures.utf8 (c.in_ok-agg.ensures.utf8 c.in_ok-conditions.ensures.utf8))) in
+    spelled_if c.plain_of.result c.args.words.now words c.in_ok-asked.asked are utf8 read c.plain_of.ensures.ok
+
+pub returns-clause-refused : goal.returns-clause-refused
+returns-clause-refused c =
+    let q = option_map (λ word. word.now) c.in_ok-q.q in
+    let set = option_map (λ word. word.now) c.in_ok-set.set in
+    let by = option_map (λ word. word.now) c.in_ok-by.by in
+    let agg = option_map (λ word. word.now) c.in_ok-agg.agg in
+    let words : Words =
     record {
-      words = words;
-      utf8 = c.in_ok-q.ensures.utf8
-          (c.in_ok-set.ensures.utf8
-          (c.in_ok-by.ensures.utf8 (c.in_ok-agg.ensures.utf8 c.in_ok-conditions.ensures.utf8)));
-      are = c.in_ok-q.ensures.ok ∙ ap (λ (rest : List Word). word_if_any Q q ++ rest) after_set;
-      spelled = read.0;
-      asked = read.1;
-    }
+      q = q;
+      set = set;
+      by = by;
+      agg = agg;
+      conditions =
+          map (λ word. word.now) c.in_ok-conditions.conditions.items;
+    } in
+    let after_agg = c.in_ok-agg.ensures.ok
+    ∙ ap (λ (rest : List Word). word_if_any Agg agg ++ rest) c.in_ok-conditions.ensures.ok in
+    let after_by = c.in_ok-by.ensures.ok ∙ ap (λ (rest : List Word). word_if_any By by ++ rest) after_agg in
+    let after_set = c.in_ok-set.ensures.ok ∙ ap (λ (rest : List Word). word_if_any Set set ++ rest) after_by in
+    let are = c.in_ok-q.ensures.ok ∙ ap (λ (rest : List Word). word_if_any Q q ++ rest) after_set in
+    let read : SpellsProper words c.in_ok-asked.asked = rw c.as_slice.ensures.value at c.in_ok-asked.ensures in
+    moded_words c.words_spell_one_query.ensures c.plain_of.result c.args.words.now words c.in_ok-asked.asked are read.0
+    c.plain_of.ensures.refused

@@ -1,7 +1,7 @@
 use Rattle.std.proofs.Common.{◌≡◌, Result, Ok, Err}
 use Rattle.std.specs.Prelude.{IfOk}
 use Rattle.cube_model.specs.declared.fault.Fault.{Fault}
-use Rattle.cube_model.specs.declared.query.Query.{Query}
+use Rattle.mode_queries.specs.declared.query.ModeQuery.{ModeQuery}
 use Rattle.query_words.specs.Given.{words_of}
 use Rattle.query_words.specs.Words.{SpellsQuery, Words}
 use Rattle.report_formats.specs.declared.asked.Asked.{Asked}
@@ -10,8 +10,9 @@ use Rattle.report_formats.specs.Asked.{asked_for}
 use Rattle.report_words.specs.Words.{IsReportOf}
 use Rattle.report_words.proofs.asking.asked_in.Goals as goal
 
-is_report : (words : Words) (layout : Layout) (query : Query) (result : Result Asked Fault) → SpellsQuery words query
-    → IfOk result (λ asked. asked ≡ asked_for layout query) → IfOk result (IsReportOf words layout)
+is_report : (words : Words) (layout : Layout) (query : ModeQuery) (result : Result Asked Fault)
+    → SpellsQuery words query → IfOk result (λ asked. asked ≡ asked_for layout query)
+    → IfOk result (IsReportOf words layout)
 is_report words layout query (Ok asked) spelled is = (query, spelled, is)
 is_report words layout query (Err fault) spelled is = tt
 

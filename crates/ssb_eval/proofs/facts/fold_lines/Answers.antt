@@ -8,19 +8,19 @@ use Rattle.ssb_eval.proofs.facts.fold_lines.Goals as goal
 pub returns-in_err-more-clause-facts : goal.returns-in_err-more-clause-facts
 returns-in_err-more-clause-facts g c = λ text unread.
     let batches = c.loop-modes.invariant.0 in
-    let own = AreTaken-own c.args.dims.now c.args.fold.now.query c.loop-modes.admission c.loop-modes.fold batches
+    let own = AreTaken-own c.args.dims.now c.args.fold.now.asked c.loop-modes.admission c.loop-modes.fold batches
     c.loop-modes.invariant.1 in
-    folds-stopped c.args.fold.now.query c.args.dims.now text c.take_batch.new.fold _ _
+    folds-stopped c.args.fold.now.asked c.args.dims.now text c.take_batch.new.fold _ _
     (err_from_is_err_and _ c.from_residual.ensures.1)
-    (gives-stopped c.args.fold.now.query c.args.dims.now text batches c.loop-modes.lines c.take_batch.new.lines
-    c.take_batch.new.admission c.take_batch.new.modes c.take_batch.new.fold c.loop-modes.fold.query _ _
+    (gives-stopped c.args.fold.now.asked c.args.dims.now text batches c.loop-modes.lines c.take_batch.new.lines
+    c.take_batch.new.admission c.take_batch.new.modes c.take_batch.new.fold c.loop-modes.fold.asked _ _
     (c.loop-modes.invariant.3 text unread) (c.in_err-more.ensures.takes batches own c.loop-modes.invariant.5)
     (_, refl, refl))
 
 pub returns-then-not-more-clause-folded : goal.returns-then-not-more-clause-folded
 returns-then-not-more-clause-folded g c =
     let batches = c.loop-modes.invariant.0 in
-    let own = AreTaken-own c.args.dims.now c.args.fold.now.query c.loop-modes.admission c.loop-modes.fold batches
+    let own = AreTaken-own c.args.dims.now c.args.fold.now.asked c.loop-modes.admission c.loop-modes.fold batches
     c.loop-modes.invariant.1 in
     let done = rw c.if-not-more.true at (c.in_ok-more.ensures.takes batches own c.loop-modes.invariant.5) in
     record {
@@ -33,7 +33,7 @@ returns-then-not-more-clause-folded g c =
 pub returns-then-not-more-clause-facts : goal.returns-then-not-more-clause-facts
 returns-then-not-more-clause-facts g c = λ text unread.
     let batches = c.loop-modes.invariant.0 in
-    let own = AreTaken-own c.args.dims.now c.args.fold.now.query c.loop-modes.admission c.loop-modes.fold batches
+    let own = AreTaken-own c.args.dims.now c.args.fold.now.asked c.loop-modes.admission c.loop-modes.fold batches
     c.loop-modes.invariant.1 in
     let done = rw c.if-not-more.true at (c.in_ok-more.ensures.takes batches own c.loop-modes.invariant.5) in (
       all_rows batches,
@@ -48,7 +48,7 @@ take_batch-requires g c =
     record {
       goes_on = (
         batches,
-        AreTaken-own c.args.dims.now c.args.fold.now.query c.loop-modes.admission c.loop-modes.fold
+        AreTaken-own c.args.dims.now c.args.fold.now.asked c.loop-modes.admission c.loop-modes.fold
             batches c.loop-modes.invariant.1,
       );
       fault = c.loop-modes.invariant.2;
@@ -57,10 +57,10 @@ take_batch-requires g c =
 pub loop-modes-smaller : goal.loop-modes-smaller
 loop-modes-smaller g c =
     let batches = c.loop-modes.invariant.0 in
-    let own = AreTaken-own c.args.dims.now c.args.fold.now.query c.loop-modes.admission c.loop-modes.fold batches
+    let own = AreTaken-own c.args.dims.now c.args.fold.now.asked c.loop-modes.admission c.loop-modes.fold batches
     c.loop-modes.invariant.1 in
     let next = rw c.if-not-more.false at (c.in_ok-more.ensures.takes batches own c.loop-modes.invariant.5) in
-    count_more c.args.dims.now c.args.fold.now.query c.loop-modes.fold.query batches c.loop-modes.lines
+    count_more c.args.dims.now c.args.fold.now.asked c.loop-modes.fold.asked batches c.loop-modes.lines
     c.take_batch.new.lines c.loop-modes.admission c.take_batch.new.admission c.take_batch.new.modes c.loop-modes.fold
     c.take_batch.new.fold
     next.0 c.loop-modes.invariant.1 next.1
@@ -68,11 +68,11 @@ loop-modes-smaller g c =
 pub loop-modes-preserved : goal.loop-modes-preserved
 loop-modes-preserved g c =
     let batches = c.loop-modes.invariant.0 in
-    let own = AreTaken-own c.args.dims.now c.args.fold.now.query c.loop-modes.admission c.loop-modes.fold batches
+    let own = AreTaken-own c.args.dims.now c.args.fold.now.asked c.loop-modes.admission c.loop-modes.fold batches
     c.loop-modes.invariant.1 in
     let next = rw c.if-not-more.false at (c.in_ok-more.ensures.takes batches own c.loop-modes.invariant.5) in (
       batches ++ next.0 ∷ [],
-      AreTaken-of c.args.dims.now c.loop-modes.fold.query c.args.fold.now.query c.take_batch.new.admission
+      AreTaken-of c.args.dims.now c.loop-modes.fold.asked c.args.fold.now.asked c.take_batch.new.admission
           c.take_batch.new.fold (batches ++ next.0 ∷ []) c.loop-modes.invariant.1.query_is next.1.taken,
       next.1.read.fault,
       λ text unread.

@@ -11,7 +11,7 @@ use Rattle.ssb_eval.proofs.facts.fold_lines.Given as goal
 abbrev pub invariant-loop-modes : goal.invariant-loop-modes
 invariant-loop-modes g l =
     (batches : List (List LineOrder))
-    × AreTaken l.dims l.fn.fold.query l.admission l.fold batches
+    × AreTaken l.dims l.fn.fold.asked l.admission l.fold batches
     × (l.lines.fault ≡ None)
     × ((text : List ℕ) → IsUnread l.fn.lines text → LeavesFacts l.dims text batches l.lines.number l.lines.left)
     × (IfSome l.fn.unknown (IsInNoRow l.dims) → IfSome l.unknown (IsInNoRow l.dims))

@@ -15,8 +15,8 @@ abbrev pub invariant-loop : goal.invariant-loop
 invariant-loop g l =
     (earlier : List LineOrder)
     × IsTaking lineorder_row most_batch_rows l.fn.lines l.lines earlier (l.counter * 4096)
-    × ((batches : List (List LineOrder)) → AreTaken l.dims l.fn.fold.query l.admission l.fn.fold batches
-    → IsBegun l.dims l.fn.fold.query (all_rows batches) earlier l.found l.fold)
-    × ((batches : List (List LineOrder)) → AreTaken l.dims l.fn.fold.query l.admission l.fn.fold batches
+    × ((batches : List (List LineOrder)) → AreTaken l.dims l.fn.fold.asked l.admission l.fn.fold batches
+    → IsBegun l.dims l.fn.fold.asked (all_rows batches) earlier l.found l.fold)
+    × ((batches : List (List LineOrder)) → AreTaken l.dims l.fn.fold.asked l.admission l.fn.fold batches
     → HasMet l.fn.modes (modes_in (all_rows batches)) [] → HasMetRows l.found l.modes (all_rows batches) earlier)
     × (IfSome l.fn.unknown (IsInNoRow l.dims) → IfSome l.unknown (IsInNoRow l.dims))

@@ -1,6 +1,7 @@
 use Rattle.std.proofs.lemmas.Result.{err_from_is_err_and}
-use Rattle.cube_query.specs.GroupLines.{answer_over}
+use Rattle.mode_folds.specs.Answered.{answered_over}
 use Rattle.report_formats.specs.Fields.{formatted}
+use Rattle.ssb_eval.specs.Evaluation.{moded_answer_of}
 use Rattle.ssb_eval.proofs.Endings.{eval-is, eval-refused, reports-stop, reports-unfinished}
 use Rattle.ssb_eval.proofs.KeptLines.{keeps-nothing, keeps-other, keeps-refused}
 use Rattle.ssb_eval.proofs.formatting.eval_formatted.Goals as goal
@@ -8,23 +9,23 @@ use Rattle.ssb_eval.proofs.formatting.eval_formatted.Goals as goal
 pub returns-in_err-found-clause-proper : goal.returns-in_err-found-clause-proper
 returns-in_err-found-clause-proper g c = λ proper texts unread.
     reports-stop _ _ _ _ (err_from_is_err_and _ c.from_residual-in_err-found.ensures.1)
-    (eval-refused (formatted c.args.asked.now) c.args.asked.now.query texts _
+    (eval-refused (formatted c.args.asked.now) (moded_answer_of c.args.asked.now.query) texts _
     (c.in_err-found.ensures.evaluates texts unread))
 
 pub returns-in_err-write_formatted-clause-proper : goal.returns-in_err-write_formatted-clause-proper
 returns-in_err-write_formatted-clause-proper g c = λ proper texts unread.
     let found = c.in_ok-found.ensures.evaluates texts unread in
     reports-unfinished _ _ _ _ _ _ (err_from_is_err_and _ c.from_residual-in_err-write_formatted.ensures.1)
-    (eval-is (formatted c.args.asked.now) c.args.asked.now.query texts c.in_ok-found.found.dims
-    (answer_over c.in_ok-found.found.dims c.in_ok-found.found.groups) found.0 found.1)
+    (eval-is (formatted c.args.asked.now) (moded_answer_of c.args.asked.now.query) texts c.in_ok-found.found.dims
+    (answered_over c.in_ok-found.found.dims c.in_ok-found.found.answered) found.0 found.1)
     (rw c.over.ensures at c.in_err-write_formatted.ensures.writes)
 
 pub returns-clause-proper : goal.returns-clause-proper
 returns-clause-proper g c = λ proper texts unread.
     let found = c.in_ok-found.ensures.evaluates texts unread in (
       _,
-      eval-is (formatted c.args.asked.now) c.args.asked.now.query texts c.in_ok-found.found.dims
-          (answer_over c.in_ok-found.found.dims c.in_ok-found.found.groups) found.0 found.1,
+      eval-is (formatted c.args.asked.now) (moded_answer_of c.args.asked.now.query) texts c.in_ok-found.found.dims
+          (answered_over c.in_ok-found.found.dims c.in_ok-found.found.answered) found.0 found.1,
       (rw c.over.ensures at c.in_ok-write_formatted.ensures.writes),
     )
 

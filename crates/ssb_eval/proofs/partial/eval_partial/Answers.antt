@@ -1,8 +1,8 @@
-use Rattle.std.proofs.Common.{◌∙◌, ◌++◌, ap}
+use Rattle.std.proofs.Common.{Err, Ok, ◌∙◌, ◌++◌, ap}
 use Rattle.ssb_reports.specs.Report.{report_of}
 use Rattle.std.proofs.lemmas.Result.{err_from_is_err_and}
-use Rattle.cube_query.specs.GroupLines.{answer_over}
-use Rattle.ssb_eval.proofs.Endings.{reports-stop, reports-unwritten}
+use Rattle.mode_folds.specs.Answered.{answered_over}
+use Rattle.ssb_eval.proofs.Endings.{evaluates-plain, reports-stop, reports-unwritten}
 use Rattle.ssb_eval.proofs.KeptLines.{keeps-nothing, keeps-other, keeps-refused}
 use Rattle.ssb_eval.proofs.Partly.{partial-refused, partial-not_plain, partial-is}
 use Rattle.ssb_eval.proofs.partial.eval_partial.Goals as goal
@@ -10,47 +10,54 @@ use Rattle.ssb_eval.proofs.partial.eval_partial.Goals as goal
 pub returns-in_err-found-clause-proper : goal.returns-in_err-found-clause-proper
 returns-in_err-found-clause-proper g c = λ proper texts unread.
     reports-stop _ _ _ _ (err_from_is_err_and _ c.from_residual-in_err-found.ensures.1)
-    (partial-refused c.args.asked.now texts _ (c.in_err-found.ensures.evaluates texts unread))
+    (partial-refused c.args.asked.now texts _
+    (evaluates-plain c.args.asked.now.query texts (Err c.in_err-found.field-0.0)
+    (c.in_err-found.ensures.evaluates texts unread)))
 
 pub returns-in_err-head-clause-proper : goal.returns-in_err-head-clause-proper
 returns-in_err-head-clause-proper g c = λ proper texts unread.
+    let found = evaluates-plain c.args.asked.now.query texts (Ok c.in_ok-found.found)
+    (c.in_ok-found.ensures.evaluates texts unread) in
     reports-stop _ _ _ _ (err_from_is_err_and _ c.from_residual-in_err-head.ensures.1)
     (partial-not_plain c.args.asked.now texts c.in_ok-found.found.dims
-    (answer_over c.in_ok-found.found.dims c.in_ok-found.found.groups) _
-    (c.in_ok-found.ensures.evaluates texts unread).0
-    (c.in_ok-found.ensures.evaluates texts unread).1
+    (answered_over c.in_ok-found.found.dims c.in_ok-found.found.answered) _
+    found.0
+    found.1
     (rw c.over.ensures at c.in_err-head.ensures.refused))
 
 pub returns-in_err-write_partial-clause-proper : goal.returns-in_err-write_partial-clause-proper
 returns-in_err-write_partial-clause-proper g c = λ proper texts unread.
+    let found = evaluates-plain c.args.asked.now.query texts (Ok c.in_ok-found.found)
+    (c.in_ok-found.ensures.evaluates texts unread) in
     reports-unwritten _ _ _ _ _ _ (err_from_is_err_and _ c.from_residual-in_err-write_partial.ensures.1)
     (partial-is c.args.asked.now texts c.in_ok-found.found.dims
-    (answer_over c.in_ok-found.found.dims c.in_ok-found.found.groups) _
-    (c.in_ok-found.ensures.evaluates texts unread).0
-    (c.in_ok-found.ensures.evaluates texts unread).1
+    (answered_over c.in_ok-found.found.dims c.in_ok-found.found.answered) _
+    found.0
+    found.1
     (rw c.over.ensures at c.in_ok-head.ensures.plain)
     (ap (λ l. l
-    ++ report_of c.args.asked.now.query (answer_over c.in_ok-found.found.dims c.in_ok-found.found.groups))
+    ++ report_of c.args.asked.now.query (answered_over c.in_ok-found.found.dims c.in_ok-found.found.answered))
     (c.as_slice.ensures.value ∙ c.in_ok-head.ensures.ok)))
     (rw c.over-2.ensures at c.in_err-write_partial.ensures)
 
 pub returns-clause-proper : goal.returns-clause-proper
-returns-clause-proper g c = λ proper texts unread. (
-  _,
-  (partial-is c.args.asked.now texts c.in_ok-found.found.dims
-      (answer_over c.in_ok-found.found.dims c.in_ok-found.found.groups) _
-      (c.in_ok-found.ensures.evaluates texts unread).0
-      (c.in_ok-found.ensures.evaluates texts unread).1
-      (rw c.over.ensures at c.in_ok-head.ensures.plain)
-      (ap (λ l. l
-      ++ report_of c.args.asked.now.query (answer_over c.in_ok-found.found.dims c.in_ok-found.found.groups))
-      (c.as_slice.ensures.value ∙ c.in_ok-head.ensures.ok))),
-  (rw c.over-2.ensures at c.in_ok-write_partial.ensures),
-)
+returns-clause-proper g c = λ proper texts unread.
+    let found = evaluates-plain c.args.asked.now.query texts (Ok c.in_ok-found.found)
+    (c.in_ok-found.ensures.evaluates texts unread) in (
+      _,
+      (partial-is c.args.asked.now texts c.in_ok-found.found.dims
+          (answered_over c.in_ok-found.found.dims c.in_ok-found.found.answered) _
+          found.0
+          found.1
+          (rw c.over.ensures at c.in_ok-head.ensures.plain)
+          (ap (λ l. l
+          ++ report_of c.args.asked.now.query (answered_over c.in_ok-found.found.dims c.in_ok-found.found.answered))
+          (c.as_slice.ensures.value ∙ c.in_ok-head.ensures.ok))),
+      (rw c.over-2.ensures at c.in_ok-write_partial.ensures),
+    )
 
 pub returns-clause-dims : goal.returns-clause-dims
-returns-clause-dims g c = λ texts unread.
-    (c.in_ok-found.ensures.evaluates texts unread).0
+returns-clause-dims g c = λ texts unread. (c.in_ok-found.ensures.evaluates texts unread).0
 
 pub returns-in_err-check-clause-cause : goal.returns-in_err-check-clause-cause
 returns-in_err-check-clause-cause g c = λ fresh. keeps-nothing _ _ fresh

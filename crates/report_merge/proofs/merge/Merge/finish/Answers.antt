@@ -1,7 +1,9 @@
-use Rattle.std.proofs.Common.{◌≡◌, ap, sym, subst}
+use Rattle.std.proofs.Common.{◌≡◌, ◌∙◌, ap, sym, subst}
 use Rattle.std.proofs.lemmas.Result.{err_from_is_err_and}
 use Rattle.answer_merge.specs.Wide.{lines_of}
 use Rattle.answer_merge.specs.Finishing.{CanBeFinished, FinishRefuses}
+use Rattle.mode_queries.specs.declared.query.ModeQuery.{ModeQuery}
+use Rattle.report_formats.specs.declared.asked.Asked.{Asked}
 use Rattle.report_formats.specs.Asked.{query_for}
 use Rattle.report_merge.specs.Finishing.{finished_for, partial_for}
 use Rattle.report_merge.specs.Merging.{Part}
@@ -12,10 +14,12 @@ use Rattle.report_merge.proofs.merge.Merge.finish.Goals as goal
 pub returns-clause-answer : goal.returns-clause-answer
 returns-clause-answer c =
     let inside = c.self.inside in
+    let asked_is = ap (λ (asked : Asked). asked.query.query) c.in_ok-asked.ensures.ok
+    ∙ ap (λ (asked : ModeQuery). query_for c.args.layout asked.query) c.without_modes.ensures in
     subst (λ (part : Part). c.in_ok-answer.answer ≡ finished_for c.args.layout part.query part.answer) c.self.view_is
-    (done c.args.layout inside.query c.in_ok-asked.asked.query c.asks_for_counts-counts.result
+    (done c.args.layout inside.query c.in_ok-asked.asked.query.query c.asks_for_counts-counts.result
     (lines_of inside.lines.items) (lines_of c.in_ok-lines.lines.items)
-    c.in_ok-answer.answer (ap (λ asked. asked.query) c.in_ok-asked.ensures.ok) c.asks_for_counts-counts.ensures
+    c.in_ok-answer.answer asked_is c.asks_for_counts-counts.ensures
     c.in_ok-lines.ensures.lines c.in_ok-answer.ensures.ok)
 
 pub returns-in_err-answer-clause-complete : goal.returns-in_err-answer-clause-complete
@@ -23,21 +27,23 @@ returns-in_err-answer-clause-complete c = λ can.
     let inside = c.self.inside in
     let fine = subst (λ (part : Part). CanBeFinished part.answer) (sym c.self.view_is) can in
     let p = err_from_is_err_and c.from_residual-in_err-answer.result c.from_residual-in_err-answer.ensures.1 in
-    rw p.1 (fine_memory c.in_ok-asked.asked.query.aggregates c.asks_for_counts-counts.result
+    rw p.1 (fine_memory c.in_ok-asked.asked.query.query.aggregates c.asks_for_counts-counts.result
     (lines_of inside.lines.items) (lines_of c.in_ok-lines.lines.items) p.0
     c.in_ok-lines.ensures.lines fine
-    (subst (FinishRefuses c.in_ok-asked.asked.query.aggregates (lines_of c.in_ok-lines.lines.items)) (sym p.2)
+    (subst (FinishRefuses c.in_ok-asked.asked.query.query.aggregates (lines_of c.in_ok-lines.lines.items)) (sym p.2)
     c.in_err-answer.ensures.refused))
 
 pub returns-in_err-answer-clause-refused : goal.returns-in_err-answer-clause-refused
 returns-in_err-answer-clause-refused c =
     let inside = c.self.inside in
+    let asked_is = ap (λ (asked : Asked). asked.query.query) c.in_ok-asked.ensures.ok
+    ∙ ap (λ (asked : ModeQuery). query_for c.args.layout asked.query) c.without_modes.ensures in
     let p = err_from_is_err_and c.from_residual-in_err-answer.result c.from_residual-in_err-answer.ensures.1 in
     rw p.1 (subst
     (λ (part : Part). FinishRefuses (query_for c.args.layout part.query).aggregates
     (partial_for c.args.layout part.query part.answer).lines p.0) c.self.view_is
-    (refused_for c.args.layout inside.query c.in_ok-asked.asked.query c.asks_for_counts-counts.result
+    (refused_for c.args.layout inside.query c.in_ok-asked.asked.query.query c.asks_for_counts-counts.result
     (lines_of inside.lines.items) (lines_of c.in_ok-lines.lines.items) p.0
-    (ap (λ asked. asked.query) c.in_ok-asked.ensures.ok) c.asks_for_counts-counts.ensures c.in_ok-lines.ensures.lines
-    (subst (FinishRefuses c.in_ok-asked.asked.query.aggregates (lines_of c.in_ok-lines.lines.items)) (sym p.2)
+    asked_is c.asks_for_counts-counts.ensures c.in_ok-lines.ensures.lines
+    (subst (FinishRefuses c.in_ok-asked.asked.query.query.aggregates (lines_of c.in_ok-lines.lines.items)) (sym p.2)
     c.in_err-answer.ensures.refused)))

@@ -1,8 +1,8 @@
 use Rattle.std.proofs.Common.{[], inr, refl, arith}
-use Rattle.cube_model.specs.Names.{attr_name}
+use Rattle.query_words.specs.Known.{column_name}
 use Rattle.query_words.proofs.Listed.{names_none}
 use Rattle.query_words.proofs.Refusals.{has_text}
-use Rattle.query_words.proofs.columns.attributes_of.Goals as goal
+use Rattle.query_words.proofs.columns.columns_of.Goals as goal
 
 pub returns-in_default : goal.returns-in_default
 returns-in_default c = inr (
@@ -12,7 +12,7 @@ returns-in_default c = inr (
         (omega arith),
     λ name. c.in_default.ensures name.0 name.1,
   ),
-  λ values e. names_none attr_name (λ name. name.now) c.args.names.now c.loop-name.name-index
+  λ values e. names_none column_name (λ name. name.now) c.args.names.now c.loop-name.name-index
       (record { ref_ptr = (0, 0); now = [] })
       (omega arith) c.in_default.ensures values e,
 )

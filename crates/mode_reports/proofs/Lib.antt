@@ -1,0 +1,3 @@
+mod Calls
+pub mod CallerLemmas
+mod Folding
