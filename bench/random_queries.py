@@ -3,10 +3,10 @@
 
 At the top of the repository, once crates/ssbcube/out/ssbcube is built: python3 bench/random_queries.py [QUERIES [SEED]]
 
-Each warehouse has other fact rows of the sample tables, in other batches, and cuboids that hold more or fewer of them: views are chosen
-or set, kept up, and batches are loaded before and after. `cube` answers over some first batches, by its plan; `eval` reads the text of
-the same rows. It prints how many queries were asked, how many of them a cuboid answered, and how many reports differ. Another program
-is taken from the folder SSBCUBE_AT.
+Each warehouse has other fact rows of the sample tables with other ship modes, in other batches, one of the two layouts, and cuboids that
+hold more or fewer of the batches: views are chosen or set, kept up, and batches are loaded before and after. `cube` answers over some
+first batches, by its plan; `eval` reads the text of the same rows. It prints how many queries were asked, of these by ship mode, how
+many of them a cuboid answered, and how many reports differ. Another program is taken from the folder SSBCUBE_AT.
 """
 import os
 import random
@@ -27,12 +27,14 @@ ATTRIBUTES = {
     "part": {"p_mfgr": 2, "p_category": 3, "p_brand1": 4},
     "date": {"d_datekey": 0, "d_year": 4, "d_yearmonthnum": 5, "d_yearmonth": 6, "d_weeknuminyear": 11},
 }
+MODE_PLACE = 16
+MODES = ["", "AIR", "FOB", "MAIL", "RAIL", "REG AIR", "SHIP", "TRUCK"]
 MEASURES = ["quantity", "extendedprice", "revenue", "supplycost", "discounted", "profit"]
 
 
 def members():
-    """Of each attribute the texts that its table has."""
-    found = {}
+    """Of each attribute the texts that its table has, and the ship modes."""
+    found = {"lo_shipmode": MODES}
     for table, places in ATTRIBUTES.items():
         lines = (TABLES / f"star_{table}.tbl").read_text().splitlines()
         for attribute, place in places.items():
@@ -83,12 +85,20 @@ def query(chance, texts):
     return words + [condition(chance, texts) for _ in range(chance.choice([0, 0, 1, 1, 2]))]
 
 
+def fact_rows(chance):
+    """Some of the sample fact rows, also more than once, each with some ship mode."""
+    lines = (TABLES / "star_lineorder.tbl").read_text().splitlines(keepends=True)
+    modes = chance.sample(MODES, chance.randint(1, len(MODES)))
+    rows = [line.split("|") for line in chance.choices(lines, k=chance.randint(12, 4 * len(lines)))]
+    return ["|".join(row[:MODE_PLACE] + [chance.choice(modes)] + row[MODE_PLACE + 1 :]) for row in rows]
+
+
 def warehouse(chance, folder, device):
     """Makes a warehouse with cuboids at some mark, and returns the rows of its batches."""
-    lines = (TABLES / "star_lineorder.tbl").read_text().splitlines(keepends=True)
-    rows = chance.sample(lines, chance.randint(12, len(lines)))
+    rows = fact_rows(chance)
+    layout = chance.randint(1, 2)
     device.unlink(missing_ok=True)
-    must("create", device, "--sectors", 16384, *tables(TABLES))
+    must("create", device, "--sectors", 16384, "--layout", layout, *tables(TABLES))
     batches = []
     parts = chance.randint(1, 4)
     for part in range(parts):
@@ -103,7 +113,7 @@ def warehouse(chance, folder, device):
         if chance.random() < 0.5:
             must("choose", device, chance.randint(1, 6))
         elif chance.random() < 0.5:
-            must("views", device, *chance.sample(range(255), chance.randint(1, 8)))
+            must("views", device, *chance.sample(range(256 * (layout - 1), 256 * layout - 1), chance.randint(1, 16)))
         if chance.random() < 0.7:
             must("upkeep", device)
     return batches
@@ -114,7 +124,7 @@ def main():
     seed = int(sys.argv[2]) if len(sys.argv) > 2 else 1
     chance = random.Random(seed)
     texts = members()
-    asked = by_cuboid = differ = warehouses = 0
+    asked = by_cuboid = by_mode = by_mode_cuboid = differ = warehouses = 0
     with tempfile.TemporaryDirectory() as scratch:
         folder = Path(scratch)
         device = folder / "star.dev"
@@ -122,19 +132,24 @@ def main():
             batches = warehouse(chance, folder, device)
             warehouses += 1
             for _ in range(min(QUERIES_EACH, asked_for - asked)):
-                as_of = chance.randint(1, len(batches))
+                as_of = chance.choice([len(batches), chance.randint(1, len(batches))])
                 facts = folder / "facts.tbl"
                 facts.write_text("".join(line for batch in batches[:as_of] for line in batch))
                 words = query(chance, texts)
                 found = run("cube", device, "--as-of", as_of, *words)
                 wanted = run("eval", *tables(TABLES), "--lineorder", facts, *words)
                 plan = run("explain", device, "--as-of", as_of, *words)[1]
+                from_cuboid = plan.startswith(b"plan view")
                 asked += 1
-                by_cuboid += plan.startswith(b"plan view")
+                by_cuboid += from_cuboid
+                if "lo_shipmode" in " ".join(words):
+                    by_mode += 1
+                    by_mode_cuboid += from_cuboid
                 if found != wanted:
                     differ += 1
                     print(f"warehouse {warehouses}, as of {as_of}: {' '.join(words)}")
     print(f"{asked} queries of {warehouses} warehouses, {by_cuboid} answered from a cuboid, {differ} differ")
+    print(f"by ship mode {by_mode}, {by_mode_cuboid} answered from a cuboid")
     return 1 if differ else 0
 
 

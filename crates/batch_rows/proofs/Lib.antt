@@ -3,3 +3,5 @@ mod Firsts
 mod Fitting
 mod OneBatchMore
 mod Rows
+mod TextColumns
+mod TextPart

@@ -7,15 +7,16 @@ use Rattle.std.proofs.lemmas.Option.{slice_get-get_or, slice_get-map}
 use Rattle.cube_model.specs.declared.fault.Fault.{Fault}
 use Rattle.cube_model.specs.declared.fault.Fault.TheVariants.{BadLayout, Device, Memory}
 use Rattle.cube_model.specs.declared.rows.LineOrder.{LineOrder}
+use Rattle.cube_model.specs.ShipModes.{modes_in}
 use Rattle.object_store.specs.Content.{Content, bytes_of}
 use Rattle.column_segment.specs.Projected.{HoldsNoneOf}
-use Rattle.column_segment.specs.Segment.{IsSegment}
+use Rattle.column_segment.specs.Segment.{IsSegment, segment_of}
 use Rattle.warehouse_root.specs.Root.{IsProper, PlainRoot}
 use Rattle.warehouse_objects.specs.Represents.{Represents, root_of}
 use Rattle.warehouse_objects.specs.Warehouse.{Warehouse}
-use Rattle.warehouse_objects.proofs.Batches.{some_one}
-use Rattle.warehouse_objects.proofs.Folded.{found_at, none_there}
-use Rattle.batch_rows.specs.Stored.{HoldsBatch}
+use Rattle.warehouse_objects.proofs.Batches.{segment_at, some_one}
+use Rattle.warehouse_objects.proofs.Folded.{batch_bytes, found_at, none_there}
+use Rattle.batch_rows.specs.Stored.{HoldsBatch, HoldsModes}
 
 -- what a root says of the batch after so many others
 module _ (w : Warehouse) (root : PlainRoot) (rooted : root ≡ root_of w) (before : ℕ) where
@@ -49,6 +50,19 @@ module _ (c : Content) (w : Warehouse) (represents : Represents c w) (before : �
       sym (found_at c w represents before (before + 1) (65536 + (before + 1)) refl refl low held.bytes rows held.there
       held.segment)
 
+  -- the object of a batch is that batch
+  pub segment_there : (batch : List LineOrder) → slice_get w.batches before ≡ Some batch → (bytes : List ℕ)
+      → bytes_of c (65536 + (before + 1)) ≡ Some bytes → IsSegment bytes (before + 1) batch
+  segment_there batch here bytes at =
+      let same : 65536 + (before + 1) ≡ 65537 + before = omega arith in
+      let own = segment_at w.rows w.batches represents.batches before batch here in record {
+        spelled = some_one bytes (segment_of (before + 1) batch)
+            (sym at ∙ ap (λ (n : ℕ). bytes_of c n) same ∙ batch_bytes c w represents before batch low here);
+        number_fits = own.number_fits;
+        batch = own.batch;
+        fits = own.fits;
+      }
+
   -- the object of a batch is not that of none
   pub never_none : (root : PlainRoot) → root ≡ root_of w → (count : ℕ) → slice_get root.batches before ≡ Some count
       → HoldsNoneOf (bytes_of c (65536 + (before + 1))) (before + 1) count → ⊥
@@ -71,9 +85,14 @@ module _ (c : Content) (w : Warehouse) (represents : Represents c w) (root : Pla
       (subst (λ (l : List ℕ). HoldsNoneOf (bytes_of c (65536 + (before + 1))) (before + 1) (get_or l before 0)) same
       none)
 
-  pub said_rows : (rows : List LineOrder) → HoldsBatch c (65536 + (before + 1)) (before + 1) rows
-      → slice_get w.batches before ≡ Some rows
-  said_rows rows held = sym (rows_are c w represents before low rows held)
+  -- the ship modes of its object are those of the batch
+  pub said_modes : (modes : List (List ℕ)) → HoldsModes c (65536 + (before + 1)) (before + 1) modes
+      → (batch : List LineOrder) × (slice_get w.batches before ≡ Some batch) × (modes ≡ modes_in batch)
+  said_modes modes held =
+      let got = count_said w root rooted before (get_or root.batches before 0)
+      (slice_get-get_or root.batches before 0 within) in
+      let segment = segment_there c w represents before low got.0 got.1 held.bytes held.there in
+      (got.0, got.1, (held.own (before + 1) got.0 segment).1)
 
 -- no object is that of no batch
 pub missing : (text : Option (List ℕ)) (number count : ℕ) → text ≡ None → HoldsNoneOf text number count

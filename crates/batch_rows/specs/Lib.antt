@@ -1,3 +1,4 @@
 pub mod Comparing
 pub mod Gathered
 pub mod Stored
+pub mod TextColumns

@@ -2,12 +2,13 @@
 ghost use Rattle.std.specs.Prelude.{◌≡◌, ◌⊎◌, ◌+◌, ℕ, List, Some, slice_get, IfErr, IsErrOf, OnOk};
 ghost use Rattle.cube_model.specs.declared.fault.Fault.TheVariants.{Device, Failed, Memory};
 ghost use Rattle.cube_model.specs.declared.rows.LineOrder.{LineOrder};
+ghost use Rattle.cube_model.specs.ShipModes.{modes_in};
 ghost use Rattle.warehouse_objects.specs.Migration.{migration_refusal};
 ghost use Rattle.warehouse_root.specs.declared.layout.Layout.TheVariants.{First};
 ghost use Rattle.batch_rows.specs.Gathered.{IsGathered};
 
+use crate::mode_column::ModeColumn;
 use batch_admission::reserved_row;
-use column_segment::{Segment, TextColumn};
 use cube_model::{Fault, MemberPlace};
 use std::alloc::Global;
 use warehouse_objects::ShipModes;
@@ -31,19 +32,25 @@ impl Gathered {
     }
 
     // Takes in those of a further batch, of a number. It is refused where one is the text that means all of them.
-    pub(crate) fn add(&mut self, alloc: Global, segment: &Segment, number: u32) -> Result<(), Fault>
-        ensures ok { OnOk result ((batches : List (List LineOrder)) (before : ℕ) → number ≡ before + 1
-            → slice_get batches before ≡ Some segment.now.rows → IsGathered batches before self.old
+    pub(crate) fn add(
+        &mut self,
+        alloc: Global,
+        column: &ModeColumn,
+        number: u32,
+    ) -> Result<(), Fault>
+        ensures ok { OnOk result ((batches : List (List LineOrder)) (before : ℕ) (batch : List LineOrder)
+            → number ≡ before + 1 → slice_get batches before ≡ Some batch → column.now ≡ modes_in batch
+            → IsGathered batches before self.old
             → IsGathered batches (before + 1) self.new) }
         ensures refused { IfErr result (λ fault. (fault ≡ Memory)
-            ⊎ ((batches : List (List LineOrder)) (before : ℕ) → number ≡ before + 1
-            → slice_get batches before ≡ Some segment.now.rows → IsGathered batches before self.old
+            ⊎ ((batches : List (List LineOrder)) (before : ℕ) (batch : List LineOrder)
+            → number ≡ before + 1 → slice_get batches before ≡ Some batch → column.now ≡ modes_in batch
+            → IsGathered batches before self.old
             → migration_refusal First batches ≡ Some fault)) }
         ensures device { IsErrOf result Device → ⊥ }
         ensures failed { IsErrOf result Failed → ⊥ }
     {
-        let _rows = segment.len();
-        let (own, codes) = segment.coded(TextColumn::ShipMode);
+        let (own, codes) = column.coded();
         if let Some(row) = reserved_row(own, codes) {
             let place = MemberPlace::InStoredBatch { batch: number, row };
             return Err(Fault::ReservedMember { place });

@@ -3,8 +3,10 @@
 
 mod comparing;
 mod gathering;
+mod mode_column;
 mod reading;
 mod ship_modes;
+mod text_part;
 
 pub use comparing::has_own_ship_modes;
 pub use reading::read_rows;

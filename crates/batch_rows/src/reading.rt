@@ -85,7 +85,7 @@ fn read_batch<D: Sectors>(
 }
 
 // The batch of a number. There are to be so many rows.
-pub(crate) fn read_segment<D: Sectors>(
+fn read_segment<D: Sectors>(
     alloc: Global,
     store: &mut Store<D>,
     number: u32,

@@ -11,7 +11,7 @@ ghost use Rattle.warehouse_objects.specs.Represents.{Represents, root_of};
 ghost use Rattle.warehouse_objects.specs.Warehouse.{Warehouse};
 
 use crate::gathering::Gathered;
-use crate::reading::read_segment;
+use crate::text_part::read_mode_column;
 use cube_model::Fault;
 use object_store::Store;
 use sector_device::Sectors;
@@ -19,7 +19,8 @@ use std::alloc::Global;
 use warehouse_objects::ShipModes;
 use warehouse_root::Root;
 
-/// The ship modes of all batches in a store, each once in the order of first use. One batch is in memory at a time.
+/// The ship modes of all batches in a store, each once in the order of first use. Of each batch the columns of texts
+/// are read, and none of numbers; those of one batch are in memory at a time.
 ///
 /// `ReservedMember` where one is the text `ALL`, with the first such row of all batches, or else `TooManyMembers` where
 /// there are more than 65,535, with the first row with which there are. It can also fail when out of memory, or because
@@ -47,8 +48,8 @@ pub fn read_ship_modes<D: Sectors>(
     let mut gathered = Gathered::none(alloc);
     for before in 0..counts.len() as u32 {
         let number = before + 1;
-        let segment = read_segment(alloc, store, number, counts[before as usize])?;
-        gathered.add(alloc, &segment, number)?;
+        let column = read_mode_column(alloc, store, number, counts[before as usize])?;
+        gathered.add(alloc, &column, number)?;
     }
     match gathered.crowded {
         Some(place) => Err(Fault::TooManyMembers { place }),

@@ -34,7 +34,7 @@ pub fn plain_query(alloc: Global, asked: ModeQuery, by: &str) -> Result<Query, R
 /// What is said of a query by ship mode, where a command or an option takes none.
 pub fn modes_hint(alloc: Global, by: &str) -> Result<String, AllocError> {
     format!(in alloc;
-        "{SHIP_MODE}: {by} takes no query by ship mode; cube, eval and report --queries do, without --partial"
+        "{SHIP_MODE}: {by} takes no query by ship mode; cube, explain, eval and report --queries do, without --partial"
     )
 }
 

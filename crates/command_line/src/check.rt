@@ -1,5 +1,6 @@
 //! The command `check`.
 use clap::ArgMatches;
+use command_files::exit::exit_of;
 use command_files::output::{cut_short, output};
 use command_files::refusal::Refusal;
 use command_files::screens::Screens;
@@ -11,7 +12,6 @@ use command_sessions::unfinished::note_unfinished;
 use cube_model::Fault;
 use file_device::LockFile;
 use sector_device::Sectors;
-use ssb_eval::exit_of;
 use std::os::unix::fs::FileExt;
 use std::rt::{Clock, Files};
 use warehouse::Session;

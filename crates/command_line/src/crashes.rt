@@ -1,10 +1,10 @@
 //! The command `self-test`.
 use clap::ArgMatches;
+use command_files::exit::exit_of;
 use command_files::output::{cut_short, output};
 use command_files::refusal::Refusal;
 use cube_model::Fault;
 use self_test::test_crashes;
-use ssb_eval::exit_of;
 use std::rt::Clock;
 
 /// For how many seconds there are random crashes, if the command does not say.

@@ -81,7 +81,7 @@ fn demand_of(alloc: Global, name: &str, queries: &[ListedQuery]) -> Result<Deman
     Ok(demand)
 }
 
-// What is said of a line whose query is one by ship mode, which no cuboid serves.
+// What is said of a line whose query is one by ship mode, for which no view is chosen.
 fn by_modes(alloc: Global, name: &str, line: usize) -> Result<String, AllocError> {
     let hint = modes_hint(alloc, "choose --for")?;
     format!(in alloc; "{name}, line {line}: {hint}")

@@ -5,7 +5,7 @@ use crate::{
 };
 use clap::ArgMatches;
 use clap::error::{Error, ErrorKind};
-use command_files::exit::{DONE, NO_COMMAND};
+use command_files::exit::{DONE, NO_COMMAND, exit_of};
 use command_files::refusal::Refusal;
 use command_files::screens::Screens;
 use command_files::streams::hold_streams;
@@ -15,7 +15,6 @@ use command_sessions::{job, plans};
 use command_words::command;
 use cube_model::Fault;
 use file_device::LockFile;
-use ssb_eval::exit_of;
 use std::io;
 use std::os::unix::fs::FileExt;
 use std::rt::{Clock, Files};

@@ -2,24 +2,27 @@
 use crate::reports::Reports;
 use clap::ArgMatches;
 use command_files::query::benchmark_word;
-use cube_model::Query;
 use dimensions::Dims;
-use mode_queries::{ModeCond, SHIP_MODE};
+use mode_queries::{ModeCond, QueryRef, SHIP_MODE};
 use query_words::{End, Note, write_notes};
 
-/// Says on standard error what no row of the dimensions can meet of the conditions of the query of a command. It is
-/// called once the report is written; standard output and the status stay as they are, also where standard error takes
-/// nothing.
+/// Says on standard error what no row of the dimensions can meet of the conditions of the query of a command, and which
+/// of its ranges of ship modes are empty. It is called once the report is written; standard output and the status stay
+/// as they are, also where standard error takes nothing.
 ///
 /// Of a query of the benchmark nothing is said: its conditions are not the user's.
 pub fn note_conditions<R: AllocGlobal + Eprint>(
     rt: &R,
     given: &ArgMatches<'_>,
-    query: &Query,
+    asked: QueryRef<'_>,
     dims: &Dims,
 ) {
-    if benchmark_word(given).is_none() {
-        let _said = write_notes(rt, dims, query);
+    if benchmark_word(given).is_some() {
+        return;
+    }
+    let _said = write_notes(rt, dims, asked.query());
+    for condition in asked.conditions() {
+        note_modes(rt, condition);
     }
 }
 
@@ -31,14 +34,11 @@ pub fn note_report<R: AllocGlobal + Eprint>(
     dims: &Dims,
 ) {
     if let Some(asked) = reports.query() {
-        note_conditions(rt, given, asked.query(), dims);
-        for condition in asked.conditions() {
-            note_modes(rt, condition);
-        }
+        note_conditions(rt, given, asked, dims);
     }
 }
 
-// The same of a condition on ship modes, which are no members of the dimensions: only a range may be empty.
+// Says it of a condition on ship modes, which are no members of the dimensions: only a range may be empty.
 fn note_modes<R: Eprint>(rt: &R, condition: &ModeCond) {
     let ModeCond::Between(low, high) = condition else {
         return;

@@ -8,15 +8,15 @@ use crate::unfinished::note_unfinished;
 use clap::ArgMatches;
 use command_files::exit::DONE;
 use command_files::output::{cut_short, output};
-use command_files::query::{NOTHING_ASKED, asks_nothing, plain_query, query_of};
+use command_files::query::{NOTHING_ASKED, asks_nothing, query_of};
 use command_files::records::{format_of, view_cells};
 use command_files::refusal::{Refusal, bad_query};
 use command_files::report::unasked;
 use command_files::texts::print_text;
 use command_files::timing::say_read;
-use cube_model::{Fault, Query};
+use cube_model::Fault;
 use file_device::LockFile;
-use mode_queries::QueryRef;
+use mode_queries::{ModeQuery, QueryRef};
 use record_formats::{Cell, Records};
 use report_formats::Format;
 use sector_device::Sectors;
@@ -30,9 +30,6 @@ const FIELDS: [&str; 10] = [
     "plan", "view", "customer", "supplier", "part", "date", "shipmode", "mark", "tail", "cost",
 ];
 
-/// The bytes of a fact row of a stored batch: its numbers, and the codes of its texts.
-const WHOLE_ROW_BYTES: u64 = 71;
-
 /// Prints how the query of a command is answered over the batches that it names, and writes the notes on its
 /// conditions.
 pub fn explain<R: Files + AllocGlobal + Print + Eprint + Clock>(
@@ -43,10 +40,7 @@ where
     R::File: FileExt + LockFile,
 {
     match query_of(rt.alloc(), given) {
-        Ok(asked) => {
-            let query = plain_query(rt.alloc(), asked, "explain")?;
-            explain_query(rt, given, &query)
-        }
+        Ok(asked) => explain_query(rt, given, &asked),
         Err(refusal) => Err(unspelled(rt.alloc(), given, refusal)),
     }
 }
@@ -64,13 +58,13 @@ fn unspelled(alloc: Global, given: &ArgMatches<'_>, refusal: Refusal) -> Refusal
 fn explain_query<R: Files + AllocGlobal + Print + Eprint + Clock>(
     rt: &R,
     given: &ArgMatches<'_>,
-    query: &Query,
+    asked: &ModeQuery,
 ) -> Result<u8, Refusal>
 where
     R::File: FileExt + LockFile,
 {
     match device::open(rt, given, Access::Read) {
-        Ok(session) => explain_in(rt, given, query, &session),
+        Ok(session) => explain_in(rt, given, asked, &session),
         Err(met) => Err(explained(rt, given, met)),
     }
 }
@@ -79,15 +73,15 @@ where
 fn explain_in<R: Files + AllocGlobal + Print + Eprint, D: Sectors + InFile>(
     rt: &R,
     given: &ArgMatches<'_>,
-    query: &Query,
+    asked: &ModeQuery,
     session: &Session<D>,
 ) -> Result<u8, Refusal> {
     let status = match format_of(given) {
-        None => print_plans(rt, given, query, session)?,
-        Some(format) => print_records(rt, given, query, session, format)?,
+        None => print_plans(rt, given, asked, session)?,
+        Some(format) => print_records(rt, given, asked, session, format)?,
     };
     note_unfinished(rt, given, session);
-    note_conditions(rt, given, query, session.dims());
+    note_conditions(rt, given, QueryRef::ByModes(asked), session.dims());
     Ok(status)
 }
 
@@ -95,13 +89,13 @@ fn explain_in<R: Files + AllocGlobal + Print + Eprint, D: Sectors + InFile>(
 fn print_plans<R: Files + AllocGlobal + Print + Eprint, D: Sectors + InFile>(
     rt: &R,
     given: &ArgMatches<'_>,
-    query: &Query,
+    asked: &ModeQuery,
     session: &Session<D>,
 ) -> Result<u8, Refusal> {
     let mut out = output(rt)?;
     let as_of = given.get_one::<u32>("as-of");
-    match warehouse_jobs::explain(rt.alloc(), session, as_of, query, &mut out) {
-        Ok(()) if given.get_flag("all") => print_reads(rt, given, query, session),
+    match warehouse_jobs::explain(rt.alloc(), session, as_of, asked, &mut out) {
+        Ok(()) if given.get_flag("all") => print_reads(rt, given, asked, session),
         Ok(()) => Ok(DONE),
         Err(Fault::Output) => cut_short(rt.alloc(), out.failure()),
         Err(fault) => Err(explained(rt, given, met_in(rt.alloc(), fault, session))),
@@ -112,11 +106,15 @@ fn print_plans<R: Files + AllocGlobal + Print + Eprint, D: Sectors + InFile>(
 fn plans_in<D: Sectors>(
     alloc: Global,
     given: &ArgMatches<'_>,
-    query: &Query,
+    asked: QueryRef<'_>,
     session: &Session<D>,
 ) -> Result<(Vec<Priced>, u32), Fault> {
     let count = count_asked(given, session)?;
-    Ok((session.plans(alloc, count, query)?, count))
+    let plans = match asked {
+        QueryRef::Plain(query) => session.plans(alloc, count, query)?,
+        QueryRef::ByModes(asked) => session.moded_plans(alloc, count, asked)?,
+    };
+    Ok((plans, count))
 }
 
 // How many fact rows the batches after some have, up to others.
@@ -133,12 +131,13 @@ fn rows_between<D: Sectors>(session: &Session<D>, mark: u32, count: u32) -> u64 
 fn print_reads<R: Files + AllocGlobal + Print + Eprint, D: Sectors + InFile>(
     rt: &R,
     given: &ArgMatches<'_>,
-    query: &Query,
+    asked: &ModeQuery,
     session: &Session<D>,
 ) -> Result<u8, Refusal> {
     let alloc = rt.alloc();
-    let reads = Reads::of(alloc, session.dims(), query)?;
-    let (plans, count) = plans_in(alloc, given, query, session)?;
+    let asked = QueryRef::ByModes(asked);
+    let reads = Reads::of(alloc, session.dims(), session.ship_mode_count(), asked)?;
+    let (plans, count) = plans_in(alloc, given, asked, session)?;
     let Some(taken) = plans.first() else {
         return Ok(DONE);
     };
@@ -161,27 +160,9 @@ pub fn say_reads<R: Files + AllocGlobal + Eprint, D: Sectors + InFile>(
     asked: QueryRef<'_>,
     session: &Session<D>,
 ) {
-    let read = match plain_of(asked) {
-        Some(query) => read_by(rt.alloc(), given, query, session),
-        None => scanned(given, session),
-    };
-    if let Ok((rows, bytes)) = read {
+    if let Ok((rows, bytes)) = read_by(rt.alloc(), given, asked, session) {
         say_read(rt, given, rows, bytes);
     }
-}
-
-// The query, where it does not look at ship modes.
-fn plain_of<'a>(asked: QueryRef<'a>) -> Option<&'a Query> {
-    match asked {
-        QueryRef::Plain(query) => Some(query),
-        QueryRef::ByModes(asked) => asked.plain(),
-    }
-}
-
-// How many fact rows a query by ship mode reads, which are all, and how many bytes, of all columns.
-fn scanned<D: Sectors>(given: &ArgMatches<'_>, session: &Session<D>) -> Result<(u64, u64), Fault> {
-    let rows = rows_between(session, 0, count_asked(given, session)?);
-    Ok((rows, rows.saturating_mul(WHOLE_ROW_BYTES)))
 }
 
 // How many batches a query is over.
@@ -196,11 +177,11 @@ fn count_asked<D: Sectors>(given: &ArgMatches<'_>, session: &Session<D>) -> Resu
 fn read_by<D: Sectors>(
     alloc: Global,
     given: &ArgMatches<'_>,
-    query: &Query,
+    asked: QueryRef<'_>,
     session: &Session<D>,
 ) -> Result<(u64, u64), Fault> {
-    let reads = Reads::of(alloc, session.dims(), query)?;
-    let (plans, count) = plans_in(alloc, given, query, session)?;
+    let reads = Reads::of(alloc, session.dims(), session.ship_mode_count(), asked)?;
+    let (plans, count) = plans_in(alloc, given, asked, session)?;
     let Some(taken) = plans.first() else {
         return Ok((0, 0));
     };
@@ -212,12 +193,12 @@ fn read_by<D: Sectors>(
 fn print_records<R: Files + AllocGlobal + Print + Eprint, D: Sectors + InFile>(
     rt: &R,
     given: &ArgMatches<'_>,
-    query: &Query,
+    asked: &ModeQuery,
     session: &Session<D>,
     format: Format,
 ) -> Result<u8, Refusal> {
     let alloc = rt.alloc();
-    match plans_in(alloc, given, query, session) {
+    match plans_in(alloc, given, QueryRef::ByModes(asked), session) {
         Ok((plans, count)) => {
             let records = plan_records(alloc, format, count, plans.as_slice())?;
             print_text(rt, records.text())

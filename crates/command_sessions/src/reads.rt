@@ -1,8 +1,9 @@
 //! What a query reads, and how many groups it has at most.
-use column_segment::{AmountColumn, ByteColumn, FactColumn, NumberColumn};
-use cube_model::{Attr, Fault, Kind, Query};
+use column_segment::{AmountColumn, ByteColumn, FactColumn, NumberColumn, TextColumn};
+use cube_model::{Fault, Kind};
 use cube_query::Fold;
 use dimensions::Dims;
+use mode_queries::QueryRef;
 use std::alloc::{AllocError, Global};
 use warehouse::{Plan, Priced};
 
@@ -12,25 +13,60 @@ const CELL_BYTES: u64 = 160;
 /// The bytes of the ship mode of a cell, where the view groups by it.
 const MODE_BYTES: u64 = 2;
 
+/// A column of stored fact rows.
+#[derive(Clone, Copy)]
+enum Column {
+    Figures(FactColumn),
+    /// The codes of texts.
+    Texts(TextColumn),
+}
+
+/// All columns, in the order of the file.
+static WHOLE_ROW: [Column; 17] = [
+    Column::Figures(FactColumn::Amount(AmountColumn::OrderKey)),
+    Column::Figures(FactColumn::Number(NumberColumn::LineNumber)),
+    Column::Figures(FactColumn::Number(NumberColumn::CustKey)),
+    Column::Figures(FactColumn::Number(NumberColumn::PartKey)),
+    Column::Figures(FactColumn::Number(NumberColumn::SuppKey)),
+    Column::Figures(FactColumn::Number(NumberColumn::OrderDate)),
+    Column::Texts(TextColumn::OrderPriority),
+    Column::Texts(TextColumn::ShipPriority),
+    Column::Figures(FactColumn::Figure(ByteColumn::Quantity)),
+    Column::Figures(FactColumn::Amount(AmountColumn::ExtendedPrice)),
+    Column::Figures(FactColumn::Amount(AmountColumn::OrdTotalPrice)),
+    Column::Figures(FactColumn::Figure(ByteColumn::Discount)),
+    Column::Figures(FactColumn::Amount(AmountColumn::Revenue)),
+    Column::Figures(FactColumn::Amount(AmountColumn::SupplyCost)),
+    Column::Figures(FactColumn::Figure(ByteColumn::Tax)),
+    Column::Texts(TextColumn::CommitDate),
+    Column::Texts(TextColumn::ShipMode),
+];
+
 /// What a query reads of each fact row, and how many groups it has at most.
 #[derive(Drop)]
 pub struct Reads {
-    columns: Vec<FactColumn>,
+    columns: Vec<Column>,
     /// How many groups there are for each fact row at most.
     sets: u64,
-    /// How many groups the dimensions have.
+    /// How many groups the members of the columns make.
     groups: u64,
 }
 
 impl Reads {
-    /// What a proper query reads.
-    pub fn of(alloc: Global, dims: &Dims, query: &Query) -> Result<Reads, Fault> {
-        let fold = Fold::new(alloc, dims, query)?;
-        let columns = query.columns.as_slice();
+    /// What a proper query reads of a warehouse, which has so many ship modes, where they are counted.
+    pub fn of(
+        alloc: Global,
+        dims: &Dims,
+        ship_modes: Option<u32>,
+        asked: QueryRef<'_>,
+    ) -> Result<Reads, Fault> {
+        let columns = columns_read(alloc, dims, asked)?;
+        let members = members(alloc, dims, ship_modes, asked)?;
+        let kind = asked.query().kind;
         Ok(Reads {
-            columns: fold.asked_columns()?,
-            sets: grouping_sets(query.kind, columns.len()),
-            groups: groups_of(query.kind, dims, columns),
+            columns,
+            sets: grouping_sets(kind, members.len()),
+            groups: groups_of(kind, members.as_slice()),
         })
     }
 
@@ -59,6 +95,45 @@ impl Reads {
     }
 }
 
+// The columns that are read of fact rows: those that a query asks for, or all where it looks at ship modes, since then
+// whole rows are read.
+fn columns_read(alloc: Global, dims: &Dims, asked: QueryRef<'_>) -> Result<Vec<Column>, Fault> {
+    let mut columns = Vec::new(alloc);
+    if looks_at_modes(asked) {
+        columns.extend_from_slice(&WHOLE_ROW)?;
+        return Ok(columns);
+    }
+    let fold = Fold::new(alloc, dims, asked.query())?;
+    for column in fold.asked_columns()?.as_slice() {
+        columns.push(Column::Figures(*column))?;
+    }
+    Ok(columns)
+}
+
+// Whether a column of a query is the ship mode, or a condition is on it.
+fn looks_at_modes(asked: QueryRef<'_>) -> bool {
+    asked.place().is_some() || !asked.conditions().is_empty()
+}
+
+// How many members each column of a query has. Ship modes that are not counted are as many as there may be.
+fn members(
+    alloc: Global,
+    dims: &Dims,
+    ship_modes: Option<u32>,
+    asked: QueryRef<'_>,
+) -> Result<Vec<u64>, AllocError> {
+    let mut members = Vec::new(alloc);
+    for attr in asked.query().columns.as_slice() {
+        members.push(dims.members(*attr) as u64)?;
+    }
+    if let Some(place) = asked.place() {
+        let modes = ship_modes.map_or(u64::MAX, |modes| u64::from(modes));
+        let place = place.min(members.len());
+        members.insert(place, modes)?;
+    }
+    Ok(members)
+}
+
 // How many bytes the cells of a plan have each.
 fn cell_bytes(plan: Plan) -> u64 {
     match plan {
@@ -84,14 +159,13 @@ fn grouping_sets(kind: Kind, columns: usize) -> u64 {
     }
 }
 
-// How many keys the members of columns make.
-fn groups_of(kind: Kind, dims: &Dims, columns: &[Attr]) -> u64 {
+// How many keys columns make that have so many members each.
+fn groups_of(kind: Kind, columns: &[u64]) -> u64 {
     let mut keys = 1u64;
     let mut beginnings = 1u64;
-    for attr in columns {
-        let members = dims.members(*attr) as u64;
+    for members in columns {
         keys = keys.saturating_mul(match kind {
-            Kind::Plain | Kind::Rollup => members,
+            Kind::Plain | Kind::Rollup => *members,
             Kind::Cube => members.saturating_add(1),
         });
         beginnings = beginnings.saturating_add(keys);
@@ -103,7 +177,7 @@ fn groups_of(kind: Kind, dims: &Dims, columns: &[Attr]) -> u64 {
 }
 
 // How many bytes of a fact row are in columns.
-fn row_bytes(columns: &[FactColumn]) -> u64 {
+fn row_bytes(columns: &[Column]) -> u64 {
     let mut bytes = 0u64;
     for column in columns {
         bytes = bytes.saturating_add(width(*column));
@@ -112,16 +186,28 @@ fn row_bytes(columns: &[FactColumn]) -> u64 {
 }
 
 // How many bytes of a fact row are in a column.
-fn width(column: FactColumn) -> u64 {
+fn width(column: Column) -> u64 {
     match column {
-        FactColumn::Amount(_) => 8,
-        FactColumn::Number(_) => 4,
-        FactColumn::Figure(_) => 1,
+        Column::Figures(FactColumn::Amount(_)) => 8,
+        Column::Figures(FactColumn::Number(_)) => 4,
+        Column::Figures(FactColumn::Figure(_)) => 1,
+        Column::Texts(_) => 2,
     }
 }
 
 // The name of a column in the fact table.
-fn name_of(column: FactColumn) -> &'static str {
+fn name_of(column: Column) -> &'static str {
+    match column {
+        Column::Figures(column) => figures_name(column),
+        Column::Texts(TextColumn::OrderPriority) => "orderpriority",
+        Column::Texts(TextColumn::ShipPriority) => "shippriority",
+        Column::Texts(TextColumn::CommitDate) => "commitdate",
+        Column::Texts(TextColumn::ShipMode) => "shipmode",
+    }
+}
+
+// The name of a column of numbers.
+fn figures_name(column: FactColumn) -> &'static str {
     match column {
         FactColumn::Amount(AmountColumn::OrderKey) => "orderkey",
         FactColumn::Amount(AmountColumn::ExtendedPrice) => "extendedprice",

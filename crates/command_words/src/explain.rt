@@ -11,8 +11,8 @@ pub(crate) static EXPLAIN: Described = Described {
        ssbcube explain DEV [--as-of N] [--all] [--format FORMAT]
                        [--set SET] [--by A,A] --agg G,G [CONDITION]...",
     help: "Q is a query of the benchmark, 1.1 to 4.3. An ad-hoc query has the words of
-'ssbcube cube': 'ssbcube cube --help' lists them. One with lo_shipmode is refused:
-it reads all fact rows.
+'ssbcube cube': 'ssbcube cube --help' lists them. One with lo_shipmode is served
+by the views that group by ship mode, which layout 2 has.
 
 It prints the plan by which the query is answered, and after it each other plan
 by which it could be, such as
@@ -25,13 +25,13 @@ read together, and the plan with the lowest cost is taken. The query itself is
 not asked.
 
 With --all it prints, of the plan that is taken, 'batches N' that are read as
-fact rows, 'columns' and the columns that are read of them, 'bytes N' of these
-columns and of the cells at most, and 'groups N', how many groups the report
-has at most.
+fact rows, 'columns' and the columns that are read of them (all, where the query
+has lo_shipmode), 'bytes N' of these columns and of the cells at most, and
+'groups N', how many groups the report has at most.
 
 With --format csv, tsv or json the records of plans have the fields plan, which
-is 'taken' or 'other', view, customer, supplier, part, date, mark, tail and cost;
-those of a view are empty for a scan. --all has no such record.
+is 'taken' or 'other', view, customer, supplier, part, date, shipmode, mark, tail
+and cost; those of a view are empty for a scan. --all has no such record.
 
 Examples:
   ssbcube explain star.dev 3.1

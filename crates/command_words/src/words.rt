@@ -77,8 +77,8 @@ Attributes, for --by and for conditions:
   c_city c_nation c_region    s_city s_nation s_region
   p_brand1 p_category p_mfgr  d_datekey d_yearmonthnum d_year
   d_yearmonth d_weeknuminyear lo_shipmode
-  A query with lo_shipmode, the ship mode, reads all fact rows; --partial takes
-  none.
+  A query with lo_shipmode, the ship mode, is served by the views that group by
+  it, which layout 2 has; --partial takes none.
 
 Conditions, which all have to hold. Quote them, since the shell reads |:
   ATTRIBUTE=TEXT|TEXT  one of some texts

@@ -3,13 +3,13 @@ use Rattle.std.specs.Prelude.{◌≡◌, ◌⊎◌, ◌<◌, ℕ, List, [], leng
 use Rattle.cube_model.specs.declared.fault.Fault.{Fault}
 use Rattle.cube_model.specs.declared.fault.Fault.TheVariants.{AlreadyFormatted, DeviceSize, Full, Input, Memory}
 use Rattle.cube_model.specs.declared.rows.DimRows.{DimRows}
+use Rattle.dimension_tables.specs.Texts.{dimensions_of}
 use Rattle.image_device.specs.ImageDisk.{sectors_in}
 use Rattle.image_jobs.specs.Images.{AreSectors, device_over}
 use Rattle.image_jobs.specs.Journals.{IsJournal, LeavesAtEach, device_after}
 use Rattle.journal_device.specs.declared.call.Call.{Call}
 use Rattle.object_store.specs.Disk.{AllShow, Each, IsBlank, ShowsSomeOrNone}
 use Rattle.object_store.specs.Room.{LacksRoom, empty_room}
-use Rattle.ssb_eval.specs.Evaluation.{dimensions_of}
 use Rattle.warehouse_objects.specs.Lawful.{dimension_puts}
 use Rattle.warehouse_objects.specs.Represents.{Represents}
 use Rattle.warehouse_objects.specs.Warehouse.{fresh}

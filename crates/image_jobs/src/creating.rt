@@ -5,10 +5,10 @@ ghost use Rattle.image_jobs.specs.Journals.{AreFor};
 
 use crate::naming::named;
 use cube_model::Fault;
+use dimension_tables::read_dimensions;
 use dimensions::Dims;
 use journal_device::laws::prefix_is_left;
 use journal_device::{Call, JournalDisk, Origin, journal_of};
-use ssb_eval::read_dimensions;
 use std::alloc::Global;
 use std::marker::Brand;
 

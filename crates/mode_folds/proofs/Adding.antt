@@ -61,15 +61,17 @@ module _ (known : List (List ℕ)) (rows : List LineOrder) (row : LineOrder) whe
       (sym (get_or-map (λ p. p.items) parts code part [] lt)
       ∙ (λ i. get_or (divided.parts_are i) (kept.code_is i) [])) in
       record {
-        more = divided.more;
-        after = modes_are ∙ divided.after;
-        once = subst EachOnce (sym modes_are) divided.once;
-        known = ap (λ m. have_modes m (rows ++ row ∷ [])) modes_are
-            ∙ have_last rows row old.texts divided.known kept.seen;
+        modes = record {
+          more = divided.modes.more;
+          after = modes_are ∙ divided.modes.after;
+          once = subst EachOnce (sym modes_are) divided.modes.once;
+          known = ap (λ m. have_modes m (rows ++ row ∷ [])) modes_are
+              ∙ have_last rows row old.texts divided.modes.known kept.seen;
+        };
         parts_are =
             map-set (λ p. p.items) parts code own
             ∙ (λ i. slice_set (divided.parts_are i) (kept.code_is i) (own_is i))
-            ∙ sym (one_grows rows row old.texts kept.seen divided.once)
+            ∙ sym (one_grows rows row old.texts kept.seen divided.modes.once)
             ∙ ap (map (λ mode. of_mode mode (rows ++ row ∷ []))) (sym modes_are);
       }
 
@@ -79,17 +81,19 @@ module _ (known : List (List ℕ)) (rows : List LineOrder) (row : LineOrder) whe
       → AreDivided known old.texts rows parts
       → AreDivided known new.texts (rows ++ row ∷ []) (slice_set (parts ++ empty ∷ []) code own)
   put_new old new code parts empty own fresh is own_is divided = record {
-    more = divided.more ++ row.shipmode ∷ [];
-    after = fresh.last ∙ ap (λ m. m ++ row.shipmode ∷ []) divided.after
-        ∙ append_assoc known divided.more (row.shipmode ∷ []);
-    once = subst EachOnce (sym fresh.last) (EachOnce-push old.texts row.shipmode divided.once fresh.unseen);
-    known = ap (λ m. have_modes m (rows ++ row ∷ [])) fresh.last ∙ have_new rows row old.texts divided.known;
+    modes = record {
+      more = divided.modes.more ++ row.shipmode ∷ [];
+      after = fresh.last ∙ ap (λ m. m ++ row.shipmode ∷ []) divided.modes.after
+          ∙ append_assoc known divided.modes.more (row.shipmode ∷ []);
+      once = subst EachOnce (sym fresh.last) (EachOnce-push old.texts row.shipmode divided.modes.once fresh.unseen);
+      known = ap (λ m. have_modes m (rows ++ row ∷ [])) fresh.last ∙ have_new rows row old.texts divided.modes.known;
+    };
     parts_are =
         ap (λ i. lists (slice_set (parts ++ empty ∷ []) i own)) is
         ∙ ap lists (last_set parts empty own)
         ∙ map-append (λ p. p.items) parts (own ∷ [])
         ∙ (λ i. divided.parts_are i ++ own_is i ∷ [])
-        ∙ sym (one_begins rows row old.texts divided.known fresh.unseen)
+        ∙ sym (one_begins rows row old.texts divided.modes.known fresh.unseen)
         ∙ ap (map (λ mode. of_mode mode (rows ++ row ∷ []))) (sym fresh.last);
   }
     where
@@ -109,10 +113,7 @@ pub divided_none : (modes : List (List ℕ)) (parts : List (Vec LineOrder Global
 divided_none modes parts count is many = (
   sym (length-map parts (λ part. part.items)) ∙ ap length is ∙ replicate-length count [] ∙ many,
   λ once. record {
-    more = [];
-    after = sym (append-nil modes);
-    once = once;
-    known = refl;
+    modes = record { more = []; after = sym (append-nil modes); once = once; known = refl };
     parts_are = is ∙ ap (λ n. replicate n []) many ∙ sym (no_parts modes);
   },
 )

@@ -27,18 +27,18 @@ all_at P [] i d all lt = absurd (omega (arith, lt))
 all_at P (first ∷ folds) zero d all lt = all.0
 all_at P (first ∷ folds) (suc i) d all lt = all_at P folds i d all.1 (omega (arith, lt))
 
-set_length : (folds : List FoldState) (i : ℕ) (fold : FoldState) → length (slice_set folds i fold) ≡ length folds
+pub set_length : (folds : List FoldState) (i : ℕ) (fold : FoldState) → length (slice_set folds i fold) ≡ length folds
 set_length [] i fold = refl
 set_length (first ∷ folds) zero fold = refl
 set_length (first ∷ folds) (suc i) fold = ap suc (set_length folds i fold)
 
-set_here : (folds : List FoldState) (i : ℕ) (fold d : FoldState) → i < length folds
+pub set_here : (folds : List FoldState) (i : ℕ) (fold d : FoldState) → i < length folds
     → get_or (slice_set folds i fold) i d ≡ fold
 set_here [] i fold d lt = absurd (omega (arith, lt))
 set_here (first ∷ folds) zero fold d lt = refl
 set_here (first ∷ folds) (suc i) fold d lt = set_here folds i fold d (omega (arith, lt))
 
-set_there : (folds : List FoldState) (i j : ℕ) (fold d : FoldState) → (i ≡ j → ⊥)
+pub set_there : (folds : List FoldState) (i j : ℕ) (fold d : FoldState) → (i ≡ j → ⊥)
     → get_or (slice_set folds i fold) j d ≡ get_or folds j d
 set_there [] i j fold d apart = refl
 set_there (first ∷ folds) zero zero fold d apart = absurd (apart refl)

@@ -22,7 +22,7 @@ use Rattle.cube_model.proofs.Entries.{entries_are}
 use Rattle.cube_query.specs.Groups.{FoldState, RepresentsRows}
 use Rattle.cube_query.specs.Limits.{AreFoldable}
 use Rattle.mode_folds.specs.Joining.{FoldParts, Holds, lines_of_entries}
-use Rattle.mode_folds.specs.Parts.{HaveQuery}
+use Rattle.mode_folds.specs.Parts.{HaveQuery, RepresentByMode}
 use Rattle.mode_folds.specs.States.{RepresentsModeRows, fold_of, rows_by_mode, rows_if, rows_together}
 use Rattle.mode_folds.proofs.Foldables.{foldable_filter}
 use Rattle.mode_queries.specs.Answers.{moded_answer, moded_keys_among, moded_line_of}
@@ -82,7 +82,7 @@ query_at query (fold ∷ folds) zero d all lt = all.0
 query_at query (fold ∷ folds) (suc i) d all lt = query_at query folds i d all.1 (omega (arith, lt))
 
 -- where a column is the ship mode the folds of ship modes represent their parts of the rows that pass
-pub parts_by_mode : (dimensions : DimRows) (asked : ModeQuery) (together : FoldState) (modes : List (List ℕ))
+parts_by_mode : (dimensions : DimRows) (asked : ModeQuery) (together : FoldState) (modes : List (List ℕ))
     (folds : List FoldState) (rows : List LineOrder) → is_some asked.place ≡ true → HaveQuery asked.query folds
     → RepresentsModeRows dimensions (fold_of asked together modes folds) rows
     → FoldParts dimensions asked.query (passing asked.conditions rows) modes folds
@@ -98,12 +98,23 @@ parts_by_mode dimensions asked together modes folds rows is queries represents =
       );
     }
 
-pub known_by_mode : (dimensions : DimRows) (asked : ModeQuery) (together : FoldState) (modes : List (List ℕ))
+known_by_mode : (dimensions : DimRows) (asked : ModeQuery) (together : FoldState) (modes : List (List ℕ))
     (folds : List FoldState) (rows : List LineOrder) → is_some asked.place ≡ true
     → RepresentsModeRows dimensions (fold_of asked together modes folds) rows
     → have_modes modes (passing asked.conditions rows) ≡ true
 known_by_mode dimensions asked together modes folds rows is represents =
     ap (have_modes modes) (sym (ap (λ b. rows_if b (passing asked.conditions rows)) is)) ∙ represents.known
+
+-- these, and their ship modes are those of the folds
+pub represent_by_mode : (dimensions : DimRows) (asked : ModeQuery) (together : FoldState) (modes : List (List ℕ))
+    (folds : List FoldState) (rows : List LineOrder) → is_some asked.place ≡ true → HaveQuery asked.query folds
+    → RepresentsModeRows dimensions (fold_of asked together modes folds) rows
+    → RepresentByMode dimensions asked.query (passing asked.conditions rows) modes folds
+represent_by_mode dimensions asked together modes folds rows is queries represents = record {
+  once = represents.once;
+  known = known_by_mode dimensions asked together modes folds rows is represents;
+  parts = parts_by_mode dimensions asked together modes folds rows is queries represents;
+}
 
 pub parts_of : (dimensions : DimRows) (asked : ModeQuery) (place : ℕ) (together : FoldState) (modes : List (List ℕ))
     (folds : List FoldState) (rows : List LineOrder) → asked.place ≡ Some place → HaveQuery asked.query folds

@@ -15,20 +15,19 @@ use Rattle.std.proofs.lemmas.Bool.{cases_order}
 use Rattle.cube_model.specs.declared.query.Query.{Query}
 use Rattle.cube_model.specs.declared.rows.DimRows.{DimRows}
 use Rattle.cube_model.specs.declared.rows.LineOrder.{LineOrder}
-use Rattle.cube_query.specs.Groups.{Begins, FoldState, RepresentsRows, Takes}
+use Rattle.cube_query.specs.Groups.{Begins, CanTake, FoldState, RepresentsRows, Takes}
 use Rattle.dictionary.proofs.CallerLemmas.{bytes_eq-symm, list_any_here}
 use Rattle.dictionary.specs.Dictionary.{EachOnce}
-use Rattle.mode_folds.specs.Divided.{AreDivided}
+use Rattle.mode_folds.specs.Divided.{AreDivided, AreWithMore}
 use Rattle.cube_query.specs.Limits.{AreFoldable}
-use Rattle.mode_folds.specs.Joining.{FoldParts}
-use Rattle.mode_folds.specs.Parts.{AreGrown, CanTakeEach, HaveQuery, TakeEach, TakesParts}
+use Rattle.mode_folds.specs.Parts.{AreGrown, CanTakeEach, HaveQuery, RepresentByMode, TakeByMode, TakeEach}
 use Rattle.mode_folds.specs.States.{TakesByModes, fold_of, folds_together, rows_by_mode}
 use Rattle.mode_folds.specs.States.{TakesTogether, rows_if, rows_together}
 use Rattle.mode_queries.specs.Joining.{have_modes, of_mode, passing}
 use Rattle.mode_queries.specs.Selection.{passes_modes}
 use Rattle.mode_queries.specs.declared.query.ModeQuery.{ModeQuery}
 use Rattle.mode_folds.proofs.Divides.{have_more, none_of}
-use Rattle.mode_folds.proofs.Finish.{query_at}
+use Rattle.mode_folds.proofs.Finish.{represent_by_mode}
 use Rattle.mode_folds.proofs.Foldables.{foldable_filter}
 
 pub passing-append : (asked : ModeQuery) (rows others : List LineOrder)
@@ -107,143 +106,158 @@ apart (first ∷ modes) more (suc i) mode once le lt =
         ]) refl
 
 begins_at : (dimensions : DimRows) (query : Query) (folds : List FoldState) (i : ℕ) (d : FoldState)
-    → AllByRecursion (Begins dimensions query) folds → i < length folds
-    → RepresentsRows dimensions (get_or folds i d) []
+    → AllByRecursion (Begins dimensions query) folds → i < length folds → Begins dimensions query (get_or folds i d)
 begins_at dimensions query [] i d all lt = absurd (omega (arith, lt))
-begins_at dimensions query (fold ∷ folds) zero d all lt = all.0.represents
+begins_at dimensions query (fold ∷ folds) zero d all lt = all.0
 begins_at dimensions query (fold ∷ folds) (suc i) d all lt =
     begins_at dimensions query folds i d all.1 (omega (arith, lt))
 
+-- folds that represent rows by their ship modes, with those of new ship modes after them
 module _ (dimensions : DimRows) (query : Query) (modes all : List (List ℕ)) (folds grown : List FoldState)
-    (rows : List LineOrder) (parts : List (Vec LineOrder Global)) (none : Vec LineOrder Global)
-    (divided : AreDivided modes all rows parts) (grow : AreGrown dimensions query (length parts) folds grown)
-    (some : List LineOrder) (before : FoldParts dimensions query some modes folds)
-    (known : have_modes modes some ≡ true) where
-  many : length parts ≡ length all
-  many = sym (length-map parts (λ part. part.items)) ∙ ap length divided.parts_are
-      ∙ length-map all (λ mode. of_mode mode rows)
+    (rows : List LineOrder) (more : AreWithMore modes all rows)
+    (grow : AreGrown dimensions query (length all) folds grown) (some : List LineOrder)
+    (before : RepresentByMode dimensions query some modes folds) where
+  abbrev Represents : FoldState → List ℕ → Type 0
+  Represents fold mode = (fold.query ≡ query) × RepresentsRows dimensions fold (of_mode mode some)
 
-  more_modes : length all ≡ length modes + length divided.more
-  more_modes = ap length divided.after ∙ length-append modes divided.more
+  more_modes : length all ≡ length modes + length more.more
+  more_modes = ap length more.after ∙ length-append modes more.more
 
-  part_is : (i : ℕ) (mode : List ℕ) (part : Vec LineOrder Global) → i < length all
-      → (get_or parts i part).items ≡ of_mode (get_or all i mode) rows
-  part_is i mode part lt =
-      sym (get_or-map (λ p. p.items) parts i part [] (omega (arith, many, lt)))
-      ∙ ap (λ lists. get_or lists i []) divided.parts_are
-      ∙ get_or-map (λ m. of_mode m rows) all i mode [] lt
+  pub grown_many : length grown ≡ length all
+  grown_many = grow.counted (omega (arith, before.parts.counted, more_modes))
 
   earlier : (i : ℕ) (mode : List ℕ) (part : FoldState) → i < length modes
-      → RepresentsRows dimensions (get_or grown i part) (of_mode (get_or all i mode) some)
+      → Represents (get_or grown i part) (get_or all i mode)
   earlier i mode part lt =
       let fold_is : get_or grown i part ≡ get_or folds i part =
       ap (λ l. get_or l i part) grow.after
-      ∙ get_or_append_left folds grow.more part i (omega (arith, lt, before.counted)) in
+      ∙ get_or_append_left folds grow.more part i (omega (arith, lt, before.parts.counted)) in
       let mode_is : get_or all i mode ≡ get_or modes i mode =
-      ap (λ l. get_or l i mode) divided.after ∙ get_or_append_left modes divided.more mode i lt in
-      subst (λ fold. RepresentsRows dimensions fold (of_mode (get_or all i mode) some)) (sym fold_is)
-      (subst (λ m. RepresentsRows dimensions (get_or folds i part) (of_mode m some)) (sym mode_is)
-      (before.each i mode part lt).1)
+      ap (λ l. get_or l i mode) more.after ∙ get_or_append_left modes more.more mode i lt in
+      subst (λ fold. Represents fold (get_or all i mode)) (sym fold_is)
+      (subst (λ m. Represents (get_or folds i part) m) (sym mode_is) (before.parts.each i mode part lt))
 
   later : (i : ℕ) (mode : List ℕ) (part : FoldState) → i < length all → length modes ≤ i
-      → RepresentsRows dimensions (get_or grown i part) (of_mode (get_or all i mode) some)
+      → Represents (get_or grown i part) (get_or all i mode)
   later i mode part lt le =
-      let grown_many : length grown ≡ length parts =
-      grow.counted (omega (arith, before.counted, many, more_modes)) in
       let more_folds : length grown ≡ length folds + length grow.more =
       ap length grow.after ∙ length-append folds grow.more in
       let fold_is : get_or grown i part ≡ get_or grow.more (i - length folds) part =
       ap (λ l. get_or l i part) grow.after
-      ∙ get_or-append_right folds grow.more (length folds) i part refl (omega (arith, le, before.counted)) in
+      ∙ get_or-append_right folds grow.more (length folds) i part refl (omega (arith, le, before.parts.counted)) in
       let empty : of_mode (get_or all i mode) some ≡ [] =
-      none_of (get_or all i mode) modes some known
+      none_of (get_or all i mode) modes some before.known
       (subst (λ l. EachOnce l → i < length l → list_any (bytes_eq (get_or l i mode)) modes ≡ false)
-      (sym divided.after) (λ each lt. apart modes divided.more i mode each le lt) divided.once lt) in
-      subst (RepresentsRows dimensions (get_or grown i part)) (sym empty)
-      (subst (λ fold. RepresentsRows dimensions fold []) (sym fold_is)
-      (begins_at dimensions query grow.more (i - length folds) part grow.begin
-      (omega (arith, lt, le, many, grown_many, more_folds, before.counted))))
+      (sym more.after) (λ each lt. apart modes more.more i mode each le lt) more.once lt) in
+      let begins = begins_at dimensions query grow.more (i - length folds) part grow.begin
+      (omega (arith, lt, le, grown_many, more_folds, before.parts.counted)) in
+      subst (λ fold. Represents fold (get_or all i mode)) (sym fold_is) (
+        begins.query_is,
+        subst (RepresentsRows dimensions (get_or grow.more (i - length folds) part)) (sym empty) begins.represents,
+      )
 
-  grown_represents : (i : ℕ) (mode : List ℕ) (part : FoldState) → i < length all
-      → RepresentsRows dimensions (get_or grown i part) (of_mode (get_or all i mode) some)
+  pub grown_represents : (i : ℕ) (mode : List ℕ) (part : FoldState) → i < length all
+      → Represents (get_or grown i part) (get_or all i mode)
   grown_represents i mode part lt = elim (cases_order i (length modes)) [
     | inl same ↦ later i mode part lt (omega (arith, same))
     | inr (inl below) ↦ earlier i mode part below
     | inr (inr above) ↦ later i mode part lt (omega (arith, above))
   ]
 
-  taken_represents : (taken : List FoldState) → TakeEach dimensions grown parts taken → (i : ℕ) (mode : List ℕ)
-      (part : FoldState) → i < length all
-      → RepresentsRows dimensions (get_or taken i part) (of_mode (get_or all i mode) (some ++ rows))
-  taken_represents taken each i mode part lt =
-      subst (RepresentsRows dimensions (get_or taken i part))
-      (sym (filter-append (λ row. bytes_eq (get_or all i mode) row.shipmode) some rows))
-      (subst (λ last. RepresentsRows dimensions (get_or taken i part) (of_mode (get_or all i mode) some ++ last))
-      (part_is i mode none lt)
-      ((each.each i part none (omega (arith, many, lt))).represents (of_mode (get_or all i mode) some)
-      (grown_represents i mode part lt)))
-
   all_known : have_modes all (some ++ rows) ≡ true
   all_known =
       list_all-append (λ row. list_any (bytes_eq row.shipmode) all) some rows
-      ∙ (λ i. (ap (λ m. have_modes m some) divided.after ∙ have_more modes divided.more some known) i && divided.known
-      i)
+      ∙ (λ i. (ap (λ m. have_modes m some) more.after ∙ have_more modes more.more some before.known) i && more.known i)
 
-  -- each fold can take its part where all rows may be folded
-  pub can_each : AreFoldable dimensions (some ++ rows) → CanTakeEach dimensions grown parts
-  can_each can i fold part lt =
-      let mode = get_or all i [] in
-      let within : i < length all = omega (arith, many, lt) in (
-        of_mode mode some,
-        (
-          grown_represents i [] fold within,
-          subst (AreFoldable dimensions)
-              (filter-append (λ row. bytes_eq mode row.shipmode) some rows
-              ∙ ap (λ last. of_mode mode some ++ last) (sym (part_is i [] part within)))
-              (foldable_filter dimensions (λ row. bytes_eq mode row.shipmode) (some ++ rows) can),
-        ),
-      )
+  -- each took the rows of its ship mode
+  pub all_represent : (taken : List FoldState) → length taken ≡ length grown
+      → ((i : ℕ) (mode : List ℕ) (fold : FoldState) → i < length all
+      → Takes dimensions (get_or grown i fold) (of_mode (get_or all i mode) rows) (get_or taken i fold))
+      → RepresentByMode dimensions query (some ++ rows) all taken
+  all_represent taken counted each = record {
+    once = more.once;
+    known = all_known;
+    parts = record {
+      counted = counted ∙ grown_many;
+      each = λ i mode part lt.
+          let takes = each i mode part lt in
+          let old = grown_represents i mode part lt in (
+            takes.query ∙ old.0,
+            subst (RepresentsRows dimensions (get_or taken i part))
+                (sym (filter-append (λ row. bytes_eq (get_or all i mode) row.shipmode) some rows))
+                (takes.represents (of_mode (get_or all i mode) some) old.1),
+          );
+    };
+  }
+
+  -- each can take them where all rows may be folded
+  pub can_take : AreFoldable dimensions (some ++ rows) → (i : ℕ) (mode : List ℕ) (fold : FoldState) → i < length all
+      → CanTake dimensions (get_or grown i fold) (of_mode (get_or all i mode) rows)
+  can_take can i mode fold lt = (
+    of_mode (get_or all i mode) some,
+    (
+      (grown_represents i mode fold lt).1,
+      subst (AreFoldable dimensions) (filter-append (λ row. bytes_eq (get_or all i mode) row.shipmode) some rows)
+          (foldable_filter dimensions (λ row. bytes_eq (get_or all i mode) row.shipmode) (some ++ rows) can),
+    ),
+  )
+
+-- rows that were divided
+module _ (dimensions : DimRows) (query : Query) (modes all : List (List ℕ)) (folds grown : List FoldState)
+    (rows : List LineOrder) (parts : List (Vec LineOrder Global)) (none : Vec LineOrder Global)
+    (divided : EachOnce modes → AreDivided modes all rows parts)
+    (grow : AreGrown dimensions query (length parts) folds grown) where
+  many : AreDivided modes all rows parts → length parts ≡ length all
+  many divided = sym (length-map parts (λ part. part.items)) ∙ ap length divided.parts_are
+      ∙ length-map all (λ mode. of_mode mode rows)
+
+  part_is : AreDivided modes all rows parts → (i : ℕ) (mode : List ℕ) (part : Vec LineOrder Global) → i < length all
+      → (get_or parts i part).items ≡ of_mode (get_or all i mode) rows
+  part_is divided i mode part lt =
+      sym (get_or-map (λ p. p.items) parts i part [] (omega (arith, many divided, lt)))
+      ∙ ap (λ lists. get_or lists i []) divided.parts_are
+      ∙ get_or-map (λ m. of_mode m rows) all i mode [] lt
+
+  grow_all : AreDivided modes all rows parts → AreGrown dimensions query (length all) folds grown
+  grow_all divided = subst (λ n. AreGrown dimensions query n folds grown) (many divided) grow
+
+  pub divided_take : (taken : List FoldState) → TakeEach dimensions grown parts taken
+      → TakeByMode dimensions query modes folds rows all taken
+  divided_take taken take some before =
+      let d = divided before.once in
+      all_represent dimensions query modes all folds grown rows d.modes (grow_all d) some before taken take.counted
+      (λ i mode fold lt. subst (λ l. Takes dimensions (get_or grown i fold) l (get_or taken i fold))
+      (part_is d i mode none lt) (take.each i fold none (omega (arith, many d, lt))))
+
+  pub can_each : (some : List LineOrder) → RepresentByMode dimensions query some modes folds
+      → AreFoldable dimensions (some ++ rows) → CanTakeEach dimensions grown parts
+  can_each some before can i fold part lt =
+      let d = divided before.once in
+      let within : i < length all = omega (arith, many d, lt) in
+      subst (CanTake dimensions (get_or grown i fold)) (sym (part_is d i [] part within))
+      (can_take dimensions query modes all folds grown rows d.modes (grow_all d) some before can i [] fold within)
 
 -- the ship mode is a column
 pub takes_by_mode : (dimensions : DimRows) (asked : ModeQuery) (old new : FoldState) (modes all : List (List ℕ))
-    (folds taken : List FoldState) (rows : List LineOrder) (none : Vec LineOrder Global) → is_some asked.place ≡ true
+    (folds taken : List FoldState) (rows : List LineOrder) → is_some asked.place ≡ true
     → HaveQuery asked.query folds → TakesTogether dimensions asked old rows new
-    → (EachOnce modes → TakesParts dimensions asked.query modes all folds (passing asked.conditions rows) taken)
+    → TakeByMode dimensions asked.query modes folds (passing asked.conditions rows) all taken
     → TakesByModes dimensions (fold_of asked old modes folds) rows (fold_of asked new all taken)
-takes_by_mode dimensions asked old new modes all folds taken rows none place queries together parts = record {
+takes_by_mode dimensions asked old new modes all folds taken rows place queries together take = record {
   query = refl;
   represents = λ so_far represents.
-      let some = passing asked.conditions so_far in
-      let others = passing asked.conditions rows in
-      let own : (l : List LineOrder) → rows_by_mode asked l ≡ passing asked.conditions l =
-      λ l. ap (λ b. rows_if b (passing asked.conditions l)) place in
-      let p = parts represents.once in
-      let before : FoldParts dimensions asked.query some modes folds = record {
-        counted = represents.counted;
-        each = λ i mode fold lt. (
-          query_at asked.query folds i fold queries (omega (arith, lt, represents.counted)),
-          subst (λ l. RepresentsRows dimensions (get_or folds i fold) (of_mode (get_or modes i mode) l)) (own so_far)
-              (represents.each i mode fold lt),
-        );
-      } in
-      let known : have_modes modes some ≡ true = ap (have_modes modes) (sym (own so_far)) ∙ represents.known in
-      let whole : rows_by_mode asked (so_far ++ rows) ≡ some ++ others =
-      own (so_far ++ rows) ∙ passing-append asked so_far rows in
-      let sizes : length p.parts ≡ length all =
-      many dimensions asked.query modes all folds p.grown others p.parts none p.divided p.grow some before known in
-      let longer : length all ≡ length modes + length p.divided.more =
-      more_modes dimensions asked.query modes all folds p.grown others p.parts none p.divided p.grow some before
-      known in
+      let all_rows = take (passing asked.conditions so_far)
+      (represent_by_mode dimensions asked old modes folds so_far place queries represents) in
+      let whole : rows_by_mode asked (so_far ++ rows)
+      ≡ passing asked.conditions so_far ++ passing asked.conditions rows =
+      ap (λ b. rows_if b (passing asked.conditions (so_far ++ rows))) place ∙ passing-append asked so_far rows in
       record {
         together = together so_far represents.together;
-        counted = p.each.counted ∙ p.grow.counted (omega (arith, represents.counted, sizes, longer)) ∙ sizes;
-        once = p.divided.once;
-        known = ap (have_modes all) whole
-            ∙ all_known dimensions asked.query modes all folds p.grown others p.parts none p.divided p.grow some before
-            known;
+        counted = all_rows.parts.counted;
+        once = all_rows.once;
+        known = ap (have_modes all) whole ∙ all_rows.known;
         each = λ i mode part lt.
             subst (λ l. RepresentsRows dimensions (get_or taken i part) (of_mode (get_or all i mode) l)) (sym whole)
-            (taken_represents dimensions asked.query modes all folds p.grown others p.parts none p.divided p.grow some
-            before known taken p.each i mode part lt);
+            (all_rows.parts.each i mode part lt).1;
       };
 }

@@ -1,4 +1,5 @@
 pub mod Answered
+pub mod Celling
 pub mod Divided
 pub mod Joining
 pub mod Parts

@@ -38,8 +38,8 @@ pub(crate) fn divided(
     Ok(parts)
 }
 
-// So many lists with no row.
-fn empty_parts(alloc: Global, count: usize) -> Result<Vec<Vec<LineOrder>>, AllocError>
+/// So many lists with nothing.
+pub(crate) fn empty_parts<T: Drop>(alloc: Global, count: usize) -> Result<Vec<Vec<T>>, AllocError>
     ensures { IfOk result (λ parts. map (λ part. part.items) parts.items ≡ replicate count []) }
 {
     let mut parts = Vec::with_capacity(alloc, count)?;

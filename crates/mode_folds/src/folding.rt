@@ -1,6 +1,8 @@
 //! A fold of a query that may look at ship modes, over fact rows that come in any number of calls.
 ghost use Rattle.std.specs.Prelude.{◌≡◌, ◌≢◌, ◌⊎◌, Err, List, IfErr, IfOk, IsTrue, ◌↔◌, OnOk, true};
 ghost use Rattle.cube_model.specs.declared.rows.LineOrder.{LineOrder};
+ghost use Rattle.cuboid_upkeep.specs.Grouping.{RepresentRows};
+ghost use Rattle.lattice.specs.Determined.{Serves};
 ghost use Rattle.mode_folds.specs.Answered.{IsAnsweredOver, answered_over};
 ghost use Rattle.mode_folds.specs.States.{BeginsByModes, CanTakeByModes, IsFoldableByModes, IsOverByModes};
 ghost use Rattle.mode_folds.specs.States.{RepresentsModeRows, TakesByModes};
@@ -9,12 +11,15 @@ ghost use Rattle.mode_queries.specs.Proper.{IsProperByModes};
 ghost use Rattle.mode_queries.specs.References.{asked_by};
 
 use crate::answered::Answered;
+use crate::cell_parts::add_cells_by_mode;
+use crate::celling::passing_cells;
 use crate::dividing::passing;
 use crate::joining::joined;
 use crate::parts::add_by_mode;
-use crate::together::add_together;
+use crate::together::{add_cells_together, add_together};
 use cube_model::{Fault, LineOrder};
 use cube_query::Fold;
+use cuboid_cells::Cells;
 use dictionary::Dictionary;
 use dimensions::Dims;
 use mode_queries::QueryRef;
@@ -120,6 +125,42 @@ impl<'a> ModeFold<'a> {
             rows,
         )?;
         Ok(Vec::new(self.alloc))
+    }
+
+    /// Counts the cells of a view in, in place of the rows that they represent. After a refusal the fold is to be
+    /// dropped.
+    ///
+    /// The view has to serve the query and to group by ship mode; the fifth codes of cells are places among the modes.
+    /// `BadLayout` says that the cells represent no rows that can be taken: a code is that of no member, or the sums
+    /// with them pass their limit. It takes memory for new groups, and for the time of the call some for each cell.
+    pub fn add_cells(&mut self, dims: &Dims, cells: &Cells, modes: &Dictionary) -> Result<(), Fault>
+        requires over { IsOverByModes dims.now self.old }
+        requires serves { Serves cells.now.view self.old.asked.query }
+        requires grouped { cells.now.view.ship_mode ≡ true }
+        ensures over { IsOverByModes dims.now self.new }
+        ensures query { self.new.asked ≡ self.old.asked }
+        ensures ok { OnOk result ((rows : List LineOrder) → RepresentRows dims.now modes.now.texts rows cells.now
+            → TakesByModes dims.now self.old rows self.new) }
+        ensures refused { result ≡ Err Fault.BadLayout → (rows : List LineOrder)
+            → RepresentRows dims.now modes.now.texts rows cells.now
+            → CanTakeByModes dims.now self.old rows → ⊥ }
+        ensures only { IfErr result (λ fault. (fault ≡ Fault.Memory) ⊎ (fault ≡ Fault.BadLayout)) }
+    {
+        let cells = passing_cells(self.alloc, self.asked.conditions(), cells, modes)?;
+        add_cells_together(dims, &self.asked, &mut self.together, &cells, modes)?;
+        if self.asked.place().is_none() {
+            return Ok(());
+        }
+        let query = self.asked.query();
+        add_cells_by_mode(
+            self.alloc,
+            dims,
+            query,
+            &mut self.modes,
+            &mut self.folds,
+            &cells,
+            modes,
+        )
     }
 
     /// The answer over the fact rows that were added. `BadLayout` says that a sum over some of them passes its limit.

@@ -2,6 +2,8 @@
 #![tactic(auto)]
 
 mod answered;
+mod cell_parts;
+mod celling;
 mod dividing;
 mod folding;
 mod joining;

@@ -1,5 +1,5 @@
 //! The folds of the parts of fact rows, one for each ship mode.
-ghost use Rattle.std.specs.Prelude.{◌≡◌, ◌⊎◌, ◌≤◌, ◌++◌, true, Err, List, length, IfErr, OnOk};
+ghost use Rattle.std.specs.Prelude.{◌≡◌, ◌⊎◌, ◌≤◌, ◌++◌, Err, List, length, IfErr, OnOk};
 ghost use Rattle.std.specs.List.{AllByRecursion};
 ghost use Rattle.std.specs.declared.alloc.Global.{Global};
 ghost use Rattle.std.specs.declared.vec.Vec.{Vec};
@@ -7,10 +7,7 @@ ghost use Rattle.cube_model.specs.Proper.{IsProper};
 ghost use Rattle.cube_model.specs.declared.rows.LineOrder.{LineOrder};
 ghost use Rattle.cube_query.specs.Groups.{Begins, CanTake, FoldState, IsOver, Takes};
 ghost use Rattle.cube_query.specs.Limits.{AreFoldable};
-ghost use Rattle.dictionary.specs.Dictionary.{EachOnce};
-ghost use Rattle.mode_folds.specs.Joining.{FoldParts};
-ghost use Rattle.mode_folds.specs.Parts.{AreGrown, CanTakeEach, HaveQuery, TakeEach, TakesParts};
-ghost use Rattle.mode_queries.specs.Joining.{have_modes};
+ghost use Rattle.mode_folds.specs.Parts.{AreGrown, CanTakeEach, HaveQuery, RepresentByMode, TakeByMode, TakeEach};
 
 use crate::dividing::divided;
 use cube_model::{Fault, LineOrder, Query};
@@ -32,12 +29,12 @@ pub(crate) fn add_by_mode(
     requires proper { IsProper query.now }
     requires over { AllByRecursion (IsOver dims.now) folds.old.items }
     requires queries { HaveQuery query.now folds.old.items }
-    ensures ok { OnOk result (EachOnce modes.old.texts → TakesParts dims.now query.now modes.old.texts modes.new.texts
-        folds.old.items rows.items folds.new.items) }
+    ensures ok { OnOk result (TakeByMode dims.now query.now modes.old.texts folds.old.items rows.items modes.new.texts
+        folds.new.items) }
     ensures over { AllByRecursion (IsOver dims.now) folds.new.items }
     ensures queries { HaveQuery query.now folds.new.items }
-    ensures refused { result ≡ Err Fault.BadLayout → (so_far : List LineOrder) → EachOnce modes.old.texts
-        → have_modes modes.old.texts so_far ≡ true → FoldParts dims.now query.now so_far modes.old.texts folds.old.items
+    ensures refused { result ≡ Err Fault.BadLayout → (so_far : List LineOrder)
+        → RepresentByMode dims.now query.now so_far modes.old.texts folds.old.items
         → AreFoldable dims.now (so_far ++ rows.items) → ⊥ }
     ensures only { IfErr result (λ fault. (fault ≡ Fault.Memory) ⊎ (fault ≡ Fault.BadLayout)) }
 {
@@ -46,8 +43,8 @@ pub(crate) fn add_by_mode(
     add_parts(dims, folds.as_mut_slice(), parts.as_slice())
 }
 
-// Folds of a query for ship modes that have none yet, after those that are there. It can only fail when out of memory.
-fn grow(
+/// Folds of a query for ship modes that have none yet, after those that are there. It can only fail when out of memory.
+pub(crate) fn grow(
     alloc: Global,
     dims: &Dims,
     query: &Query,

@@ -5,10 +5,10 @@ use Rattle.cube_model.specs.declared.query.Query.{Query}
 use Rattle.cube_model.specs.Admission.{all_rows}
 use Rattle.mode_queries.specs.Lawful.{without_modes}
 use Rattle.mode_queries.proofs.CallerLemmas.{answers_without_ship_modes, proper_without}
+use Rattle.warehouse.specs.ByModes.{IsAskedByModes, RefusesByModes}
 use Rattle.warehouse.specs.Session.{IsAsked, QueryRefuses}
 use Rattle.warehouse_objects.specs.Warehouse.{Warehouse}
 use Rattle.mode_reports.specs.Lawful.{AnsweredWithoutShipModes, AskedWithoutShipModes}
-use Rattle.mode_reports.specs.Reports.{IsAskedByModes, RefusesByModes}
 
 -- such a query is asked as it is as a query of the dimensions alone
 pub asked_as_modes : (w : Warehouse) (as_of : ℕ) (query : Query) → IsAsked w as_of query

@@ -1,3 +1,1 @@
-mod Calls
 pub mod CallerLemmas
-mod Folding

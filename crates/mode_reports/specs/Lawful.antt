@@ -5,10 +5,11 @@ use Rattle.cube_model.specs.declared.query.Query.{Query}
 use Rattle.cube_model.specs.declared.rows.DimRows.{DimRows}
 use Rattle.cube_model.specs.declared.rows.LineOrder.{LineOrder}
 use Rattle.cube_model.specs.Answers.{answer_as_of}
+use Rattle.mode_answers.specs.Answers.{moded_answer_as_of}
 use Rattle.mode_queries.specs.Lawful.{without_modes}
+use Rattle.warehouse.specs.ByModes.{IsAskedByModes}
 use Rattle.warehouse.specs.Session.{IsAsked}
 use Rattle.warehouse_objects.specs.Warehouse.{Warehouse}
-use Rattle.mode_reports.specs.Reports.{IsAskedByModes, moded_answer_as_of}
 
 -- such a query is asked exactly where it is as a query of the dimensions alone
 abbrev pub AskedWithoutShipModes : Type 0

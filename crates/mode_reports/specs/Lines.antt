@@ -1,10 +1,10 @@
--- The lines of an answer that was found by a plan, or by a scan. Our own.
+-- The lines of an answer that was found. Our own.
 use Rattle.std.specs.Prelude.{List}
 use Rattle.cube_model.specs.declared.answer.Line.{Line}
 use Rattle.mode_folds.specs.Answered.{lines_in}
 use Rattle.mode_reports.specs.declared.reported.ReportedLines.{ReportedLines}
-use Rattle.mode_reports.specs.declared.reported.ReportedLines.TheVariants.{Planned, Scanned}
+use Rattle.mode_reports.specs.declared.reported.ReportedLines.TheVariants.{ByModes, Plain}
 
 abbrev pub lines_of : ReportedLines → List Line
-lines_of (Planned found) = found
-lines_of (Scanned found) = lines_in found
+lines_of (Plain found) = found
+lines_of (ByModes found) = lines_in found

@@ -1,16 +1,15 @@
 //! The answer to a query that may look at ship modes, over the first batches of a warehouse.
 ghost use Rattle.std.specs.Prelude.{◌≡◌, ◌≢◌, ◌<◌, ◌↔◌, true, false, Err, length, IfErr, IfOk, IsErrOf};
 ghost use Rattle.cube_model.specs.declared.fault.Fault.TheVariants.{BadQuery, Device, Failed, NoSuchPrefix};
+ghost use Rattle.mode_answers.specs.Answers.{moded_answer_as_of};
 ghost use Rattle.mode_queries.specs.Proper.{IsProperByModes};
-ghost use Rattle.mode_reports.specs.Reports.{IsAskedByModes, RefusesByModes, moded_answer_as_of};
 ghost use Rattle.object_store.specs.Disk.{Leaves};
+ghost use Rattle.warehouse.specs.ByModes.{IsAskedByModes, RefusesByModes};
 ghost use Rattle.warehouse.specs.Session.{Breaks, IsAt, KeepsContent, device_of, disk_of, has_failed};
 ghost use Rattle.warehouse_objects.specs.Represents.{Represents};
 ghost use Rattle.warehouse_objects.specs.Warehouse.{Warehouse};
 
-use crate::checking::check;
 use crate::reported::Reported;
-use crate::scanning::scanned;
 use cube_model::Fault;
 use mode_queries::ModeQuery;
 use sector_device::Sectors;
@@ -18,8 +17,8 @@ use std::alloc::Global;
 use warehouse::Session;
 
 /// The answer to a query that may look at ship modes, over the first `as_of` batches of a warehouse, of whose lines
-/// none is made before they are asked for. A query that does not look at them is answered by the plan that reads least,
-/// any other by a scan of the batches, whose fact rows are read one batch at a time.
+/// none is made before they are asked for. It is answered by the plan that reads least: where the query looks at ship
+/// modes, of those over the cuboids that group by them.
 ///
 /// `BadQuery` exactly where the query is not proper, else `NoSuchPrefix` exactly where there are fewer batches. It can
 /// also fail when out of memory, and where the device fails. `Failed` where the session failed before.
@@ -57,13 +56,12 @@ pub fn answered<D: Sectors>(
 {
     match asked.plain() {
         Some(query) => match session.query_groups(alloc, as_of, query) {
-            Ok(found) => Ok(Reported::planned(found)),
+            Ok(found) => Ok(Reported::without_modes(found)),
             Err(fault) => Err(fault),
         },
-        None => {
-            let _usable = session.is_broken();
-            check(session, as_of, asked)?;
-            scanned(alloc, session, as_of, asked)
-        }
+        None => match session.moded_groups(alloc, as_of, asked) {
+            Ok(found) => Ok(Reported::by_modes(found)),
+            Err(fault) => Err(fault),
+        },
     }
 }

@@ -1,18 +1,16 @@
 //! An answer that was found, of whose lines none is made before they are asked for.
 ghost use Rattle.std.specs.Prelude.{◌≡◌};
-ghost use Rattle.mode_folds.specs.Answered.{IsAnsweredOver, answered_over};
 ghost use Rattle.mode_reports.specs.Lines.{lines_of};
 
 use crate::form::Form;
 use cube_model::{Fault, Value};
 use cube_query::GroupLines;
-use dimensions::Dims;
-use mode_folds::{Answered, AnsweredLines};
+use mode_answers::FoundByModes;
+use mode_folds::AnsweredLines;
 use planned_queries::Found;
 use ssb_reports::Lines;
 use std::io::Write;
 use std::marker::Model;
-use std::rc::Rc;
 
 /// An answer that was found, with the dimensions that have its texts. Contracts see the answer.
 pub struct Reported {
@@ -28,32 +26,29 @@ impl Drop for Reported {
 
 impl Model for Reported {
     ghost use Rattle.cube_model.specs.declared.answer.Answer.{Answer};
-    ghost use Rattle.mode_reports.specs.Forms.{IsFormOver, answer_in};
+    ghost use Rattle.mode_reports.specs.Forms.{answer_in};
 
     ghost Value = { Answer };
 
     ghost view = { λ reported. answer_in reported.form };
-
-    ghost invariant = { λ reported. IsFormOver reported.form };
 }
 
 impl Reported {
-    // What a plan found.
-    pub(crate) fn planned(found: Found) -> Reported
+    // The answer to a query that looks at no ship mode.
+    pub(crate) fn without_modes(found: Found) -> Reported
         ensures { result ≡ found }
     {
         Reported {
-            form: Form::Planned(found),
+            form: Form::Plain(found),
         }
     }
 
-    // What a fold of all rows found, over the dimensions of its beginning.
-    pub(crate) fn scanned(dims: Rc<Dims>, found: Answered) -> Reported
-        requires { IsAnsweredOver dims.value found }
-        ensures { result ≡ answered_over dims.value found }
+    // The answer to a query that looks at ship modes.
+    pub(crate) fn by_modes(found: FoundByModes) -> Reported
+        ensures { result ≡ found }
     {
         Reported {
-            form: Form::Scanned(dims, found),
+            form: Form::ByModes(found),
         }
     }
 
@@ -62,17 +57,17 @@ impl Reported {
         ensures { lines_of result ≡ self.now.lines }
     {
         match &self.form {
-            Form::Planned(found) => ReportedLines::Planned(found.lines()),
-            Form::Scanned(dims, found) => ReportedLines::Scanned(found.over(dims)),
+            Form::Plain(found) => ReportedLines::Plain(found.lines()),
+            Form::ByModes(found) => ReportedLines::ByModes(found.lines()),
         }
     }
 }
 
-/// The lines of an answer that was found by a plan, or by a scan.
+/// The lines of an answer to a query that looks at no ship mode, or to one that does.
 #[derive(Drop)]
 pub enum ReportedLines<'a> {
-    Planned(GroupLines<'a>),
-    Scanned(AnsweredLines<'a>),
+    Plain(GroupLines<'a>),
+    ByModes(AnsweredLines<'a>),
 }
 
 impl<'a> Lines for ReportedLines<'a> {
@@ -80,43 +75,43 @@ impl<'a> Lines for ReportedLines<'a> {
 
     fn count(&self) -> usize {
         match self {
-            ReportedLines::Planned(lines) => lines.count(),
-            ReportedLines::Scanned(lines) => lines.count(),
+            ReportedLines::Plain(lines) => lines.count(),
+            ReportedLines::ByModes(lines) => lines.count(),
         }
     }
 
     fn write_line<W: Write>(&self, place: usize, out: &mut W) -> Result<(), Fault> {
         match self {
-            ReportedLines::Planned(lines) => lines.write_line(place, out),
-            ReportedLines::Scanned(lines) => lines.write_line(place, out),
+            ReportedLines::Plain(lines) => lines.write_line(place, out),
+            ReportedLines::ByModes(lines) => lines.write_line(place, out),
         }
     }
 
     fn columns(&self, place: usize) -> usize {
         match self {
-            ReportedLines::Planned(lines) => lines.columns(place),
-            ReportedLines::Scanned(lines) => lines.columns(place),
+            ReportedLines::Plain(lines) => lines.columns(place),
+            ReportedLines::ByModes(lines) => lines.columns(place),
         }
     }
 
     fn text(&self, place: usize, column: usize) -> Option<&[u8]> {
         match self {
-            ReportedLines::Planned(lines) => lines.text(place, column),
-            ReportedLines::Scanned(lines) => lines.text(place, column),
+            ReportedLines::Plain(lines) => lines.text(place, column),
+            ReportedLines::ByModes(lines) => lines.text(place, column),
         }
     }
 
     fn values(&self, place: usize) -> usize {
         match self {
-            ReportedLines::Planned(lines) => lines.values(place),
-            ReportedLines::Scanned(lines) => lines.values(place),
+            ReportedLines::Plain(lines) => lines.values(place),
+            ReportedLines::ByModes(lines) => lines.values(place),
         }
     }
 
     fn value(&self, place: usize, aggregate: usize) -> Value {
         match self {
-            ReportedLines::Planned(lines) => lines.value(place, aggregate),
-            ReportedLines::Scanned(lines) => lines.value(place, aggregate),
+            ReportedLines::Plain(lines) => lines.value(place, aggregate),
+            ReportedLines::ByModes(lines) => lines.value(place, aggregate),
         }
     }
 }

@@ -29,7 +29,7 @@ seen_next cuboids k d h = ap (map seen_of) (take_more cuboids k d h)
     ∙ map-append seen_of (take k cuboids) (get_or cuboids k d ∷ [])
 
 -- the cuboid at a place
-seen_at : (cuboids : List Cuboid) (one : Stored) (k : ℕ) → k < length (map seen_of cuboids)
+pub seen_at : (cuboids : List Cuboid) (one : Stored) (k : ℕ) → k < length (map seen_of cuboids)
     → get_or (map seen_of cuboids) k one ≡ one
     → (cuboid : Cuboid) × (get_or cuboids k cuboid ≡ cuboid) × (seen_of cuboid ≡ one) × (k < length cuboids)
 seen_at [] one k h is = absurd (omega (arith, h))

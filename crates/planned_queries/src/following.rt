@@ -101,8 +101,8 @@ fn add_cuboid<D: Sectors>(
     fold_runs(alloc, store, dims, modes, fold, cuboid, view)
 }
 
-// The cuboid of the view of a number.
-fn cuboid_of(cuboids: &[StoredCuboid], number: u16) -> Option<StoredCuboid>
+/// The cuboid of the view of a number, if it is among these.
+pub fn cuboid_of(cuboids: &[StoredCuboid], number: u16) -> Option<StoredCuboid>
     ensures { result ≡ find (λ cuboid. cuboid.view == number) cuboids.now }
 {
     cuboids.iter().find(|cuboid| cuboid.view == number).copied()

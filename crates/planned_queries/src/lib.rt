@@ -8,6 +8,7 @@ mod planning;
 mod stepping;
 
 pub use answering::groups_by_plan;
+pub use following::cuboid_of;
 pub use found::Found;
-pub use planning::{plan_of, plans_of};
+pub use planning::{plan_of, plans_of, stored_in};
 pub use stepping::Running;

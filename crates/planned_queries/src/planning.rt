@@ -41,8 +41,8 @@ pub fn plans_of(alloc: Global, root: &Root, as_of: u32, query: &Query) -> Result
     Ok(plans(alloc, query, stored.as_slice(), batches, as_of)?)
 }
 
-// The stored cuboids of a root, as the planner looks at them.
-fn stored_in(alloc: Global, root: &Root) -> Result<Vec<Stored>, AllocError>
+/// The stored cuboids of a root, as the planner looks at them. It can only fail when out of memory.
+pub fn stored_in(alloc: Global, root: &Root) -> Result<Vec<Stored>, AllocError>
     ensures { IfOk result (λ stored. (w : Warehouse) → root.now ≡ root_of w → stored.items ≡ stored_of w) }
 {
     let cuboids = root.cuboids();

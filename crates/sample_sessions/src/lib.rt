@@ -4,6 +4,7 @@
 #![tactic(auto)]
 
 mod answers;
+mod by_mode;
 mod changes;
 mod crashed;
 mod scripts;
@@ -11,6 +12,7 @@ mod sessions;
 mod stored;
 
 pub use answers::{Lines, answer, ask, finding, first_other, found, is_found, report};
+pub use by_mode::{Revenue, has_revenues};
 pub use changes::{Change, changed, make_change, refused_opening, sector};
 pub use crashed::{OPENING, SUBMIT, half_opened, refusal};
 pub use scripts::{Expected, Given, Numbers, Script, first_other_reply};

@@ -3,8 +3,8 @@ use crate::tables::{BATCHES, CUSTOMER, DATE, PART, SUPPLIER};
 use batch_loader::{Lines, read_batch};
 use cube_model::{Answer, Fault, Items, LineOrder};
 use cube_query::fold;
+use dimension_tables::read_dimensions;
 use dimensions::Dims;
-use ssb_eval::read_dimensions;
 use ssb_reports::{QNumber, query_of};
 use std::alloc::Global;
 

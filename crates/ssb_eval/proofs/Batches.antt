@@ -17,12 +17,13 @@ use Rattle.cube_model.specs.Admission.{all_rows, moded_refusal}
 use Rattle.cube_model.specs.Limits.{most_batch_rows}
 use Rattle.batch_admission.specs.Accepted.{Accepted, HasAccepted}
 use Rattle.batch_admission.specs.Found.{Found, cause_of}
+use Rattle.dimension_tables.specs.Texts.{Gives}
 use Rattle.mode_folds.specs.Answered.{answered_over}
 use Rattle.mode_folds.specs.declared.answered.Answered.{Answered}
 use Rattle.mode_folds.specs.States.{ModeFoldState, RepresentsModeRows}
 use Rattle.mode_queries.specs.Answers.{moded_answer}
 use Rattle.mode_queries.specs.declared.query.ModeQuery.{ModeQuery}
-use Rattle.ssb_eval.specs.Evaluation.{facts_after, facts_of, answer_in, moded_answer_of, Gives}
+use Rattle.ssb_eval.specs.Evaluation.{facts_after, facts_of, answer_in, moded_answer_of}
 use Rattle.ssb_eval.specs.BatchLoop.{AreTaken, FoldsFacts, IsBegun, LeavesFacts}
 use Rattle.batch_admission.proofs.CallerLemmas.{all_rows-last, in_range, known_both, passes, passes-found}
 use Rattle.ssb_eval.proofs.Admitting.{plain}

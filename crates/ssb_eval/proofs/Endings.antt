@@ -10,14 +10,14 @@ use Rattle.cube_model.specs.declared.answer.Answer.{Answer}
 use Rattle.cube_model.specs.declared.rows.DimRows.{DimRows}
 use Rattle.cube_model.specs.declared.rows.LineOrder.{LineOrder}
 use Rattle.cube_model.specs.Answers.{answer}
+use Rattle.dimension_tables.specs.Texts.{Gives, Texts, dimensions_of}
+use Rattle.dimension_tables.proofs.CallerLemmas.{gives-on, gives-stop}
 use Rattle.report_formats.specs.Arranged.{WritesOrLacksMemory}
 use Rattle.mode_queries.specs.Answers.{moded_answer}
 use Rattle.mode_queries.specs.Lawful.{without_modes}
 use Rattle.mode_queries.proofs.CallerLemmas.{answers_without_ship_modes}
 use Rattle.ssb_eval.specs.declared.star.Evaluated.{Evaluated}
-use Rattle.ssb_eval.specs.Evaluation.{Evaluates, Gives, Reports, Texts, answer_of, dimensions_of, eval_as, facts_of}
-use Rattle.ssb_eval.specs.Evaluation.{moded_answer_of}
-use Rattle.ssb_eval.proofs.TableSteps.{gives-on, gives-stop}
+use Rattle.ssb_eval.specs.Evaluation.{Evaluates, Reports, answer_of, eval_as, facts_of, moded_answer_of}
 use Rattle.ssb_reports.specs.Writing.{Writes}
 
 -- the text over dimensions

@@ -6,11 +6,12 @@ use Rattle.batch_loader.specs.Unread.{Unread}
 use Rattle.cube_model.specs.declared.answer.Answer.{Answer}
 use Rattle.cube_model.specs.declared.fault.Fault.{Fault}
 use Rattle.cube_model.specs.declared.rows.DimRows.{DimRows}
+use Rattle.dimension_tables.specs.Tables.{IsUnread, KeepLines, KeepsLine}
+use Rattle.dimension_tables.specs.Texts.{Gives, Texts, dimensions_of}
 use Rattle.ssb_eval.specs.declared.star.Evaluated.{Evaluated}
 use Rattle.ssb_eval.specs.declared.unknown.UnknownKey.{UnknownKey}
-use Rattle.ssb_eval.specs.Evaluation.{Evaluates, Gives, Texts, dimensions_of}
-use Rattle.ssb_eval.specs.Tables.{IsFresh, IsInNoRow, IsUnread, KeepLines, KeepsBroken, KeepsCause, KeepsLine}
-use Rattle.ssb_eval.specs.Tables.{StarLines}
+use Rattle.ssb_eval.specs.Evaluation.{Evaluates}
+use Rattle.ssb_eval.specs.Tables.{IsFresh, IsInNoRow, KeepsBroken, KeepsCause, StarLines}
 
 -- nothing is kept where nothing was refused
 pub keeps-fresh : {Row : Type 0} (row : ℕ → List ℕ → Result Row Fault) (lines : Unread) → lines.fault ≡ None

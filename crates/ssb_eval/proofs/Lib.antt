@@ -4,9 +4,6 @@ pub mod Endings
 pub mod Modes
 pub mod Partly
 pub mod Pieces
-pub mod ShortRows
-pub mod TableRows
-pub mod TableSteps
 pub mod WholeText
 pub mod Taking
 pub mod KeptLines

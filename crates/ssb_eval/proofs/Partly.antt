@@ -5,12 +5,13 @@ use Rattle.cube_model.specs.declared.answer.Answer.{Answer}
 use Rattle.cube_model.specs.declared.fault.Fault.{Fault}
 use Rattle.cube_model.specs.declared.fault.Fault.TheVariants.{Memory}
 use Rattle.cube_model.specs.declared.rows.DimRows.{DimRows}
+use Rattle.dimension_tables.specs.Texts.{Gives, Texts, dimensions_of}
+use Rattle.dimension_tables.proofs.CallerLemmas.{gives-on, gives-stop}
 use Rattle.partial_reports.specs.declared.asked.PartAsked.{PartAsked}
 use Rattle.partial_reports.specs.Members.{member_cause}
 use Rattle.partial_reports.specs.Partial.{partial_text}
-use Rattle.ssb_eval.specs.Evaluation.{Evaluates, Gives, Texts, answer_of, dimensions_of}
+use Rattle.ssb_eval.specs.Evaluation.{Evaluates, answer_of}
 use Rattle.ssb_eval.specs.Partial.{partial_of}
-use Rattle.ssb_eval.proofs.TableSteps.{gives-on, gives-stop}
 
 abbrev text_if_plain : PartAsked → DimRows → Answer → Result (List ℕ) Fault
 text_if_plain asked dimensions found = unless (member_cause found) (Ok (partial_text asked dimensions found))

@@ -12,9 +12,10 @@ use Rattle.cube_model.specs.declared.rows.LineOrder.{LineOrder}
 use Rattle.cube_model.specs.Admission.{moded_refusal}
 use Rattle.cube_model.specs.Limits.{most_batch_rows}
 use Rattle.batch_admission.specs.Accepted.{Accepted}
+use Rattle.dimension_tables.specs.Texts.{Gives}
 use Rattle.mode_folds.specs.States.{ModeFoldState}
 use Rattle.mode_queries.specs.declared.query.ModeQuery.{ModeQuery}
-use Rattle.ssb_eval.specs.Evaluation.{Gives, moded_answer_of}
+use Rattle.ssb_eval.specs.Evaluation.{moded_answer_of}
 use Rattle.ssb_eval.specs.BatchLoop.{AreTaken, LeavesFacts, TakesNextBatch, IsNextBatch}
 use Rattle.ssb_eval.specs.ShipModes.{Met}
 use Rattle.batch_admission.proofs.CallerLemmas.{passes}

@@ -12,7 +12,8 @@ use Rattle.cube_model.specs.declared.rows.DimRows.{DimRows}
 use Rattle.cube_model.specs.declared.rows.LineOrder.{LineOrder}
 use Rattle.cube_model.specs.Admission.{all_rows, moded_refusal}
 use Rattle.cube_model.specs.Limits.{most_batch_rows}
-use Rattle.ssb_eval.specs.Evaluation.{facts_after, facts_of, table_rows}
+use Rattle.dimension_tables.specs.Texts.{table_rows}
+use Rattle.ssb_eval.specs.Evaluation.{facts_after, facts_of}
 use Rattle.batch_admission.proofs.CallerLemmas.{all_rows-last}
 
 -- a row is in front of others

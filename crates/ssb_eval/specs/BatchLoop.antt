@@ -18,9 +18,10 @@ use Rattle.cube_query.specs.Limits.{AreFoldable}
 use Rattle.batch_admission.specs.Accepted.{Accepted, HasAccepted}
 use Rattle.batch_admission.specs.Found.{Found, cause_of, found_in}
 use Rattle.batch_admission.specs.Totals.{totals_of}
+use Rattle.dimension_tables.specs.Texts.{Gives}
 use Rattle.mode_folds.specs.States.{ModeFoldState, RepresentsModeRows}
 use Rattle.mode_queries.specs.declared.query.ModeQuery.{ModeQuery}
-use Rattle.ssb_eval.specs.Evaluation.{Gives, facts_of, facts_after, moded_answer_of}
+use Rattle.ssb_eval.specs.Evaluation.{facts_of, facts_after, moded_answer_of}
 use Rattle.ssb_eval.specs.ShipModes.{HasMet, HasMetRows, Met}
 
 -- batches were accepted, and their rows were folded

@@ -5,7 +5,7 @@ use Rattle.batch_loader.specs.Lines.{lines_of}
 use Rattle.batch_loader.specs.Outcomes.{and_then, unless}
 use Rattle.batch_loader.specs.Parts.{parts_of}
 use Rattle.batch_loader.specs.Rows.{rows_of, number_after}
-use Rattle.batch_loader.specs.Tables.{customer_row, supplier_row, part_row, date_row, lineorder_row}
+use Rattle.batch_loader.specs.Tables.{lineorder_row}
 use Rattle.cube_model.specs.declared.answer.Answer.{Answer}
 use Rattle.cube_model.specs.declared.fault.Fault.{Fault}
 use Rattle.cube_model.specs.declared.fault.Fault.TheVariants.{Memory, Input, Output}
@@ -15,7 +15,7 @@ use Rattle.cube_model.specs.declared.rows.LineOrder.{LineOrder}
 use Rattle.cube_model.specs.Admission.{all_rows, moded_refusal}
 use Rattle.cube_model.specs.Limits.{most_batch_rows}
 use Rattle.cube_model.specs.Answers.{answer}
-use Rattle.cube_model.specs.Validity.{invalid_cause}
+use Rattle.dimension_tables.specs.Texts.{Gives, Texts, dimensions_of, table_rows}
 use Rattle.mode_folds.specs.Answered.{answered_over}
 use Rattle.mode_folds.specs.declared.answered.Answered.{Answered}
 use Rattle.mode_queries.specs.Answers.{moded_answer}
@@ -25,35 +25,6 @@ use Rattle.report_formats.specs.Fields.{formatted}
 use Rattle.ssb_eval.specs.declared.star.Evaluated.{Evaluated}
 use Rattle.ssb_reports.specs.Report.{report_of}
 use Rattle.ssb_reports.specs.Writing.{AppendsBeginning}
-
--- the texts of the tables
-pub record Texts : Type 0 where
-  pub customer : List ℕ
-  pub supplier : List ℕ
-  pub part : List ℕ
-  pub date : List ℕ
-  pub lineorder : List ℕ
-
--- the rows of a table's text, whose lines count from 1
-abbrev pub table_rows : {Row : Type 0} → (ℕ → List ℕ → Result Row Fault) → List ℕ → Result (List Row) Fault
-table_rows row text = rows_of row 1 (lines_of text)
-
--- dimension rows that keep the rules
-abbrev pub valid_rows : DimRows → Result DimRows Fault
-valid_rows rows = unless (invalid_cause rows) (Ok rows)
-
--- the rows of the four tables, whether they keep the rules or not
-abbrev pub tables_of : Texts → Result DimRows Fault
-tables_of texts =
-    and_then (table_rows customer_row texts.customer) (λ customers.
-    and_then (table_rows supplier_row texts.supplier) (λ suppliers.
-    and_then (table_rows part_row texts.part) (λ parts.
-    and_then (table_rows date_row texts.date) (λ dates.
-    Ok (record { customers = customers; suppliers = suppliers; parts = parts; dates = dates })))))
-
--- the rows of the four dimensions: all texts are read before the rules are looked at
-abbrev pub dimensions_of : Texts → Result DimRows Fault
-dimensions_of texts = and_then (tables_of texts) valid_rows
 
 -- the fact rows of the lines of batches, after batches that were accepted: the lines of a batch are read, and then it
 -- is admitted, ship modes being the members of an axis. The number is that of the next line
@@ -101,11 +72,6 @@ eval_of query texts = eval_as (report_of query) (answer_of query) texts
 -- the bytes of a report in a layout
 abbrev pub formatted_of : Asked → Texts → Result (List ℕ) Fault
 formatted_of asked texts = eval_as (formatted asked) (moded_answer_of asked.query) texts
-
--- a call found what a definition says, or its refusal; or memory was refused, or a reader failed
-abbrev pub Gives : {A : Type 0} → Result A Fault → Result A Fault → Type 0
-Gives outcome (Ok value) = outcome ≡ Ok value
-Gives outcome (Err fault) = (fault ≡ Memory) ⊎ ((fault ≡ Input) ⊎ (outcome ≡ Err fault))
 
 -- the dimensions and an answer, which are those of texts, or the first refusal; or memory was refused, or a reader
 -- failed

@@ -2,5 +2,4 @@ pub mod BatchLoop
 pub mod Evaluation
 pub mod Partial
 pub mod ShipModes
-pub mod Status
 pub mod Tables

@@ -2,10 +2,11 @@
 use Rattle.std.specs.Prelude.{ℕ, List, Result, Ok}
 use Rattle.batch_loader.specs.Outcomes.{and_then, unless}
 use Rattle.cube_model.specs.declared.fault.Fault.{Fault}
+use Rattle.dimension_tables.specs.Texts.{Texts, dimensions_of}
 use Rattle.partial_reports.specs.declared.asked.PartAsked.{PartAsked}
 use Rattle.partial_reports.specs.Members.{member_cause}
 use Rattle.partial_reports.specs.Partial.{partial_text}
-use Rattle.ssb_eval.specs.Evaluation.{Texts, answer_of, dimensions_of}
+use Rattle.ssb_eval.specs.Evaluation.{answer_of}
 
 -- the bytes of the partial report, or the first refusal: that a member cannot be read back comes last
 abbrev pub partial_of : PartAsked → Texts → Result (List ℕ) Fault

@@ -1,5 +1,5 @@
 -- The five tables while they are read, and what is kept of a refusal. Our own.
-use Rattle.std.specs.Prelude.{◌≡◌, ◌≢◌, ◌⊎◌, ◌-◌, ℕ, true, List, Option, Some, None, IfErr, IfSome, Result, Ok, length}
+use Rattle.std.specs.Prelude.{◌≡◌, ◌⊎◌, ◌-◌, ℕ, true, List, Option, Some, None, IfErr, IfSome, Result, Ok, length}
 use Rattle.std.specs.Prelude.{slice_get}
 use Rattle.cube_model.specs.declared.attr.Axis.{Axis}
 use Rattle.cube_model.specs.declared.attr.Axis.TheVariants.{Customer, Supplier, Part, Date}
@@ -11,25 +11,11 @@ use Rattle.cube_model.specs.declared.rows.LineOrder.{LineOrder}
 use Rattle.cube_model.specs.Attributes.{key_on}
 use Rattle.cube_model.specs.Validity.{invalid_cause}
 use Rattle.batch_admission.specs.Found.{lacks}
-use Rattle.batch_loader.specs.Reading.{RefusesLine}
-use Rattle.batch_loader.specs.Tables.{customer_row, supplier_row, part_row, date_row, lineorder_row}
+use Rattle.batch_loader.specs.Tables.{lineorder_row}
 use Rattle.batch_loader.specs.Unread.{Unread}
-use Rattle.ssb_eval.specs.Evaluation.{Texts, dimensions_of}
+use Rattle.dimension_tables.specs.Tables.{AreFresh, AreUnread, DimensionLines, IsUnread, KeepLines, KeepsLine}
+use Rattle.dimension_tables.specs.Texts.{Texts, dimensions_of}
 use Rattle.ssb_eval.specs.declared.unknown.UnknownKey.{UnknownKey}
-
--- what is known of the tables of the dimensions
-pub record DimensionLines : Type 0 where
-  pub customer : Unread
-  pub supplier : Unread
-  pub part : Unread
-  pub date : Unread
-
--- that of one dimension
-abbrev pub lines_on : Axis → DimensionLines → Unread
-lines_on Customer lines = lines.customer
-lines_on Supplier lines = lines.supplier
-lines_on Part lines = lines.part
-lines_on Date lines = lines.date
 
 -- what is known of the five tables, and what is kept of a refusal: the dimension rows that break a rule, and a key of
 -- the fact table that no row of its dimension has
@@ -39,44 +25,12 @@ pub record StarLines : Type 0 where
   pub broken : Option DimRows
   pub unknown : Option UnknownKey
 
--- none of the lines of a text was taken yet
-pub record IsUnread (lines : Unread) (text : List ℕ) : Type 0 where
-  pub left : lines.left ≡ Some text
-  pub number : lines.number ≡ 0
-  pub fault : lines.fault ≡ None
-
-pub record AreUnread (lines : DimensionLines) (texts : Texts) : Type 0 where
-  pub customer : IsUnread lines.customer texts.customer
-  pub supplier : IsUnread lines.supplier texts.supplier
-  pub part : IsUnread lines.part texts.part
-  pub date : IsUnread lines.date texts.date
-
+-- none of the lines of the five texts was taken yet, and nothing is kept
 pub record IsUnreadStar (lines : StarLines) (texts : Texts) : Type 0 where
   pub dimensions : AreUnread lines.dimensions texts
   pub lineorder : IsUnread lines.lineorder texts.lineorder
   pub broken : lines.broken ≡ None
   pub unknown : lines.unknown ≡ None
-
--- where a text is refused, it is for the line that was taken last
-abbrev pub KeepsLine : {Row : Type 0} → (ℕ → List ℕ → Result Row Fault) → Unread → Type 0
-KeepsLine row lines = IfSome lines.fault (RefusesLine row lines)
-
-pub record KeepLines (lines : DimensionLines) : Type 0 where
-  pub customer : KeepsLine customer_row lines.customer
-  pub supplier : KeepsLine supplier_row lines.supplier
-  pub part : KeepsLine part_row lines.part
-  pub date : KeepsLine date_row lines.date
-
--- the table of a dimension is refused, for a line
-abbrev pub IsRefusedFor : DimensionLines → Axis → List ℕ → Type 0
-IsRefusedFor lines axis line = ((lines_on axis lines).fault ≢ None) × (line ≡ (lines_on axis lines).line)
-
--- nothing was refused yet
-pub record AreFresh (lines : DimensionLines) : Type 0 where
-  pub customer : lines.customer.fault ≡ None
-  pub supplier : lines.supplier.fault ≡ None
-  pub part : lines.part.fault ≡ None
-  pub date : lines.date.fault ≡ None
 
 -- dimension rows that are kept break the rule that a fault names, or memory was refused
 abbrev pub KeepsBroken : Option DimRows → Fault → Type 0

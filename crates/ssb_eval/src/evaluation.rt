@@ -2,7 +2,8 @@
 ghost use Rattle.std.specs.Prelude.{◌≡◌, Err};
 ghost use Rattle.std.specs.Io.KnownBytes.{Keeps};
 ghost use Rattle.cube_model.specs.Proper.{IsProper};
-ghost use Rattle.ssb_eval.specs.Evaluation.{HaveTexts, Reports, Texts, eval_of};
+ghost use Rattle.dimension_tables.specs.Texts.{Texts};
+ghost use Rattle.ssb_eval.specs.Evaluation.{HaveTexts, Reports, eval_of};
 
 use crate::star::Tables;
 use cube_model::{Fault, Query};

@@ -9,14 +9,16 @@ ghost use Rattle.cube_model.specs.declared.rows.LineOrder.{LineOrder};
 ghost use Rattle.cube_model.specs.Admission.{all_rows, moded_refusal};
 ghost use Rattle.cube_model.specs.Limits.{most_batch_rows};
 ghost use Rattle.cube_model.specs.ShipModes.{modes_in};
+ghost use Rattle.dimension_tables.specs.Tables.{IsUnread, KeepsLine};
+ghost use Rattle.dimension_tables.specs.Texts.{Gives};
 ghost use Rattle.mode_folds.specs.Answered.{IsAnsweredOver};
 ghost use Rattle.mode_folds.specs.States.{BeginsByModes, CanTakeByModes, TakesByModes};
 ghost use Rattle.mode_queries.specs.Proper.{IsProperByModes};
 ghost use Rattle.mode_queries.specs.References.{asked_by};
-ghost use Rattle.ssb_eval.specs.Evaluation.{Gives, answer_in, moded_answer_of};
+ghost use Rattle.ssb_eval.specs.Evaluation.{answer_in, moded_answer_of};
 ghost use Rattle.ssb_eval.specs.BatchLoop.{AreTaken, CanGoOn, FoldsFacts, IsDone, LooksAtNext, TakesNextBatch};
 ghost use Rattle.ssb_eval.specs.ShipModes.{HasMet, HasMetRows};
-ghost use Rattle.ssb_eval.specs.Tables.{IsInNoRow, IsUnread, KeepsLine};
+ghost use Rattle.ssb_eval.specs.Tables.{IsInNoRow};
 
 use crate::ship_modes::ShipModes;
 use crate::unknown::{UnknownKey, keep_unknown};

@@ -1,8 +1,9 @@
 //! A query over the texts of the five tables, with its report in a layout.
 ghost use Rattle.std.specs.Prelude.{◌≡◌, Ok, Err, IfOk};
 ghost use Rattle.std.specs.Io.KnownBytes.{Keeps};
+ghost use Rattle.dimension_tables.specs.Texts.{Texts, dimensions_of};
 ghost use Rattle.mode_queries.specs.Proper.{IsProperByModes};
-ghost use Rattle.ssb_eval.specs.Evaluation.{Reports, Texts, dimensions_of, formatted_of};
+ghost use Rattle.ssb_eval.specs.Evaluation.{Reports, formatted_of};
 ghost use Rattle.ssb_eval.specs.Tables.{IsFresh, IsUnreadStar, KeepsCause, KeepsUnknown};
 
 use crate::star::Tables;

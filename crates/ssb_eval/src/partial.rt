@@ -2,7 +2,8 @@
 ghost use Rattle.std.specs.Prelude.{◌≡◌, Ok, Err, IfOk};
 ghost use Rattle.std.specs.Io.KnownBytes.{Keeps};
 ghost use Rattle.cube_model.specs.Proper.{IsProper};
-ghost use Rattle.ssb_eval.specs.Evaluation.{Reports, Texts, dimensions_of};
+ghost use Rattle.dimension_tables.specs.Texts.{Texts, dimensions_of};
+ghost use Rattle.ssb_eval.specs.Evaluation.{Reports};
 ghost use Rattle.ssb_eval.specs.Partial.{partial_of};
 ghost use Rattle.ssb_eval.specs.Tables.{IsFresh, IsUnreadStar, KeepsCause, KeepsUnknown};
 

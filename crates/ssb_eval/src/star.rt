@@ -1,17 +1,18 @@
 //! The five tables while a query is answered over them. After a refusal they have what was refused.
 ghost use Rattle.std.specs.Prelude.{◌≡◌, None, Some, IfErr, IfNone, IfOk, IfSome, OnOk};
+ghost use Rattle.dimension_tables.specs.Tables.{AreFresh, AreUnread, IsRefusedFor, KeepLines};
+ghost use Rattle.dimension_tables.specs.Texts.{Gives, Texts, dimensions_of};
 ghost use Rattle.mode_folds.specs.Answered.{IsAnsweredOver};
 ghost use Rattle.mode_queries.specs.Proper.{IsProperByModes};
 ghost use Rattle.mode_queries.specs.References.{asked_by};
-ghost use Rattle.ssb_eval.specs.Evaluation.{Evaluates, Gives, HaveTexts, Texts, dimensions_of, moded_answer_of};
-ghost use Rattle.ssb_eval.specs.Tables.{AreFresh, AreUnread, IsFresh, IsRefusedFor, IsUnreadStar, KeepLines};
-ghost use Rattle.ssb_eval.specs.Tables.{KeepsBroken, KeepsCause, KeepsUnknown};
+ghost use Rattle.ssb_eval.specs.Evaluation.{Evaluates, HaveTexts, moded_answer_of};
+ghost use Rattle.ssb_eval.specs.Tables.{IsFresh, IsUnreadStar, KeepsBroken, KeepsCause, KeepsUnknown};
 
 use crate::facts::group_facts;
-use crate::tables::{DimensionTables, RefusedLine};
 use crate::unknown::UnknownKey;
 use batch_loader::Lines;
 use cube_model::{DimRows, Fault};
+use dimension_tables::{DimensionTables, RefusedLine};
 use dimensions::Dims;
 use mode_folds::Answered;
 use mode_queries::QueryRef;

@@ -1,4 +1,5 @@
 //! The life of a warehouse, from any point of it, and what is to be found where it was cut off.
+use crate::by_mode::modes_are_right;
 use cube_model::{Answer, Fault, LineOrder};
 use cube_query::fold;
 use dimensions::Dims;
@@ -157,7 +158,8 @@ fn go_on<D: Sectors>(
     Ok(true)
 }
 
-/// Does all that a warehouse lacks, asks the thirteen queries of the benchmark, and notes what was acknowledged.
+/// Does all that a warehouse lacks, asks the thirteen queries of the benchmark and one by ship mode, and notes what was
+/// acknowledged.
 pub(crate) fn live<D: Sectors>(
     alloc: Global,
     session: &mut Session<D>,
@@ -171,6 +173,7 @@ pub(crate) fn live<D: Sectors>(
     for number in QNumber::ALL {
         let _answer = report(alloc, session, reached.batches, number)?;
     }
+    let _right = modes_are_right(alloc, session, reached.batches)?;
     Ok(())
 }
 
@@ -313,7 +316,8 @@ pub(crate) fn is_promised<D: Sectors>(
     Ok(
         is_allowed(&status, reached)
             && session.audit(alloc)?
-            && answers_right(alloc, session, status.batches, answers.as_slice())?,
+            && answers_right(alloc, session, status.batches, answers.as_slice())?
+            && modes_are_right(alloc, session, status.batches)?,
     )
 }
 

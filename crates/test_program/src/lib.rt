@@ -1,6 +1,6 @@
-//! Tests of `query_words`, `table_hints`, `ssb_eval` and `warehouse_jobs`: the words of queries, what is said after a
-//! refusal, the way from the texts of the tables to a report, and the jobs on a warehouse. What the program prints is
-//! in the pages of `user_pages`.
+//! Tests of `query_words`, `table_hints`, `ssb_eval`, `warehouse_jobs` and `command_files`: the words of queries, what
+//! is said after a refusal, the way from the texts of the tables to a report, the jobs on a warehouse, and the status
+//! at the end. What the program prints is in the pages of `user_pages`.
 #![tactic(auto)]
 
 #[cfg(test)]

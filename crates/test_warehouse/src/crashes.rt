@@ -26,11 +26,11 @@ impl Call {
         }
     }
 
-    /// How many reads come before its writes: that of the segment of the first batch.
+    /// How many reads come before its writes: that of the header of the first batch, and that of its columns of texts.
     fn reads(self) -> u64 {
         match self {
             Call::Submit | Call::Add => 0,
-            Call::Migrate => 1,
+            Call::Migrate => 2,
         }
     }
 }

@@ -1,6 +1,6 @@
 //! Calls in which one allocation may fail. Each is then made again.
 use cube_model::{Answer, Fault};
-use sample_sessions::{created, finding, opened_again, report, submit};
+use sample_sessions::{created, finding, has_revenues, opened_again, report, submit};
 use sample_star::FACTS;
 use sector_device::MemDisk;
 use ssb_reports::QNumber;
@@ -62,16 +62,25 @@ fn moved(alloc: Global, mut session: Session<MemDisk>) -> Result<Session<MemDisk
 }
 
 /// How many batches a session has, and what it answers over them at the first or the second try.
-fn seen(alloc: Global, mut session: Session<MemDisk>) -> Result<(u32, Answer), Fault> {
+fn seen(alloc: Global, session: &mut Session<MemDisk>) -> Result<(u32, Answer), Fault> {
     let batches = session.status()?.batches;
-    match report(alloc, &mut session, batches, QNumber::Q11) {
+    match report(alloc, session, batches, QNumber::Q11) {
         Ok(answer) => Ok((batches, answer)),
-        Err(_) => Ok((batches, report(alloc, &mut session, batches, QNumber::Q11)?)),
+        Err(_) => Ok((batches, report(alloc, session, batches, QNumber::Q11)?)),
     }
 }
 
-/// What is found after a creation, three submits and a move to the second layout.
-fn found_at_last(alloc: Global) -> Result<(u32, Answer), Fault> {
+/// Whether a session of three batches answers what it is to answer by ship mode, at the first or the second try.
+fn modes_are_right(alloc: Global, session: &mut Session<MemDisk>) -> Result<bool, Fault> {
+    let wanted = [("AIR", 4425), ("RAIL", 5820)];
+    match has_revenues(alloc, session, 3, &wanted) {
+        Ok(right) => Ok(right),
+        Err(_) => has_revenues(alloc, session, 3, &wanted),
+    }
+}
+
+/// What is found after a creation, three submits and a move to the second layout, and whether it is right by ship mode.
+fn found_at_last(alloc: Global) -> Result<(u32, Answer, bool), Fault> {
     let mut session = match made(alloc) {
         Ok(session) => session,
         Err(_) => made(alloc)?,
@@ -80,8 +89,9 @@ fn found_at_last(alloc: Global) -> Result<(u32, Answer), Fault> {
         session = with_batch(alloc, session, number)?;
     }
     let session = moved(alloc, session)?;
-    let session = opened_again(alloc, session.close())?;
-    seen(alloc, session)
+    let mut session = opened_again(alloc, session.close())?;
+    let (batches, answer) = seen(alloc, &mut session)?;
+    Ok((batches, answer, modes_are_right(alloc, &mut session)?))
 }
 
 #[test]
@@ -91,6 +101,7 @@ fn one_want_of_memory_is_made_good(rt: HostRuntime) -> Result<(), Fail> {
         Ok(wanted) => wanted,
         Err(_) => finding(rt.alloc(), 3)?,
     };
-    assert_eq!(rt; found, Ok(wanted));
+    let (batches, answer) = wanted;
+    assert_eq!(rt; found, Ok((batches, answer, true)));
     Ok(())
 }

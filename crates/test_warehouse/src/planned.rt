@@ -1,7 +1,8 @@
 //! Plans over stored cuboids, answers by them, and how many sectors these read.
-use cube_model::{Agg, Answer, Attr, Fault, Measure};
+use cube_model::{Agg, Answer, Attr, Fault, Items, Measure};
+use mode_queries::{ModeCond, ModeQuery};
 use sample_sessions::{Lines, answer, loaded, store_views, submit, with_three};
-use sample_star::{Asked, EVERY_ROW, FACTS, THIRD_FACT, query};
+use sample_star::{Asked, EVERY_ROW, FACTS, THIRD_FACT, query, text};
 use sector_device::MemDisk;
 use std::alloc::Global;
 use warehouse::{Plan, Priced, Session};
@@ -200,5 +201,99 @@ fn queries_are_answered_by_the_plan_that_reads_least(rt: HostRuntime) {
             wanted(rt.alloc(), case.lines),
             "case {place}"
         );
+    }
+}
+
+/// A query that may look at ship modes, over one batch of the three sample rows in the second layout.
+#[derive(Clone, Copy)]
+struct ByModes {
+    /// The numbers of the views whose cuboids hold the batch.
+    views: &'static [u16],
+    asked: Asked<'static>,
+    /// The place of the ship mode among the columns, if it is one of them.
+    place: Option<usize>,
+    /// The ship modes that are asked for, from one to another, if not all are.
+    between: Option<(&'static str, &'static str)>,
+    /// Every plan that answers it, the one that is taken first.
+    plans: &'static [Read],
+}
+
+/// View 507 has a cell for each of two ship modes. Views 59 and 251 do not group by ship mode.
+const BY_MODE: ByModes = ByModes {
+    views: &[59, 251, 507],
+    asked: EVERY_ROW,
+    place: Some(0),
+    between: None,
+    plans: &[(Some((507, 1)), 2), (None, 3)],
+};
+
+static BY_MODES: [ByModes; 6] = [
+    BY_MODE,
+    // A condition on ship modes needs them too.
+    ByModes {
+        place: None,
+        between: Some(("AIR", "MAIL")),
+        ..BY_MODE
+    },
+    ByModes {
+        views: &[59, 251],
+        plans: &[(None, 3)],
+        ..BY_MODE
+    },
+    // Years are in no cell of view 507.
+    ByModes {
+        asked: BY_YEAR,
+        plans: &[(None, 3)],
+        ..BY_MODE
+    },
+    // View 504 has a cell for each row: the scan is taken at a tie.
+    ByModes {
+        views: &[504, 507],
+        asked: BY_YEAR,
+        plans: &[(None, 3), (Some((504, 1)), 3)],
+        ..BY_MODE
+    },
+    // Where ship modes are not looked at, each of the three views serves.
+    ByModes {
+        place: None,
+        plans: &[
+            (Some((251, 1)), 1),
+            (Some((59, 1)), 2),
+            (None, 3),
+            (Some((507, 1)), 2),
+        ],
+        ..BY_MODE
+    },
+];
+
+fn moded_query(alloc: Global, case: &ByModes) -> Result<ModeQuery, Fault> {
+    let mut conditions = Items::new(alloc);
+    if let Some((low, high)) = case.between {
+        let low = text(alloc, low)?;
+        let high = text(alloc, high)?;
+        conditions.push(ModeCond::Between(low, high))?;
+    }
+    Ok(ModeQuery {
+        query: query(alloc, &case.asked)?,
+        place: case.place,
+        conditions,
+    })
+}
+
+/// Whether just the plans of a case are listed.
+fn are_moded_plans(alloc: Global, case: &ByModes) -> Result<bool, Fault> {
+    let mut session = loaded(alloc, 1)?;
+    session.migrate(alloc)?;
+    store_views(alloc, &mut session, case.views)?;
+    session.upkeep(alloc)?;
+    let asked = moded_query(alloc, case)?;
+    let plans = session.moded_plans(alloc, 1, &asked)?;
+    Ok(plans.iter().map(read_of).eq(case.plans.iter().copied()))
+}
+
+#[test]
+fn cuboids_by_ship_mode_serve_queries_that_look_at_them(rt: HostRuntime) {
+    for (place, case) in BY_MODES.iter().enumerate() {
+        assert_eq!(rt; are_moded_plans(rt.alloc(), case), Ok(true), "case {place}");
     }
 }

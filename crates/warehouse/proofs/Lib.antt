@@ -12,6 +12,7 @@ pub mod Making
 pub mod FoundLaws
 mod Caught
 pub mod Cuboids
+mod ByModes
 mod Pairing
 pub mod Wider
 mod Compared

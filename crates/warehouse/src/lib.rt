@@ -3,6 +3,7 @@
 
 mod adding;
 mod beginning;
+mod by_modes;
 mod checking;
 mod choosing;
 mod chosen;
@@ -35,6 +36,7 @@ pub use chosen::Chosen;
 pub use command::{Command, Reply};
 pub use creation::{create, create_as};
 pub use growing::GrowingBatch;
+pub use mode_answers::FoundByModes;
 pub use new_rows::NewRows;
 pub use opening::{open, open_as_is};
 pub use planned_queries::{Found, Running};

@@ -119,9 +119,15 @@ pub(crate) fn check(query: &Query, as_of: u32, batches: u32) -> Result<(), Fault
     ensures causes { IfErr result (λ fault. ((fault ≡ BadQuery) × (IsProper query.now → ⊥))
         ⊎ ((fault ≡ NoSuchPrefix) × IsProper query.now × (batches < as_of))) }
 {
-    if query.check().is_err() {
-        return Err(Fault::BadQuery);
-    }
+    query.check()?;
+    are_there(as_of, batches)
+}
+
+// Says whether so many batches are there.
+pub(crate) fn are_there(as_of: u32, batches: u32) -> Result<(), Fault>
+    ensures there { OnOk result (as_of ≤ batches) }
+    ensures beyond { IfErr result (λ fault. (fault ≡ NoSuchPrefix) × (batches < as_of)) }
+{
     if as_of > batches {
         return Err(Fault::NoSuchPrefix);
     }

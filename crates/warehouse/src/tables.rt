@@ -1,16 +1,13 @@
 //! The dimension tables of a warehouse, its layout, and its ship modes.
-ghost use Rattle.std.specs.Prelude.{◌≡◌, IfErr, IfOk};
-ghost use Rattle.cube_model.specs.declared.fault.Fault.TheVariants.{Memory};
+ghost use Rattle.std.specs.Prelude.{◌≡◌};
 ghost use Rattle.warehouse_objects.specs.Warehouse.{Warehouse, ship_modes_of};
 ghost use Rattle.warehouse.specs.Choosing.{modes_counted};
 ghost use Rattle.warehouse.specs.Session.{device_of, IsAt};
 
 use crate::prepared::kept_is_represented;
 use crate::session::Session;
-use cube_model::Fault;
 use dimensions::Dims;
 use sector_device::Sectors;
-use std::rc::Rc;
 use warehouse_root::Layout;
 
 impl<D: Sectors> Session<D> {
@@ -21,18 +18,6 @@ impl<D: Sectors> Session<D> {
     {
         kept_is_represented(&self.dims, &self.root);
         &self.dims
-    }
-
-    /// The rows of the four dimensions, to be kept while the session is used. It makes no device call, and can only fail
-    /// when out of memory.
-    pub fn shared_dims(&self) -> Result<Rc<Dims>, Fault>
-        ensures ok { IfOk result (λ shared. (w : Warehouse) → IsAt D.Sectors self.now w
-            → D.keeps_word (device_of self.now) → shared.value ≡ w.rows) }
-        ensures memory { IfErr result (λ fault. fault ≡ Memory) }
-    {
-        kept_is_represented(&self.dims, &self.root);
-        let dims = self.dims.clone()?;
-        Ok(dims)
     }
 
     /// The layout of what is on the device. It makes no device call.

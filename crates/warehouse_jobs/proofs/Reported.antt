@@ -8,12 +8,13 @@ use Rattle.cube_model.specs.declared.fault.Fault.TheVariants.{Device}
 use Rattle.cube_model.specs.declared.answer.Answer.{Answer}
 use Rattle.cube_model.specs.declared.query.Query.{Query}
 use Rattle.cube_model.specs.Answers.{answer_as_of}
+use Rattle.mode_answers.specs.Answers.{moded_answer_as_of}
 use Rattle.mode_queries.specs.declared.query.ModeQuery.{ModeQuery}
-use Rattle.mode_reports.specs.Reports.{IsAskedByModes, RefusesByModes, moded_answer_as_of}
 use Rattle.report_formats.specs.Arranged.{WritesOrLacksMemory}
 use Rattle.ssb_reports.specs.Writing.{AppendsBeginning, Writes}
 use Rattle.warehouse_objects.specs.Warehouse.{Warehouse}
 use Rattle.warehouse.specs.declared.session.Session.{Session}
+use Rattle.warehouse.specs.ByModes.{IsAskedByModes, RefusesByModes}
 use Rattle.warehouse.specs.Session.{IsAt, IsAsked, QueryRefuses, has_failed}
 use Rattle.warehouse.proofs.Refusing.{device_or}
 use Rattle.warehouse_jobs.specs.Reporting.{Answers, AnswersByModes, WritesAsked, answered_by, answered_by_modes}

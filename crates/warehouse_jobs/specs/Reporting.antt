@@ -7,8 +7,8 @@ use Rattle.cube_model.specs.declared.fault.Fault.{Fault}
 use Rattle.cube_model.specs.declared.fault.Fault.TheVariants.{Output, Device}
 use Rattle.cube_model.specs.declared.query.Query.{Query}
 use Rattle.cube_model.specs.Answers.{answer_as_of}
+use Rattle.mode_answers.specs.Answers.{moded_answer_as_of}
 use Rattle.mode_queries.specs.declared.query.ModeQuery.{ModeQuery}
-use Rattle.mode_reports.specs.Reports.{IsAskedByModes, RefusesByModes, moded_answer_as_of}
 use Rattle.object_store.specs.Disk.{Leaves}
 use Rattle.report_formats.specs.declared.asked.Asked.{Asked}
 use Rattle.report_formats.specs.Fields.{formatted}
@@ -18,6 +18,7 @@ use Rattle.warehouse_objects.specs.Warehouse.{Warehouse}
 use Rattle.warehouse_objects.specs.Represents.{Represents}
 use Rattle.warehouse.specs.declared.session.Session.{Session}
 use Rattle.warehouse.specs.declared.status.Status.{Status}
+use Rattle.warehouse.specs.ByModes.{IsAskedByModes, RefusesByModes}
 use Rattle.warehouse.specs.Session.{IsAt, IsAsked, QueryRefuses, content_of, disk_of, has_failed}
 use Rattle.warehouse.specs.Status.{IsStatus}
 use Rattle.warehouse_jobs.specs.Printed.{status_text}

@@ -9,7 +9,8 @@ ghost use Rattle.warehouse_jobs.specs.Explaining.{Explains};
 
 use crate::plan_lines::write_plans;
 use crate::reporting::batches_asked;
-use cube_model::{Fault, Query};
+use cube_model::Fault;
+use mode_queries::ModeQuery;
 use sector_device::Sectors;
 use std::alloc::Global;
 use std::io::Write;
@@ -20,22 +21,25 @@ use warehouse::Session;
 /// tail 1 cost 3`. The tail is how many batches are read as fact rows, the cost how many cells and fact rows are read.
 /// It makes no device call.
 ///
+/// The query may look at ship modes, and its plans are then of the cuboids that group by them. One that does not has
+/// the plans that it has as a query of the dimensions alone (`planned_without_ship_modes` of `mode_answers`).
+///
 /// `BadQuery` where the query is not proper, `NoSuchPrefix` where there are fewer batches, `Memory`, and `Output` where
 /// the writer fails; `Failed` where the device failed in an earlier call.
 pub fn explain<D: Sectors, W: Write>(
     alloc: Global,
     session: &Session<D>,
     as_of: Option<u32>,
-    query: &Query,
+    asked: &ModeQuery,
     out: &mut W,
 ) -> Result<(), Fault>
     ensures explains { (w : Warehouse) → IsAt D.Sectors session.now w → D.keeps_word (device_of session.now)
-        → Explains w (asked_for w as_of) query.now (W.contents out.old) (W.contents out.new) result }
+        → Explains w (asked_for w as_of) asked.now (W.contents out.old) (W.contents out.new) result }
     ensures failed { has_failed session.now ≡ true → (result ≡ Err Failed)
         × Keeps (W.contents out.old) (W.contents out.new) }
 {
     let count = batches_asked(session, as_of)?;
-    explain_over(alloc, session, count, query, out)
+    explain_over(alloc, session, count, asked, out)
 }
 
 // Writes the plans of a query over so many batches.
@@ -43,15 +47,15 @@ fn explain_over<D: Sectors, W: Write>(
     alloc: Global,
     session: &Session<D>,
     count: u32,
-    query: &Query,
+    asked: &ModeQuery,
     out: &mut W,
 ) -> Result<(), Fault>
     ensures explains { (w : Warehouse) → IsAt D.Sectors session.now w → D.keeps_word (device_of session.now)
-        → Explains w count query.now (W.contents out.old) (W.contents out.new) result }
+        → Explains w count asked.now (W.contents out.old) (W.contents out.new) result }
     ensures failed { has_failed session.now ≡ true → (result ≡ Err Failed)
         × Keeps (W.contents out.old) (W.contents out.new) }
 {
-    let plans = session.plans(alloc, count, query)?;
+    let plans = session.moded_plans(alloc, count, asked)?;
     let ship_modes = session.layout().has_ship_modes();
     write_plans(out, ship_modes, count, plans.as_slice())
 }

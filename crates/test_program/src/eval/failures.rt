@@ -1,9 +1,9 @@
 //! Readers and writers that fail, and the status at the end.
 use crate::readers::{Readers, write_report};
 use crate::words::FIRST;
+use command_files::exit::exit_of;
 use cube_model::{Fault, Query};
 use sample_star::{TABLES, Taker};
-use ssb_eval::exit_of;
 use std::alloc::Global;
 use std::test::Fail;
 

@@ -1,10 +1,10 @@
 //! Additions of dimension rows one after the other: what each writes, what comes of it, and what is stored when the
 //! writer fails.
 use cube_model::{Axis, Fault};
+use dimension_tables::DimensionTables;
 use sample_sessions::fresh;
 use sample_star::{Taker, whole};
 use sector_device::MemDisk;
-use ssb_eval::DimensionTables;
 use std::alloc::Global;
 use std::io::{self, Write};
 use std::test::Fail;

@@ -11,7 +11,7 @@ use Rattle.warehouse_objects.proofs.Folded.{err_fault}
 use Rattle.warehouse_objects.proofs.OneMoreRead.{has_read, reads_more, same_error, still_then, then_reads}
 use Rattle.batch_rows.specs.Gathered.{IsGathered}
 use Rattle.batch_rows.proofs.OneBatchMore.{all_gathered, all_refused}
-use Rattle.batch_rows.proofs.Rows.{never_said, only_memory, said_rows}
+use Rattle.batch_rows.proofs.Rows.{never_said, only_memory, said_modes}
 use Rattle.batch_rows.proofs.ship_modes.read_ship_modes.Goals as goal
 
 pub loop-before-init : goal.loop-before-init
@@ -22,42 +22,42 @@ loop-before-init g c = record {
   own = λ k w represents rooted. c.none-gathered.ensures w.batches;
 }
 
-pub returns-in_err-segment-clause-refused : goal.returns-in_err-segment-clause-refused
-returns-in_err-segment-clause-refused g c =
+pub returns-in_err-column-clause-refused : goal.returns-in_err-column-clause-refused
+returns-in_err-column-clause-refused g c =
     let p = err_from_is_err_and c.from_residual.result c.from_residual.ensures.1 in
     rw (p.1, p.2) (λ other k w represents rooted.
-    let fault : Fault = c.in_err-segment.field-0.0 in
+    let fault : Fault = c.in_err-column.field-0.0 in
     let so_far = c.loop-before.invariant in
-    let word = c.in_err-segment.ensures.reads.leaves.word k in
-    inl (only_memory fault c.in_err-segment.ensures.causes other (λ bad.
+    let word = c.in_err-column.ensures.reads.leaves.word k in
+    inl (only_memory fault c.in_err-column.ensures.causes other (λ bad.
     never_said (content_of g.D.Sectors c.loop-before.store) w
     (subst (λ (x : Content). Represents x w) (sym (so_far.still.content word)) represents) c.args.root.now rooted
     c.layout-layout.ensures.proper c.loop-before.before
     (omega (arith, c.loop-before-test.true, ap (λ (l : List ℕ). length l) c.batches-counts.ensures))
     c.batches-counts.result.now c.batches-counts.ensures
-    (c.in_err-segment.ensures.refused (ap (λ (f : Fault). Err f) bad) k))))
+    (c.in_err-column.ensures.refused (ap (λ (f : Fault). Err f) bad) k))))
 
-pub returns-in_err-segment-clause-reads : goal.returns-in_err-segment-clause-reads
-returns-in_err-segment-clause-reads g c =
+pub returns-in_err-column-clause-reads : goal.returns-in_err-column-clause-reads
+returns-in_err-column-clause-reads g c =
     let p = err_from_is_err_and c.from_residual.result c.from_residual.ensures.1 in
-    rw (p.1, p.2) (same_error g.D.Sectors c.args.store.now c.read_segment.new.store _
-    (then_reads g.D.Sectors c.args.store.now c.loop-before.store c.read_segment.new.store c.loop-before.invariant.still
-    _
-    c.requires.fine c.loop-before.invariant.leaves c.in_err-segment.ensures.reads))
+    rw (p.1, p.2) (same_error g.D.Sectors c.args.store.now c.read_mode_column.new.store _
+    (then_reads g.D.Sectors c.args.store.now c.loop-before.store c.read_mode_column.new.store
+    c.loop-before.invariant.still _ c.requires.fine c.loop-before.invariant.leaves c.in_err-column.ensures.reads))
 
 pub returns-in_err-add-clause-refused : goal.returns-in_err-add-clause-refused
 returns-in_err-add-clause-refused g c =
     let p = err_from_is_err_and c.from_residual-in_err-add.result c.from_residual-in_err-add.ensures.1 in
     rw (p.1, p.2) (λ other k w represents rooted.
     let so_far = c.loop-before.invariant in
-    let word = c.in_ok-segment.ensures.reads.leaves.word k in
-    let there = said_rows (content_of g.D.Sectors c.loop-before.store) w
+    let word = c.in_ok-column.ensures.reads.leaves.word k in
+    let there = said_modes (content_of g.D.Sectors c.loop-before.store) w
     (subst (λ (x : Content). Represents x w) (sym (so_far.still.content word)) represents) c.args.root.now rooted
     c.layout-layout.ensures.proper c.loop-before.before
     (omega (arith, c.loop-before-test.true, ap (λ (l : List ℕ). length l) c.batches-counts.ensures))
-    c.in_ok-segment.segment.rows (c.in_ok-segment.ensures.rows k) in
+    c.in_ok-column.column (c.in_ok-column.ensures.modes k) in
     ⊎_elim (λ memory. inl memory)
-    (λ cause. inr (cause w.batches c.loop-before.before refl there (so_far.own word w represents rooted)))
+    (λ cause. inr (cause w.batches c.loop-before.before there.0 refl there.1 there.2
+    (so_far.own word w represents rooted)))
     c.in_err-add.ensures.refused)
 
 pub returns-in_err-add-clause-failed : goal.returns-in_err-add-clause-failed
@@ -70,33 +70,34 @@ pub returns-in_err-add-clause-reads : goal.returns-in_err-add-clause-reads
 returns-in_err-add-clause-reads g c =
     let p = err_from_is_err_and c.from_residual-in_err-add.result c.from_residual-in_err-add.ensures.1 in
     let so_far = c.loop-before.invariant in
-    let reads = c.in_ok-segment.ensures.reads in
-    rw (p.1, p.2) (has_read g.D.Sectors c.args.store.now c.read_segment.new.store _
+    let reads = c.in_ok-column.ensures.reads in
+    rw (p.1, p.2) (has_read g.D.Sectors c.args.store.now c.read_mode_column.new.store _
     (λ is. c.in_err-add.ensures.device (ap (λ (f : Fault). Err f) (err_fault c.in_err-add.field-0.0 Device is)))
-    (still_then g.D.Sectors c.args.store.now c.loop-before.store c.read_segment.new.store so_far.still
+    (still_then g.D.Sectors c.args.store.now c.loop-before.store c.read_mode_column.new.store so_far.still
     (reads.stays (λ is. cc)))
-    (reads_more g.D.Sectors c.args.store.now c.loop-before.store c.read_segment.new.store so_far.still so_far.leaves
+    (reads_more g.D.Sectors c.args.store.now c.loop-before.store c.read_mode_column.new.store so_far.still so_far.leaves
     reads.leaves))
 
 pub loop-before-preserved : goal.loop-before-preserved
 loop-before-preserved g c =
     let first = c.args.store.now in
     let was = c.loop-before.store in
-    let now = c.read_segment.new.store in
+    let now = c.read_mode_column.new.store in
     let so_far = c.loop-before.invariant in
-    let reads = c.in_ok-segment.ensures.reads in
-    let still : IsStill g.D.Sectors c.loop-before.store c.read_segment.new.store = reads.stays (λ is. cc) in record {
+    let reads = c.in_ok-column.ensures.reads in
+    let still : IsStill g.D.Sectors was now = reads.stays (λ is. cc) in record {
       fine = still.failed ∙ so_far.fine;
       still = still_then g.D.Sectors first was now so_far.still still;
       leaves = reads_more g.D.Sectors first was now so_far.still so_far.leaves reads.leaves;
       own = λ k w represents rooted.
           let word = still.word k in
-          let there = said_rows (content_of g.D.Sectors c.loop-before.store) w
+          let there = said_modes (content_of g.D.Sectors c.loop-before.store) w
           (subst (λ (x : Content). Represents x w) (sym (so_far.still.content word)) represents) c.args.root.now rooted
           c.layout-layout.ensures.proper c.loop-before.before
           (omega (arith, c.loop-before-test.true, ap (λ (l : List ℕ). length l) c.batches-counts.ensures))
-          c.in_ok-segment.segment.rows (c.in_ok-segment.ensures.rows k) in
-          c.in_ok-add.ensures.ok w.batches c.loop-before.before refl there (so_far.own word w represents rooted);
+          c.in_ok-column.column (c.in_ok-column.ensures.modes k) in
+          c.in_ok-add.ensures.ok w.batches c.loop-before.before there.0 refl there.1 there.2
+          (so_far.own word w represents rooted);
     }
 
 pub returns-in-Some-clause-refused : goal.returns-in-Some-clause-refused

@@ -3,4 +3,4 @@ use Rattle.std.proofs.Math.ListN.{replicate}
 use Rattle.mode_folds.proofs.dividing.empty_parts.Given as goal
 
 abbrev pub invariant-loop : goal.invariant-loop
-invariant-loop l = map (λ part. part.items) l.parts.items ≡ replicate l.counter []
+invariant-loop g l = map (λ part. part.items) l.parts.items ≡ replicate l.counter []

@@ -4,8 +4,9 @@ use Rattle.cube_model.specs.declared.rows.LineOrder.{LineOrder}
 use Rattle.ssb_eval.specs.BatchLoop.{AreTaken, LeavesFacts}
 use Rattle.cube_model.specs.Admission.{all_rows}
 use Rattle.cube_model.specs.ShipModes.{modes_in}
+use Rattle.dimension_tables.specs.Tables.{IsUnread}
 use Rattle.ssb_eval.specs.ShipModes.{HasMet}
-use Rattle.ssb_eval.specs.Tables.{IsInNoRow, IsUnread}
+use Rattle.ssb_eval.specs.Tables.{IsInNoRow}
 use Rattle.ssb_eval.proofs.facts.fold_lines.Given as goal
 
 abbrev pub invariant-loop-modes : goal.invariant-loop-modes

@@ -1,9 +1,10 @@
 use Rattle.std.proofs.Common.{◌∙◌, Err, subst}
 use Rattle.std.proofs.lemmas.Result.{err_from_is_err_and}
 use Rattle.cube_query.proofs.CallerLemmas.{memory_alone}
+use Rattle.dimension_tables.specs.Texts.{Gives}
 use Rattle.mode_folds.specs.States.{IsFoldableByModes}
 use Rattle.mode_queries.specs.References.{asked_by}
-use Rattle.ssb_eval.specs.Evaluation.{Gives, moded_answer_of}
+use Rattle.ssb_eval.specs.Evaluation.{moded_answer_of}
 use Rattle.ssb_eval.proofs.Batches.{gives-answered, gives-nothing}
 use Rattle.ssb_eval.proofs.Pieces.{over_rows}
 use Rattle.ssb_eval.proofs.facts.group_facts.Goals as goal

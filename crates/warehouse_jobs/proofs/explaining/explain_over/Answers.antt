@@ -9,12 +9,12 @@ use Rattle.warehouse_jobs.proofs.explaining.explain_over.Goals as goal
 
 pub returns-in_err-plans-clause-explains : goal.returns-in_err-plans-clause-explains
 returns-in_err-plans-clause-explains g c w at k =
-    explain-refused w c.args.count c.args.query.now (g.W.Write.contents c.args.out.now) _ _
+    explain-refused w c.args.count c.args.asked.now (g.W.Write.contents c.args.out.now) _ _
     (c.in_err-plans.ensures.refused w at k) (err_from_is_err_and _ c.from_residual.ensures.1)
 
 pub returns-clause-explains : goal.returns-clause-explains
 returns-clause-explains g c w at k =
-    explain-written w c.args.count c.args.query.now (g.W.Write.contents c.args.out.now)
+    explain-written w c.args.count c.args.asked.now (g.W.Write.contents c.args.out.now)
     (g.W.Write.contents c.write_plans.new.out) c.in_ok-plans.plans.items c.write_plans.result
     (c.in_ok-plans.ensures.plans w at k)
     (subst (λ (b : Bool). Writes (g.W.Write.contents c.args.out.now) (g.W.Write.contents c.write_plans.new.out)

@@ -2,12 +2,10 @@ use Rattle.std.proofs.Common.{◌≡◌, ◌∙◌, sym, ap, subst, None, true}
 use Rattle.std.proofs.lemmas.Result.{err_from_is_err_and}
 use Rattle.std.specs.Prelude.{is_some}
 use Rattle.cube_model.specs.declared.fault.Fault.TheVariants.{BadLayout}
-use Rattle.dictionary.specs.Dictionary.{EachOnce}
-use Rattle.mode_folds.specs.Joining.{FoldParts}
-use Rattle.mode_folds.specs.Parts.{TakesParts}
+use Rattle.mode_folds.specs.Parts.{RepresentByMode, TakeByMode}
 use Rattle.mode_folds.specs.States.{CanTakeByModes, TakesByModes, fold_of}
 use Rattle.mode_folds.proofs.Counted.{same_error}
-use Rattle.mode_folds.proofs.Finish.{known_by_mode, parts_by_mode}
+use Rattle.mode_folds.proofs.Finish.{represent_by_mode}
 use Rattle.mode_folds.proofs.Takes.{takes_by_mode, takes_plain}
 use Rattle.mode_folds.proofs.Whole.{none_or_some, passing_after}
 use Rattle.mode_queries.specs.Joining.{passing}
@@ -38,15 +36,11 @@ returns-in_err-add_by_mode-clause-refused c =
     rw (p.1, p.2) (λ is given.
     let can = subst (λ s. CanTakeByModes c.args.dims.now s c.args.rows.items) (sym c.self.view_is) given in
     c.in_err-add_by_mode.ensures.refused (same_error c.in_err-add_by_mode.field-0.0 BadLayout is)
-    (passing asked.conditions can.0) can.1.0.once
-    (known_by_mode c.args.dims.now asked c.self.inside.together c.self.inside.modes.texts c.self.inside.folds.items
-    can.0
-    some can.1.0)
-    (subst (λ q. FoldParts c.args.dims.now q (passing asked.conditions can.0) c.self.inside.modes.texts
+    (passing asked.conditions can.0)
+    (subst (λ q. RepresentByMode c.args.dims.now q (passing asked.conditions can.0) c.self.inside.modes.texts
     c.self.inside.folds.items) (sym c.query-query.ensures)
-    (parts_by_mode c.args.dims.now asked c.self.inside.together c.self.inside.modes.texts c.self.inside.folds.items
-    can.0
-    some c.self.invariant.2 can.1.0))
+    (represent_by_mode c.args.dims.now asked c.self.inside.together c.self.inside.modes.texts
+    c.self.inside.folds.items can.0 some c.self.invariant.2 can.1.0))
     (passing_after c.args.dims.now asked can.0 c.args.rows.items c.passing-rows.result.items rows_are can.1.1))
 
 pub returns-clause-ok : goal.returns-clause-ok
@@ -60,11 +54,11 @@ returns-clause-ok c =
     c.self.view_is
     (takes_by_mode c.args.dims.now asked c.self.inside.together c.add_together.new.together c.self.inside.modes.texts
     c.add_by_mode.new.modes.texts c.self.inside.folds.items c.add_by_mode.new.folds.items c.args.rows.items
-    c.args.rows some c.self.invariant.2
+    some c.self.invariant.2
     (c.in_ok-add_together.ensures.ok c.args.rows.items (c.as_slice.ensures.value ∙ rows_are))
-    (subst (λ q. EachOnce c.self.inside.modes.texts → TakesParts c.args.dims.now q c.self.inside.modes.texts
-    c.add_by_mode.new.modes.texts c.self.inside.folds.items (passing asked.conditions c.args.rows.items)
-    c.add_by_mode.new.folds.items) c.query-query.ensures
-    (subst (λ l. EachOnce c.self.inside.modes.texts → TakesParts c.args.dims.now c.query-query.result.now
-    c.self.inside.modes.texts c.add_by_mode.new.modes.texts c.self.inside.folds.items l
-    c.add_by_mode.new.folds.items) rows_are c.in_ok-add_by_mode.ensures.ok)))
+    (subst (λ q. TakeByMode c.args.dims.now q c.self.inside.modes.texts c.self.inside.folds.items
+    (passing asked.conditions c.args.rows.items) c.add_by_mode.new.modes.texts c.add_by_mode.new.folds.items)
+    c.query-query.ensures
+    (subst (λ l. TakeByMode c.args.dims.now c.query-query.result.now c.self.inside.modes.texts
+    c.self.inside.folds.items l c.add_by_mode.new.modes.texts c.add_by_mode.new.folds.items) rows_are
+    c.in_ok-add_by_mode.ensures.ok)))

@@ -1,9 +1,10 @@
 use Rattle.std.proofs.Common.{◌∙◌, ap, subst, sym}
 use Rattle.std.proofs.lemmas.Result.{err_from_is_err_and}
 use Rattle.batch_loader.specs.Unread.{Unread}
+use Rattle.dimension_tables.specs.Tables.{KeepLines}
 use Rattle.mode_queries.specs.References.{asked_by}
 use Rattle.ssb_eval.specs.Evaluation.{moded_answer_of}
-use Rattle.ssb_eval.specs.Tables.{KeepLines, StarLines}
+use Rattle.ssb_eval.specs.Tables.{StarLines}
 use Rattle.ssb_eval.proofs.KeptLines.{evaluates-no_answer, keeps-cause, keeps-unknown, no_key, unread-rest}
 use Rattle.ssb_eval.proofs.star.Tables.evaluate.Goals as goal
 

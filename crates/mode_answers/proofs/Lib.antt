@@ -1,0 +1,6 @@
+mod Faults
+mod Folding
+mod Members
+pub mod Planned
+mod Reading
+mod Views

@@ -1,0 +1,4 @@
+pub mod Lawful
+pub mod Planned
+pub mod Answers
+pub mod Counted

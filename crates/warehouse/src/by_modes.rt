@@ -1,0 +1,128 @@
+//! Queries that look at ship modes, over the first batches of a warehouse.
+ghost use Rattle.std.specs.Prelude.{◌≡◌, ◌≢◌, ◌⊎◌, ◌<◌, ◌≤◌, ◌↔◌, true, false, Err, length, IfOk, IfErr, IsErrOf, OnOk};
+ghost use Rattle.cube_model.specs.declared.fault.Fault.TheVariants.{BadQuery, Device, Failed, NoSuchPrefix};
+ghost use Rattle.mode_answers.specs.Answers.{moded_answer_as_of};
+ghost use Rattle.mode_answers.specs.Planned.{ArePlansByModes, looks_at_modes};
+ghost use Rattle.mode_queries.specs.Proper.{IsProperByModes};
+ghost use Rattle.object_store.specs.Disk.{Leaves};
+ghost use Rattle.warehouse_objects.specs.Represents.{Represents};
+ghost use Rattle.warehouse_objects.specs.Warehouse.{Warehouse};
+ghost use Rattle.warehouse.specs.ByModes.{IsAskedByModes, RefusesByModes};
+ghost use Rattle.warehouse.specs.Session.{has_failed, device_of, disk_of, IsAt, Breaks, KeepsContent};
+
+use crate::prepared::kept_is_represented;
+use crate::querying::are_there;
+use crate::session::Session;
+use cube_model::Fault;
+use mode_answers::{FoundByModes, answer_by_plan, mode_plans_of};
+use mode_queries::ModeQuery;
+use planner::Priced;
+use sector_device::Sectors;
+use std::alloc::Global;
+
+impl<D: Sectors> Session<D> {
+    /// The answer to a query that looks at ship modes, over the first `as_of` batches, of whose lines none is made.
+    ///
+    /// `BadQuery` exactly where the query is not proper, else `NoSuchPrefix` exactly where there are fewer batches. It
+    /// can also fail when out of memory, and where the device fails.
+    pub fn moded_groups(
+        &mut self,
+        alloc: Global,
+        as_of: u32,
+        asked: &ModeQuery,
+    ) -> Result<FoundByModes, Fault>
+        requires looks { looks_at_modes asked.now ≡ true }
+
+        // The warehouse stays as it is, at each moment.
+        ensures leaves { (w : Warehouse) → IsAt D.Sectors self.old w
+            → Leaves (disk_of D.Sectors self.old) (disk_of D.Sectors self.new) (λ c. Represents c w) }
+        ensures stays { (IsErrOf result Device → ⊥) → (w : Warehouse) → IsAt D.Sectors self.old w
+            → IsAt D.Sectors self.new w }
+
+        // Nothing was put on the device, and after a failure nothing is done.
+        ensures reads { (IsErrOf result Device → ⊥) → KeepsContent D.Sectors self.old self.new }
+        ensures unmoved { IsErrOf result Failed → self.new ≡ self.old }
+
+        // The answer is the definition's.
+        ensures answer { IfOk result (λ found. (w : Warehouse) → IsAt D.Sectors self.old w
+            → D.keeps_word (device_of self.new)
+            → IsAskedByModes w as_of asked.now × (found ≡ moded_answer_as_of asked.now as_of w.rows w.batches)) }
+
+        // When each error comes.
+        ensures improper { has_failed self.old ≡ false → (IsProperByModes asked.now → ⊥) → result ≡ Err BadQuery }
+        ensures beyond { (w : Warehouse) → IsAt D.Sectors self.old w → D.keeps_word (device_of self.new)
+            → IsProperByModes asked.now → length w.batches < as_of → result ≡ Err NoSuchPrefix }
+        ensures refused { IfErr result (λ fault. fault ≢ Device → (w : Warehouse) → IsAt D.Sectors self.old w
+            → D.keeps_word (device_of self.new)
+            → RefusesByModes w as_of asked.now fault) }
+        ensures failed { IsErrOf result Failed ↔ (has_failed self.old ≡ true) }
+        ensures device { IsErrOf result Device → Breaks D.Sectors self.old self.new }
+        ensures word { D.keeps_word (device_of self.new) → D.keeps_word (device_of self.old) }
+    {
+        if self.is_broken() {
+            return Err(Fault::Failed);
+        }
+        kept_is_represented(&self.dims, &self.root);
+        if let Err(fault) = check_by_modes(asked, as_of, self.root.batches().len() as u32) {
+            return Err(fault);
+        }
+        match answer_by_plan(
+            alloc,
+            &mut self.store,
+            &self.root,
+            &self.dims,
+            &self.modes,
+            as_of,
+            asked,
+        ) {
+            Ok(found) => Ok(found),
+            Err(fault) => Err(fault),
+        }
+    }
+
+    /// Every plan by which a query that may look at ship modes could be answered over the first `as_of` batches, each
+    /// with how many cells and fact rows it reads. The first is the one that is taken. It makes no device call.
+    ///
+    /// `BadQuery` exactly where the query is not proper, else `NoSuchPrefix` exactly where there are fewer batches. It
+    /// can also run out of memory.
+    pub fn moded_plans(
+        &self,
+        alloc: Global,
+        as_of: u32,
+        asked: &ModeQuery,
+    ) -> Result<Vec<Priced>, Fault>
+        ensures plans { IfOk result (λ plans. (w : Warehouse) → IsAt D.Sectors self.now w
+            → D.keeps_word (device_of self.now)
+            → IsAskedByModes w as_of asked.now × ArePlansByModes w as_of asked.now plans.items) }
+
+        // When each error comes.
+        ensures improper { has_failed self.now ≡ false → (IsProperByModes asked.now → ⊥) → result ≡ Err BadQuery }
+        ensures beyond { (w : Warehouse) → IsAt D.Sectors self.now w → D.keeps_word (device_of self.now)
+            → IsProperByModes asked.now → length w.batches < as_of → result ≡ Err NoSuchPrefix }
+        ensures refused { IfErr result (λ fault. (w : Warehouse) → IsAt D.Sectors self.now w
+            → D.keeps_word (device_of self.now)
+            → RefusesByModes w as_of asked.now fault) }
+        ensures failed { IsErrOf result Failed ↔ (has_failed self.now ≡ true) }
+    {
+        if self.store.is_broken() {
+            return Err(Fault::Failed);
+        }
+        kept_is_represented(&self.dims, &self.root);
+        if let Err(fault) = check_by_modes(asked, as_of, self.root.batches().len() as u32) {
+            return Err(fault);
+        }
+        mode_plans_of(alloc, &self.root, as_of, asked)
+    }
+}
+
+// Says whether a query may be asked over the first of so many batches.
+fn check_by_modes(asked: &ModeQuery, as_of: u32, batches: u32) -> Result<(), Fault>
+    ensures ok { OnOk result (IsProperByModes asked.now × (as_of ≤ batches)) }
+    ensures improper { (IsProperByModes asked.now → ⊥) → result ≡ Err BadQuery }
+    ensures beyond { IsProperByModes asked.now → batches < as_of → result ≡ Err NoSuchPrefix }
+    ensures causes { IfErr result (λ fault. ((fault ≡ BadQuery) × (IsProperByModes asked.now → ⊥))
+        ⊎ ((fault ≡ NoSuchPrefix) × IsProperByModes asked.now × (batches < as_of))) }
+{
+    asked.check()?;
+    are_there(as_of, batches)
+}
