@@ -138,6 +138,19 @@ grep -q '^plan view' "$work/plan"
 same csv -1 cube plain c_nation,p_category sum:revenue
 same json 3 cube cube c_region,d_year avg:revenue
 
+# queries by ship mode: by a scan, then from a cuboid that groups by it
+same bars -1 cube plain lo_shipmode sum:revenue
+same json 2 cube rollup d_year,lo_shipmode count 'lo_shipmode:A|S'
+cp "$work/star.dev" "$work/first.dev"
+"$program" migrate "$work/star.dev" >> "$work/said"
+"$program" views "$work/star.dev" 507 >> "$work/said"
+"$program" upkeep "$work/star.dev" >> "$work/said"
+"$program" explain "$work/star.dev" --by lo_shipmode --agg sum:revenue > "$work/plan"
+grep -q '^plan view 507 ' "$work/plan"
+same bars -1 cube plain lo_shipmode sum:revenue
+same csv 4 cube cube p_mfgr,lo_shipmode avg:quantity lo_shipmode=RAIL
+mv "$work/first.dev" "$work/star.dev"
+
 refused 24 "$work/star.dev" bars -1 report 9.9
 refused 24 "$work/star.dev" xml -1 report 1.1
 refused 24 "$work/star.dev" bars -1 cube cube d_year count no_such=1
