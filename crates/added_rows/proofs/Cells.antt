@@ -17,9 +17,9 @@ use Rattle.group_plan.specs.Numbers.{IsKnownOn}
 use Rattle.lattice.specs.declared.level.Level.{Level}
 use Rattle.lattice.specs.declared.level.Level.TheVariants as level
 use Rattle.lattice.specs.declared.view.View.{View}
-use Rattle.cuboid_cells.specs.Cells.{number_of}
-use Rattle.cuboid_upkeep.specs.Codes.{code_in, code_of, mode_code}
-use Rattle.cuboid_upkeep.specs.Grouping.{HasMembers, cell_over, code_on, key_of, rows_of, summaries_over}
+use Rattle.cuboid_cells.specs.Cells.{key_as_number}
+use Rattle.cuboid_upkeep.specs.Codes.{code_in, member_code_of, mode_code}
+use Rattle.cuboid_upkeep.specs.Grouping.{HasMembers, cell_over, code_on, key_of, rows_of_number, summaries_over}
 use Rattle.dimensions.specs.Added.{joined}
 use Rattle.added_rows.specs.Lawful.{CellsStay}
 use Rattle.added_rows.proofs.Codes.{code_of_kept, index_kept, known_kept}
@@ -31,11 +31,11 @@ module _ (rows more : DimRows) where
   in_kept (Some column) attr place within = code_of_kept rows more attr place within
 
   of_kept : (attr : Attr) (axis : Axis) (row : LineOrder) → axis_of attr ≡ axis → IsKnownOn rows row axis
-      → code_of (Some attr) (joined rows more) (row_index_of (joined rows more) axis (key_on axis row))
-      ≡ code_of (Some attr) rows (row_index_of rows axis (key_on axis row))
+      → member_code_of (Some attr) (joined rows more) (row_index_of (joined rows more) axis (key_on axis row))
+      ≡ member_code_of (Some attr) rows (row_index_of rows axis (key_on axis row))
   of_kept attr axis row is within =
       let place = row_index_of rows axis (key_on axis row) in
-      ap (code_of (Some attr) (joined rows more)) (index_kept rows more axis (key_on axis row) within)
+      ap (member_code_of (Some attr) (joined rows more)) (index_kept rows more axis (key_on axis row) within)
       ∙ in_kept (attr_column attr) attr place (subst (λ (one : Axis). place < row_count_of rows one) (sym is) within)
 
   -- the code of a fact row's member at a level that is grouped, or that of ALL
@@ -76,12 +76,12 @@ module _ (rows more : DimRows) (modes : List (List ℕ)) (view : View) where
       }
 
   of_number_kept : (number : ℕ) (facts : List LineOrder) → All (HasMembers rows modes view) facts
-      → rows_of (joined rows more) modes view number facts ≡ rows_of rows modes view number facts
+      → rows_of_number (joined rows more) modes view number facts ≡ rows_of_number rows modes view number facts
   of_number_kept number [] all = refl
   of_number_kept number (row ∷ facts) all =
       let key = key_kept row (All-head (HasMembers rows modes view) row facts all) in
       let rest = of_number_kept number facts (All-tail (HasMembers rows modes view) row facts all) in
-      λ i. cond (number_of (key i) == number) (row ∷ rest i) (rest i)
+      λ i. cond (key_as_number (key i) == number) (row ∷ rest i) (rest i)
 
   cell_kept : (facts : List LineOrder) → All (HasMembers rows modes view) facts
       → cell_over (joined rows more) modes view facts ≡ cell_over rows modes view facts
@@ -101,7 +101,7 @@ cells_kept rows more modes facts plain represent =
           represent.group number
           ∙ sym (ap (cell_over (joined rows more) modes view)
           (of_number_kept rows more modes view number facts represent.known)
-          ∙ cell_kept rows more modes view (rows_of rows modes view number facts)
-          (All-filter (λ row. number_of (key_of rows modes view row) == number) (HasMembers rows modes view) facts
+          ∙ cell_kept rows more modes view (rows_of_number rows modes view number facts)
+          (All-filter (λ row. key_as_number (key_of rows modes view row) == number) (HasMembers rows modes view) facts
           represent.known));
     }

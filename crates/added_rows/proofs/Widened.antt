@@ -11,7 +11,7 @@ use Rattle.object_store.proofs.CallerLemmas.{bytes_after, layout_after, once_aft
 use Rattle.cuboid_cells.specs.Steps.{cells_of}
 use Rattle.dimensions.specs.TextRows.{row_of_customer, row_of_date, row_of_part, row_of_supplier}
 use Rattle.dimension_objects.specs.Spelled.{dimension_spelling}
-use Rattle.warehouse_root.specs.Layouts.{number_of}
+use Rattle.warehouse_root.specs.Layouts.{layout_number}
 use Rattle.warehouse_root.specs.Objects.{run_id, segment_id}
 use Rattle.warehouse_root.specs.Root as roots
 use Rattle.warehouse_objects.specs.Represents.{HasRows, HoldsGroupings, dimension_of, object_of, root_of, rows_in}
@@ -146,14 +146,15 @@ module _ (w : Warehouse) (more : DimRows) where
 
 pub represents_widened : WideningRepresents
 represents_widened c w more represents storable few =
-    let bytes : List ℕ = roots.root_of (root_of (widened w more)) in
+    let bytes : List ℕ = roots.root_spelling (root_of (widened w more)) in
     let puts = widening_puts w.rows more in record {
-      objects = λ id. bytes_after puts [] bytes (number_of w.layout) c id ∙ ap (among puts id) (represents.objects id)
+      objects = λ id. bytes_after puts [] bytes (layout_number w.layout) c id
+          ∙ ap (among puts id) (represents.objects id)
           ∙ objects_then w more id;
-      once = once_after puts [] bytes (number_of w.layout) c represents.once;
-      layout = layout_after puts [] bytes (number_of w.layout) c;
+      once = once_after puts [] bytes (layout_number w.layout) c represents.once;
+      layout = layout_after puts [] bytes (layout_number w.layout) c;
       root = record {
-        spelled = root_after puts [] bytes (number_of w.layout) c;
+        spelled = root_after puts [] bytes (layout_number w.layout) c;
         proper = root_proper (widened w more) (in_order_then w more represents.batches)
             (omega (arith, represents.root.proper.target, length-map w.batches length)) (omega (arith, few)) (record {
               most = represents.root.proper.most_cuboids;

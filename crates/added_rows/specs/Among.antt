@@ -21,7 +21,7 @@ abbrev pub HasDate : DimRows → DateRow → Type 0
 HasDate rows row = date_of rows row.key ≡ Some row
 
 -- each of some rows is among those of dimensions, under its key and with the same texts
-pub record HasRows (rows some : DimRows) : Type 0 where
+pub record ContainsRows (rows some : DimRows) : Type 0 where
   pub customers : All (HasCustomer rows) some.customers
   pub suppliers : All (HasSupplier rows) some.suppliers
   pub parts : All (HasPart rows) some.parts

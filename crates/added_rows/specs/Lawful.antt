@@ -11,7 +11,7 @@ use Rattle.object_store.specs.Commit.{committed}
 use Rattle.object_store.specs.Content.{Content}
 use Rattle.warehouse_objects.specs.Represents.{Represents, root_of}
 use Rattle.warehouse_objects.specs.Warehouse.{AreInOrder, AreStorable, Warehouse}
-use Rattle.warehouse_root.specs.Layouts.{number_of}
+use Rattle.warehouse_root.specs.Layouts.{layout_number}
 use Rattle.warehouse_root.specs.Limits.{most_additions}
 use Rattle.warehouse_root.specs.Root as roots
 use Rattle.dimensions.specs.Added.{joined}
@@ -45,5 +45,6 @@ abbrev pub WideningRepresents : Type 0
 WideningRepresents = (c : Content) (w : Warehouse) (more : DimRows) → Represents c w → AreStorable (joined w.rows more)
     → w.additions < most_additions
     → Represents
-    (committed (widening_puts w.rows more) [] (roots.root_of (root_of (widened w more))) (number_of w.layout) c)
+    (committed (widening_puts w.rows more) [] (roots.root_spelling (root_of (widened w more))) (layout_number w.layout)
+    c)
     (widened w more)

@@ -3,15 +3,15 @@ ghost use Rattle.std.specs.Prelude.{◌≡◌, ◌↔◌, All, IsTrue, Some};
 ghost use Rattle.std.specs.Bool.{OnFalse, OnTrue};
 ghost use Rattle.cube_model.specs.declared.rows.DimRows.{DimRows};
 ghost use Rattle.cube_model.specs.Attributes.{attribute_at, axis_of};
-ghost use Rattle.added_rows.specs.Among.{HasCustomer, HasDate, HasPart, HasRows, HasSupplier};
+ghost use Rattle.added_rows.specs.Among.{HasCustomer, HasDate, HasPart, ContainsRows, HasSupplier};
 
 use cube_model::{Attr, CustomerRow, DateRow, DimRows, PartRow, SupplierRow};
 use dimensions::Dims;
 
 /// Whether each of some rows is in the dimensions already, under its key and with the same texts. It takes no memory.
 pub fn has_rows(dims: &Dims, rows: &DimRows) -> bool
-    ensures yes { OnTrue result (HasRows dims.now rows.now) }
-    ensures no { OnFalse result (HasRows dims.now rows.now → ⊥) }
+    ensures yes { OnTrue result (ContainsRows dims.now rows.now) }
+    ensures no { OnFalse result (ContainsRows dims.now rows.now → ⊥) }
 {
     if !has_all(dims, rows.customers.as_slice()) {
         return false;

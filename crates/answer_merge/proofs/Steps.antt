@@ -12,17 +12,17 @@ use Rattle.cube_model.specs.Orders.{answer_cmp}
 use Rattle.answer_merge.specs.declared.wide.WideLine.{WideLine}
 use Rattle.cube_model.specs.declared.answer.Line.{Line}
 use Rattle.answer_merge.specs.Merges.{merged_line, merged_lines}
-use Rattle.answer_merge.specs.Wide.{IsMergeOfBoth, IsStep, Rise, front_cmp, line_of, lines_of}
+use Rattle.answer_merge.specs.Wide.{IsMergeOfBoth, IsMergeStep, Rise, front_cmp, narrow_line, narrow_lines}
 use Rattle.answer_merge.proofs.CallerLemmas.{merged_lines-one, merged_lines-other, merged_lines-both, merged_lines-rise}
 use Rattle.answer_merge.proofs.CallerLemmas.{above_first, turned_less}
 
 -- only the first list has lines
 pub step_first : (aggs : List Agg) (ones others left : List WideLine) (one line : WideLine) → ones ≡ one ∷ left
     → others ≡ [] → line ≡ one → Rise ones
-    → IsStep aggs ones others line left others
+    → IsMergeStep aggs ones others line left others
 step_first aggs ones others left one line first none is rise =
     rw (none, is, first) (let up : Rise (one ∷ left) = rw first at rise in record {
-      merges = merged_lines-one aggs (line_of one) (lines_of left) [] up.0 tt;
+      merges = merged_lines-one aggs (narrow_line one) (narrow_lines left) [] up.0 tt;
       ones_rise = up.1;
       others_rise = tt;
     })
@@ -30,10 +30,10 @@ step_first aggs ones others left one line first none is rise =
 -- only the second has
 pub step_second : (aggs : List Agg) (ones others left : List WideLine) (other line : WideLine) → ones ≡ []
     → others ≡ other ∷ left → line ≡ other → Rise others
-    → IsStep aggs ones others line ones left
+    → IsMergeStep aggs ones others line ones left
 step_second aggs ones others left other line none second is rise =
     rw (none, is, second) (let up : Rise (other ∷ left) = rw second at rise in record {
-      merges = merged_lines-other aggs (line_of other) [] (lines_of left) tt up.0;
+      merges = merged_lines-other aggs (narrow_line other) [] (narrow_lines left) tt up.0;
       ones_rise = tt;
       others_rise = up.1;
     })
@@ -48,30 +48,35 @@ module _ (aggs : List Agg) (ones others ones_left others_left : List WideLine) (
   other_up = rw second at others_rise
 
   -- the key of the first list is lower
-  pub step_one : line ≡ one → key_cmp one.key other.key ≡ Less → IsStep aggs ones others line ones_left others
+  pub step_one : line ≡ one → key_cmp one.key other.key ≡ Less → IsMergeStep aggs ones others line ones_left others
   step_one is less = rw (is, first) (record {
-    merges = rw second (merged_lines-one aggs (line_of one) (lines_of ones_left) (lines_of (other ∷ others_left)) up.0
-        (above_first one.key (line_of other) (lines_of others_left) less other_up));
+    merges = rw second
+        (merged_lines-one aggs (narrow_line one) (narrow_lines ones_left) (narrow_lines (other ∷ others_left)) up.0
+        (above_first one.key (narrow_line other) (narrow_lines others_left) less other_up));
     ones_rise = up.1;
     others_rise = others_rise;
   })
 
   -- that of the second is
-  pub step_other : line ≡ other → key_cmp one.key other.key ≡ Greater → IsStep aggs ones others line ones others_left
+  pub step_other : line ≡ other → key_cmp one.key other.key ≡ Greater
+      → IsMergeStep aggs ones others line ones others_left
   step_other is greater = rw (is, second) (record {
-    merges = rw first (merged_lines-other aggs (line_of other) (lines_of (one ∷ ones_left)) (lines_of others_left)
-        (above_first other.key (line_of one) (lines_of ones_left) (turned_less one.key other.key greater) up)
+    merges = rw first
+        (merged_lines-other aggs (narrow_line other) (narrow_lines (one ∷ ones_left)) (narrow_lines others_left)
+        (above_first other.key (narrow_line one) (narrow_lines ones_left) (turned_less one.key other.key greater) up)
         other_up.0);
     ones_rise = ones_rise;
     others_rise = other_up.1;
   })
 
   -- they are one key
-  pub step_both : line_of line ≡ merged_line aggs (line_of one) (line_of other) → key_cmp one.key other.key ≡ Equal
-      → IsStep aggs ones others line ones_left others_left
+  pub step_both : narrow_line line ≡ merged_line aggs (narrow_line one) (narrow_line other)
+      → key_cmp one.key other.key ≡ Equal
+      → IsMergeStep aggs ones others line ones_left others_left
   step_both is same = rw (first, second) (record {
     merges = rw is
-        (merged_lines-both aggs (line_of one) (line_of other) (lines_of ones_left) (lines_of others_left) same up.0
+        (merged_lines-both aggs (narrow_line one) (narrow_line other) (narrow_lines ones_left)
+        (narrow_lines others_left) same up.0
         other_up.0);
     ones_rise = up.1;
     others_rise = other_up.1;
@@ -80,22 +85,23 @@ module _ (aggs : List Agg) (ones others ones_left others_left : List WideLine) (
 -- the lines so far, and the merge of what is left, after one more step
 pub went_on : (aggs : List Agg) (all : List Line) (out : List WideLine) (line : WideLine)
     (left right ones_left others_left : List WideLine)
-    → all ≡ lines_of out ++ merged_lines aggs (lines_of left) (lines_of right)
-    → IsStep aggs left right line ones_left others_left
-    → all ≡ lines_of (out ++ line ∷ []) ++ merged_lines aggs (lines_of ones_left) (lines_of others_left)
+    → all ≡ narrow_lines out ++ merged_lines aggs (narrow_lines left) (narrow_lines right)
+    → IsMergeStep aggs left right line ones_left others_left
+    → all ≡ narrow_lines (out ++ line ∷ []) ++ merged_lines aggs (narrow_lines ones_left) (narrow_lines others_left)
 went_on aggs all out line left right ones_left others_left is step =
-    let rest = merged_lines aggs (lines_of ones_left) (lines_of others_left) in
-    is ∙ ap (λ more. lines_of out ++ more) step.merges
-    ∙ sym (append_assoc (lines_of out) (line_of line ∷ []) rest)
-    ∙ ap (λ lines. lines ++ rest) (sym (map-append line_of out (line ∷ [])))
+    let rest = merged_lines aggs (narrow_lines ones_left) (narrow_lines others_left) in
+    is ∙ ap (λ more. narrow_lines out ++ more) step.merges
+    ∙ sym (append_assoc (narrow_lines out) (narrow_line line ∷ []) rest)
+    ∙ ap (λ lines. lines ++ rest) (sym (map-append narrow_line out (line ∷ [])))
 
 -- nothing is left
 pub all_merged : (aggs : List Agg) (all : List Line) (out left right : List WideLine)
-    → all ≡ lines_of out ++ merged_lines aggs (lines_of left) (lines_of right)
-    → left ≡ [] → right ≡ [] → lines_of out ≡ all
+    → all ≡ narrow_lines out ++ merged_lines aggs (narrow_lines left) (narrow_lines right)
+    → left ≡ [] → right ≡ [] → narrow_lines out ≡ all
 all_merged aggs all out left right is first second =
-    sym (append-nil (lines_of out))
-    ∙ ap (λ more. lines_of out ++ more) (λ i. merged_lines aggs (lines_of (sym first i)) (lines_of (sym second i)))
+    sym (append-nil (narrow_lines out))
+    ∙ ap (λ more. narrow_lines out ++ more)
+    (λ i. merged_lines aggs (narrow_lines (sym first i)) (narrow_lines (sym second i)))
     ∙ sym is
 
 pub no_line : (lines : List WideLine) → length lines ≡ 0 → lines ≡ []
@@ -104,21 +110,23 @@ no_line (line ∷ lines) none = absurd (omega (arith, none))
 
 -- the merge is in the order of its keys
 pub merged_rise : (aggs : List Agg) (ones others : List Line) (out left right : List WideLine)
-    → merged_lines aggs ones others ≡ lines_of out ++ merged_lines aggs (lines_of left) (lines_of right) → left ≡ []
+    → merged_lines aggs ones others ≡ narrow_lines out ++ merged_lines aggs (narrow_lines left) (narrow_lines right)
+    → left ≡ []
     → right ≡ [] → Rise out
 merged_rise aggs ones others out left right is first second =
     subst (IsAscending (answer_cmp None))
     (sym (all_merged aggs (merged_lines aggs ones others) out left right is first second))
     (merged_lines-rise aggs ones others)
 
-pub same_rise : (wide : List WideLine) (lines : List Line) → lines_of wide ≡ lines → IsAscending (answer_cmp None) lines
+pub same_rise : (wide : List WideLine) (lines : List Line) → narrow_lines wide ≡ lines
+    → IsAscending (answer_cmp None) lines
     → Rise wide
 same_rise wide lines same rise = subst (IsAscending (answer_cmp None)) (sym same) rise
 
 -- the first list has the lower key
 pub step_less : (aggs : List Agg) (ones others ones_left : List WideLine) (line : WideLine)
     → front_cmp ones others ≡ Less → ones ≡ line ∷ ones_left → Rise ones → Rise others
-    → IsStep aggs ones others line ones_left others
+    → IsMergeStep aggs ones others line ones_left others
 step_less aggs ones [] left line less first rise other_rise =
     step_first aggs ones [] left line line first refl refl rise
 step_less aggs ones (other ∷ others) left line less first rise other_rise =
@@ -128,7 +136,7 @@ step_less aggs ones (other ∷ others) left line less first rise other_rise =
 -- the second has
 pub step_greater : (aggs : List Agg) (ones others others_left : List WideLine) (line : WideLine)
     → front_cmp ones others ≡ Greater → others ≡ line ∷ others_left → Rise ones → Rise others
-    → IsStep aggs ones others line ones others_left
+    → IsMergeStep aggs ones others line ones others_left
 step_greater aggs [] others left line greater second rise other_rise =
     step_second aggs [] others left line line refl second refl other_rise
 step_greater aggs (one ∷ ones) others left line greater second rise other_rise =
@@ -139,8 +147,8 @@ step_greater aggs (one ∷ ones) others left line greater second rise other_rise
 pub step_equal : (aggs : List Agg) (ones others ones_left others_left : List WideLine) (one other line : WideLine)
     → front_cmp ones others ≡ Equal
     → ones ≡ one ∷ ones_left → others ≡ other ∷ others_left
-    → line_of line ≡ merged_line aggs (line_of one) (line_of other) → Rise ones → Rise others
-    → IsStep aggs ones others line ones_left others_left
+    → narrow_line line ≡ merged_line aggs (narrow_line one) (narrow_line other) → Rise ones → Rise others
+    → IsMergeStep aggs ones others line ones_left others_left
 step_equal aggs ones others ones_left others_left one other line equal first second is rise other_rise =
     let same : key_cmp one.key other.key ≡ Equal = rw (first, second) at equal in
     step_both aggs ones others ones_left others_left one other line first second rise other_rise is same
@@ -164,14 +172,14 @@ some_equal (one ∷ ones) (other ∷ others) equal = (omega arith, omega arith)
 -- what was taken from the front of the list with the lower key
 pub taken_less : (aggs : List Agg) (ones others ones_left : List WideLine) (taken : Option WideLine)
     → front_cmp ones others ≡ Less → ones ≡ option_to_list taken ++ ones_left
-    → Rise ones → Rise others → IfSome taken (λ line. IsStep aggs ones others line ones_left others)
+    → Rise ones → Rise others → IfSome taken (λ line. IsMergeStep aggs ones others line ones_left others)
 taken_less aggs ones others left None less first rise other_rise = tt
 taken_less aggs ones others left (Some line) less first rise other_rise =
     step_less aggs ones others left line less first rise other_rise
 
 pub taken_greater : (aggs : List Agg) (ones others others_left : List WideLine) (taken : Option WideLine)
     → front_cmp ones others ≡ Greater → others ≡ option_to_list taken ++ others_left
-    → Rise ones → Rise others → IfSome taken (λ line. IsStep aggs ones others line ones others_left)
+    → Rise ones → Rise others → IfSome taken (λ line. IsMergeStep aggs ones others line ones others_left)
 taken_greater aggs ones others left None greater second rise other_rise = tt
 taken_greater aggs ones others left (Some line) greater second rise other_rise =
     step_greater aggs ones others left line greater second rise other_rise
@@ -181,7 +189,7 @@ pub taken_equal : (aggs : List Agg) (ones others ones_left others_left : List Wi
     (one other merged : Option WideLine) → front_cmp ones others ≡ Equal
     → ones ≡ option_to_list one ++ ones_left → others ≡ option_to_list other ++ others_left
     → IsMergeOfBoth aggs one other merged → Rise ones → Rise others
-    → IfSome merged (λ line. IsStep aggs ones others line ones_left others_left)
+    → IfSome merged (λ line. IsMergeStep aggs ones others line ones_left others_left)
 taken_equal aggs ones others ones_left others_left one other None equal first second is rise other_rise = tt
 taken_equal aggs ones others ones_left others_left (Some one) (Some other) (Some line) equal first second is rise
     other_rise =

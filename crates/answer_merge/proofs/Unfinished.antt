@@ -7,17 +7,17 @@ use Rattle.cube_model.specs.declared.fault.Fault.TheVariants.{Memory}
 use Rattle.cube_model.specs.declared.measure.Agg.{Agg}
 use Rattle.answer_merge.specs.declared.wide.WideLine.{WideLine}
 use Rattle.answer_merge.specs.Finishing.{FinishRefuses, LineRefuses}
-use Rattle.answer_merge.specs.Wide.{line_of, lines_of}
+use Rattle.answer_merge.specs.Wide.{narrow_line, narrow_lines}
 
 -- it is one of the lines
 pub refused_at : (aggs : List Agg) (lines : List WideLine) (place : ℕ) (line : WideLine) (fault : Fault)
     → place < length lines → line ≡ get_or lines place line
-    → (fault ≡ Memory) ⊎ LineRefuses aggs fault (line_of line) → FinishRefuses aggs (lines_of lines) fault
+    → (fault ≡ Memory) ⊎ LineRefuses aggs fault (narrow_line line) → FinishRefuses aggs (narrow_lines lines) fault
 refused_at aggs lines place line fault within is (inl memory) = inl memory
 refused_at aggs lines place line fault within is (inr refuses) = inr (
   place,
-  line_of line,
-  subst (λ n. place < n) (sym (length-map lines line_of)) within,
-  get_or-map line_of lines place line ∙ ap line_of (sym is),
+  narrow_line line,
+  subst (λ n. place < n) (sym (length-map lines narrow_line)) within,
+  get_or-map narrow_line lines place line ∙ ap narrow_line (sym is),
   refuses,
 )

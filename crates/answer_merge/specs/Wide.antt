@@ -15,21 +15,21 @@ use Rattle.answer_merge.specs.declared.wide.WideLine.{WideLine}
 use Rattle.cube_model.specs.Keys.{key_cmp}
 use Rattle.answer_merge.specs.Merges.{merged_line, merged_lines}
 
-abbrev pub line_of : WideLine → Line
-line_of wide = record { key = wide.key; values = map Whole wide.numbers }
+abbrev pub narrow_line : WideLine → Line
+narrow_line wide = record { key = wide.key; values = map Whole wide.numbers }
 
-abbrev pub lines_of : List WideLine → List Line
-lines_of lines = map line_of lines
+abbrev pub narrow_lines : List WideLine → List Line
+narrow_lines lines = map narrow_line lines
 
 -- lines are in the order of their keys
 abbrev pub Rise : List WideLine → Type 0
-Rise lines = IsAscending (answer_cmp None) (lines_of lines)
+Rise lines = IsAscending (answer_cmp None) (narrow_lines lines)
 
 -- the first line of the merge of two lists, and what is left of both
-pub record IsStep (aggs : List Agg) (ones others : List WideLine) (line : WideLine)
+pub record IsMergeStep (aggs : List Agg) (ones others : List WideLine) (line : WideLine)
     (ones_left others_left : List WideLine) : Type 0 where
-  pub merges : merged_lines aggs (lines_of ones) (lines_of others) ≡ line_of line
-      ∷ merged_lines aggs (lines_of ones_left) (lines_of others_left)
+  pub merges : merged_lines aggs (narrow_lines ones) (narrow_lines others) ≡ narrow_line line
+      ∷ merged_lines aggs (narrow_lines ones_left) (narrow_lines others_left)
   pub ones_rise : Rise ones_left
   pub others_rise : Rise others_left
 
@@ -41,7 +41,8 @@ front_cmp (one ∷ ones) (other ∷ others) = key_cmp one.key other.key
 
 -- a line is the merge of two, where both are there
 abbrev pub IsMergeOfBoth : List Agg → Option WideLine → Option WideLine → Option WideLine → Type 0
-IsMergeOfBoth aggs (Some one) (Some other) (Some line) = line_of line ≡ merged_line aggs (line_of one) (line_of other)
+IsMergeOfBoth aggs (Some one) (Some other) (Some line) =
+    narrow_line line ≡ merged_line aggs (narrow_line one) (narrow_line other)
 IsMergeOfBoth aggs (Some one) (Some other) None = ⊥
 IsMergeOfBoth aggs (Some one) None line = line ≡ None
 IsMergeOfBoth aggs None other line = line ≡ None

@@ -4,7 +4,7 @@ ghost use Rattle.cube_model.specs.declared.answer.Value.TheVariants.{Whole};
 ghost use Rattle.answer_merge.specs.Finishing.{FinishRefuses, IsPastRange, LineRefuses};
 ghost use Rattle.answer_merge.specs.Readable.{IsWholeNumber};
 ghost use Rattle.answer_merge.specs.Parts.{finished_line, finished_value, finished_values};
-ghost use Rattle.answer_merge.specs.Wide.{IsRangeFault, line_of, lines_of, range_fault};
+ghost use Rattle.answer_merge.specs.Wide.{IsRangeFault, narrow_line, narrow_lines, range_fault};
 
 use crate::wide::WideLine;
 use cube_model::{Agg, Fault, Items, Line, Value};
@@ -20,8 +20,8 @@ pub fn finished_lines(
     aggs: &[Agg],
     lines: Vec<WideLine>,
 ) -> Result<Items<Line>, Fault>
-    ensures ok { IfOk result (λ done. done ≡ map (finished_line aggs.now) (lines_of lines.items)) }
-    ensures refused { IfErr result (FinishRefuses aggs.now (lines_of lines.items)) }
+    ensures ok { IfOk result (λ done. done ≡ map (finished_line aggs.now) (narrow_lines lines.items)) }
+    ensures refused { IfErr result (FinishRefuses aggs.now (narrow_lines lines.items)) }
 {
     let mut done = Items::new(alloc);
     for line in lines {
@@ -31,8 +31,8 @@ pub fn finished_lines(
 }
 
 fn finished_line(alloc: Global, aggs: &[Agg], line: WideLine) -> Result<Line, Fault>
-    ensures ok { IfOk result (λ done. done ≡ finished_line aggs.now (line_of line)) }
-    ensures refused { IfErr result (λ fault. (fault ≡ Fault.Memory) ⊎ LineRefuses aggs.now fault (line_of line)) }
+    ensures ok { IfOk result (λ done. done ≡ finished_line aggs.now (narrow_line line)) }
+    ensures refused { IfErr result (λ fault. (fault ≡ Fault.Memory) ⊎ LineRefuses aggs.now fault (narrow_line line)) }
 {
     let WideLine { key, numbers } = line;
     let mut values = Items::new(alloc);

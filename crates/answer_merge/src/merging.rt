@@ -4,7 +4,7 @@ ghost use Rattle.cube_model.specs.Ascending.{IsAscending};
 ghost use Rattle.cube_model.specs.Orders.{answer_cmp};
 ghost use Rattle.cube_model.specs.declared.answer.Value.TheVariants.{Whole};
 ghost use Rattle.answer_merge.specs.Merges.{merged_answer, merged_line, merged_lines, merged_number, merged_values};
-ghost use Rattle.answer_merge.specs.Wide.{IsMergeOfBoth, IsStep, Rise, front_cmp, line_of, lines_of};
+ghost use Rattle.answer_merge.specs.Wide.{IsMergeOfBoth, IsMergeStep, Rise, front_cmp, narrow_line, narrow_lines};
 
 use crate::wide::{WideLine, widened};
 use cube_model::{Agg, Answer, Fault, Items, Query};
@@ -26,7 +26,8 @@ pub fn merge(
     requires ones { Rise ones.items }
     requires others { Rise others.items }
     ensures ok { IfOk result
-        (λ lines. lines_of lines.items ≡ merged_lines aggs.now (lines_of ones.items) (lines_of others.items)) }
+        (λ lines. narrow_lines lines.items ≡ merged_lines aggs.now (narrow_lines ones.items)
+        (narrow_lines others.items)) }
     ensures rising { IfOk result (λ lines. Rise lines.items) }
     ensures only { IfErr result (λ fault. (fault ≡ Fault.Memory) ⊎ (fault ≡ Fault.TooManyRows)) }
 {
@@ -55,8 +56,8 @@ pub fn merge_in(
     requires merged { Rise merged.items }
     requires answer { IsAscending (answer_cmp None) answer.lines }
     ensures ok { IfOk result
-        (λ lines. lines_of lines.items
-        ≡ (merged_answer query.now (record { lines = lines_of merged.items }) answer).lines) }
+        (λ lines. narrow_lines lines.items
+        ≡ (merged_answer query.now (record { lines = narrow_lines merged.items }) answer).lines) }
     ensures rising { IfOk result (λ lines. Rise lines.items) }
 {
     let others = widened(alloc, answer.lines)?;
@@ -74,7 +75,7 @@ fn next_line(
     requires others { Rise others.old.items }
     ensures some { IfOk result
         (λ line. IfSome line
-        (λ line. IsStep aggs.now ones.old.items others.old.items line ones.new.items others.new.items)) }
+        (λ line. IsMergeStep aggs.now ones.old.items others.old.items line ones.new.items others.new.items)) }
     ensures none { IfOk result (λ line. IfNone line ((ones.old.items ≡ []) × (others.old.items ≡ []))) }
     ensures only { IfErr result (λ fault. (fault ≡ Fault.Memory) ⊎ (fault ≡ Fault.TooManyRows)) }
 {
@@ -119,7 +120,8 @@ fn merged_line(
     one: WideLine,
     other: &WideLine,
 ) -> Result<WideLine, Fault>
-    ensures ok { IfOk result (λ line. line_of line ≡ merged_line aggs.now (line_of one) (line_of other.now)) }
+    ensures ok { IfOk result
+        (λ line. narrow_line line ≡ merged_line aggs.now (narrow_line one) (narrow_line other.now)) }
     ensures only { IfErr result (λ fault. (fault ≡ Fault.Memory) ⊎ (fault ≡ Fault.TooManyRows)) }
 {
     let WideLine { key, numbers: ones } = one;

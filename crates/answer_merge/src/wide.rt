@@ -2,7 +2,7 @@
 ghost use Rattle.std.specs.Prelude.{◌≡◌, map, IfErr, IfOk};
 ghost use Rattle.cube_model.specs.declared.answer.Member.{Member};
 ghost use Rattle.cube_model.specs.declared.answer.Value.TheVariants.{Whole};
-ghost use Rattle.answer_merge.specs.Wide.{line_of, lines_of};
+ghost use Rattle.answer_merge.specs.Wide.{narrow_line, narrow_lines};
 
 use cube_model::{Fault, Items, Line, Member, Value};
 use std::alloc::Global;
@@ -16,7 +16,7 @@ pub struct WideLine {
 
 /// The lines of a partial answer, with numbers of 128 bits. `BadLayout` where a value is no whole number; or `Memory`.
 pub fn widened(alloc: Global, lines: Items<Line>) -> Result<Vec<WideLine>, Fault>
-    ensures { IfOk result (λ wide. lines_of wide.items ≡ lines) }
+    ensures { IfOk result (λ wide. narrow_lines wide.items ≡ lines) }
 {
     let mut wide = Vec::new(alloc);
     for line in lines.into_vec() {
@@ -26,7 +26,7 @@ pub fn widened(alloc: Global, lines: Items<Line>) -> Result<Vec<WideLine>, Fault
 }
 
 fn widened_line(alloc: Global, line: Line) -> Result<WideLine, Fault>
-    ensures { IfOk result (λ wide. line_of wide ≡ line) }
+    ensures { IfOk result (λ wide. narrow_line wide ≡ line) }
 {
     let Line { key, values } = line;
     let numbers = numbers_of(alloc, values.as_slice())?;

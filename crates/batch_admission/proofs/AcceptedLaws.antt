@@ -17,17 +17,17 @@ use Rattle.cube_model.specs.Causes.{first_cause, cause_if}
 use Rattle.cube_model.specs.Limits.{most_batch_rows, most_batches}
 use Rattle.batch_admission.specs.Accepted.{Accepted, Admits, CanFollow, HasAccepted, number_cause}
 use Rattle.batch_admission.specs.Found.{Found, cause_of, found_in}
-use Rattle.batch_admission.specs.Totals.{plus_rows, totals_of, totals_cause, size_of}
+use Rattle.batch_admission.specs.Totals.{plus_rows, totals_of, totals_cause, measure_size}
 
 pub totals_of-append : (earlier rows : List LineOrder)
     → plus_rows (totals_of earlier) rows ≡ totals_of (earlier ++ rows)
 totals_of-append earlier rows =
-    let quantity = sum_by-append (size_of Quantity) earlier rows in
-    let extendedprice = sum_by-append (size_of ExtendedPrice) earlier rows in
-    let revenue = sum_by-append (size_of Revenue) earlier rows in
-    let supplycost = sum_by-append (size_of SupplyCost) earlier rows in
-    let discounted = sum_by-append (size_of Discounted) earlier rows in
-    let profit = sum_by-append (size_of Profit) earlier rows in
+    let quantity = sum_by-append (measure_size Quantity) earlier rows in
+    let extendedprice = sum_by-append (measure_size ExtendedPrice) earlier rows in
+    let revenue = sum_by-append (measure_size Revenue) earlier rows in
+    let supplycost = sum_by-append (measure_size SupplyCost) earlier rows in
+    let discounted = sum_by-append (measure_size Discounted) earlier rows in
+    let profit = sum_by-append (measure_size Profit) earlier rows in
     cc
 
 -- the rows of batches and of one more

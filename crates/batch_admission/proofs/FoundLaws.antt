@@ -19,7 +19,8 @@ use Rattle.cube_model.specs.Admission.{absolute_total, long_text, long_field, un
 use Rattle.cube_model.specs.Causes.{first_cause, cause_if}
 use Rattle.cube_model.specs.Places.{row_index_of, row_count_of}
 use Rattle.batch_admission.specs.Found.{Found, cause_of, lacks, found_in, found_with}
-use Rattle.batch_admission.specs.Totals.{AreBelow, plus_rows, plus_row, size_of, sum_limit, total_cause, totals_cause}
+use Rattle.batch_admission.specs.Totals.{AreBelow, plus_rows, plus_row, measure_size, sum_limit, total_cause}
+use Rattle.batch_admission.specs.Totals.{totals_cause}
 use Rattle.batch_admission.specs.declared.totals.Totals.{Totals}
 
 one_more : (n m : ℕ) → (1 + n == suc m) ≡ (n == m)
@@ -81,9 +82,9 @@ plus_rows-last totals rows row =
     let profit = last Profit totals.profit in
     cc where
       last : (measure : Measure) (total : ℕ) → total + absolute_total measure (rows ++ row ∷ [])
-          ≡ total + absolute_total measure rows + size_of measure row
-      last measure total = ap (λ more. total + more) (sum_by_push (size_of measure) rows row)
-          ∙ sym (add_assoc total (absolute_total measure rows) (size_of measure row))
+          ≡ total + absolute_total measure rows + measure_size measure row
+      last measure total = ap (λ more. total + more) (sum_by_push (measure_size measure) rows row)
+          ∙ sym (add_assoc total (absolute_total measure rows) (measure_size measure row))
 
 -- what is found in rows of which one is the last
 found_in-last : (dimensions : DimRows) (totals : Totals) (rows : List LineOrder) (row : LineOrder)

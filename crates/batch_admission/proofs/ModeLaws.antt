@@ -15,7 +15,7 @@ use Rattle.std.proofs.lemmas.List.Sums.{position_or_len_is}
 use Rattle.cube_model.specs.Limits.{most_members}
 use Rattle.cube_model.specs.ShipModes.{crowded_place}
 use Rattle.cube_model.specs.Validity.{members_of}
-use Rattle.dictionary.specs.Columns.{text_at}
+use Rattle.dictionary.specs.Columns.{text_of_code}
 use Rattle.dictionary.specs.Dictionary.{Adds, Texts, code_of, firsts, with_text}
 use Rattle.dictionary.proofs.CallerLemmas.{absent, bytes_eq-refl, bytes_eq-symm, firsts-again, firsts-new}
 use Rattle.dictionary.proofs.CallerLemmas.{list_any-firsts, list_any_here, list_any_nowhere, list_any_place}
@@ -27,11 +27,11 @@ use Rattle.batch_admission.specs.ShipModes.{AreCodesAmong, texts_by}
 -- ---- texts by their codes
 
 module _ (texts codes : List (List ℕ)) (k : ℕ) (within : k < length codes) where
-  pub text_by : get_or (texts_by texts codes) k [] ≡ text_at texts (from_le_bytes w16 (get_or codes k []))
+  pub text_by : get_or (texts_by texts codes) k [] ≡ text_of_code texts (from_le_bytes w16 (get_or codes k []))
   text_by =
       let many : k < length (map (from_le_bytes w16) codes) = omega (arith, length-map codes (from_le_bytes w16)) in
-      get_or-map (text_at texts) (map (from_le_bytes w16) codes) k 0 [] many
-      ∙ ap (text_at texts) (get_or-map (from_le_bytes w16) codes k [] 0 within)
+      get_or-map (text_of_code texts) (map (from_le_bytes w16) codes) k 0 [] many
+      ∙ ap (text_of_code texts) (get_or-map (from_le_bytes w16) codes k [] 0 within)
 
   pub code_below : AreCodesAmong texts codes → from_le_bytes w16 (get_or codes k []) < length texts
   code_below below =
@@ -40,14 +40,14 @@ module _ (texts codes : List (List ℕ)) (k : ℕ) (within : k < length codes) w
 
   -- it is compared with another text
   pub text_matches : (text found : List ℕ) (code : ℕ) (same : Bool) → code ≡ from_le_bytes w16 (get_or codes k [])
-      → found ≡ text_at texts code → same ≡ bytes_eq found text
+      → found ≡ text_of_code texts code → same ≡ bytes_eq found text
       → bytes_eq text (get_or (texts_by texts codes) k []) ≡ same
   text_matches text found code same code_is found_is same_is =
-      ap (bytes_eq text) (text_by ∙ ap (text_at texts) (sym code_is) ∙ sym found_is)
+      ap (bytes_eq text) (text_by ∙ ap (text_of_code texts) (sym code_is) ∙ sym found_is)
       ∙ bytes_eq-symm text found ∙ sym same_is
 
 pub length-texts_by : (texts codes : List (List ℕ)) → length (texts_by texts codes) ≡ length codes
-length-texts_by texts codes = length-map (map (from_le_bytes w16) codes) (text_at texts)
+length-texts_by texts codes = length-map (map (from_le_bytes w16) codes) (text_of_code texts)
     ∙ length-map codes (from_le_bytes w16)
 
 -- ---- the first one that is reserved
@@ -77,10 +77,10 @@ position_at p xs i lt before here =
 
 -- a text that is not there is at no place
 no_place : (p : List ℕ → Bool) (texts : List (List ℕ)) (code : ℕ) → list_any p texts ≡ false → code < length texts
-    → p (text_at texts code) ≡ false
-no_place p texts code none lt = by (p (text_at texts code)) refl
+    → p (text_of_code texts code) ≡ false
+no_place p texts code none lt = by (p (text_of_code texts code)) refl
   where
-    by : (b : Bool) → p (text_at texts code) ≡ b → p (text_at texts code) ≡ false
+    by : (b : Bool) → p (text_of_code texts code) ≡ b → p (text_of_code texts code) ≡ false
     by true is = absurd (true≢false (sym (list_any_here p texts code [] lt is) ∙ none))
     by false is = is
 
@@ -231,7 +231,7 @@ pub record Adding (before known : Texts) (texts codes : List (List ℕ)) (met : 
   pub few : length known.texts ≤ most_members
   pub many : length met ≡ length texts
   pub marked : (code : ℕ) → get_or met code false ≡ true
-      → list_any (bytes_eq (text_at texts code)) known.texts ≡ true
+      → list_any (bytes_eq (text_of_code texts code)) known.texts ≡ true
   pub follows : (earlier : List (List ℕ)) → before.texts ≡ firsts earlier
       → Follows earlier (texts_by texts codes) place known.texts
 
@@ -244,7 +244,7 @@ mark_is met n code mark same lt is marked =
 module _ (before known : Texts) (texts codes : List (List ℕ)) (met : List Bool) (place : ℕ)
     (adding : Adding before known texts codes met place) (within : place < length codes) where
   abbrev text : List ℕ
-  text = text_at texts (from_le_bytes w16 (get_or codes place []))
+  text = text_of_code texts (from_le_bytes w16 (get_or codes place []))
 
   inside : place < length (texts_by texts codes)
   inside = omega (arith, length-texts_by texts codes, within)
@@ -293,13 +293,13 @@ module _ (before known : Texts) (texts codes : List (List ℕ)) (met : List Bool
     where
       by_code : (other : ℕ) (same : Bool) → (other == from_le_bytes w16 (get_or codes place [])) ≡ same
           → get_or (set met (from_le_bytes w16 (get_or codes place [])) true) other false ≡ true
-          → Grows known more text → list_any (bytes_eq (text_at texts other)) more.texts ≡ true
+          → Grows known more text → list_any (bytes_eq (text_of_code texts other)) more.texts ≡ true
       by_code other true same is grown =
           let code_is : other ≡ from_le_bytes w16 (get_or codes place []) = eqb-true _ _ same in
-          subst (λ (n : ℕ). list_any (bytes_eq (text_at texts n)) more.texts ≡ true) (sym code_is) grown.has
+          subst (λ (n : ℕ). list_any (bytes_eq (text_of_code texts n)) more.texts ≡ true) (sym code_is) grown.has
       by_code other false same is grown =
           let apart : other ≢ from_le_bytes w16 (get_or codes place []) = λ e. true≢false (sym (eq-eqb _ _ e) ∙ same) in
-          grown.keeps (text_at texts other)
+          grown.keeps (text_of_code texts other)
           (adding.marked other
           (sym (get_or-set_other met (from_le_bytes w16 (get_or codes place [])) other true false apart) ∙ is))
 

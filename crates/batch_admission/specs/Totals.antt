@@ -12,8 +12,8 @@ use Rattle.cube_model.specs.Measures.{measure_of}
 use Rattle.batch_admission.specs.declared.totals.Totals.{Totals}
 
 -- a measure's absolute value at a fact row
-abbrev pub size_of : Measure → LineOrder → ℕ
-size_of measure row = nat_abs (measure_of measure row)
+abbrev pub measure_size : Measure → LineOrder → ℕ
+measure_size measure row = nat_abs (measure_of measure row)
 
 -- the total of each measure over some fact rows
 abbrev pub totals_of : List LineOrder → Totals
@@ -29,12 +29,12 @@ totals_of rows = record {
 -- totals with those of one more fact row
 abbrev pub plus_row : Totals → LineOrder → Totals
 plus_row totals row = record {
-  quantity = totals.quantity + size_of Quantity row;
-  extendedprice = totals.extendedprice + size_of ExtendedPrice row;
-  revenue = totals.revenue + size_of Revenue row;
-  supplycost = totals.supplycost + size_of SupplyCost row;
-  discounted = totals.discounted + size_of Discounted row;
-  profit = totals.profit + size_of Profit row;
+  quantity = totals.quantity + measure_size Quantity row;
+  extendedprice = totals.extendedprice + measure_size ExtendedPrice row;
+  revenue = totals.revenue + measure_size Revenue row;
+  supplycost = totals.supplycost + measure_size SupplyCost row;
+  discounted = totals.discounted + measure_size Discounted row;
+  profit = totals.profit + measure_size Profit row;
 }
 
 -- totals with those of more fact rows

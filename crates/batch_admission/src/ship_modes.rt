@@ -4,9 +4,9 @@ ghost use Rattle.std.specs.Int.{from_le_bytes, w16};
 ghost use Rattle.std.specs.Option.{IfNone};
 ghost use Rattle.cube_model.specs.Limits.{most_batch_rows, most_members};
 ghost use Rattle.cube_model.specs.ShipModes.{crowded_place, reserved_place};
-ghost use Rattle.dictionary.specs.Columns.{text_at};
+ghost use Rattle.dictionary.specs.Columns.{text_of_code};
 ghost use Rattle.dictionary.specs.Dictionary.{firsts};
-ghost use Rattle.batch_admission.specs.ShipModes.{AreCodesAmong, row_at, texts_by};
+ghost use Rattle.batch_admission.specs.ShipModes.{AreCodesAmong, row_number_at, texts_by};
 
 use cube_model::Fault;
 use dictionary::Dictionary;
@@ -20,7 +20,7 @@ const ALL: &[u8] = b"ALL";
 pub fn reserved_row(modes: &Dictionary, codes: &[[u8; 2]]) -> Option<u32>
     requires below { AreCodesAmong modes.now.texts codes.now }
     requires few { length codes.now ≤ most_batch_rows }
-    ensures { result ≡ row_at (reserved_place (texts_by modes.now.texts codes.now)) }
+    ensures { result ≡ row_number_at (reserved_place (texts_by modes.now.texts codes.now)) }
 {
     if modes.code(ALL).is_none() {
         return None;
@@ -50,7 +50,7 @@ pub fn add_modes(
     ensures fit { IfOk result (λ row. IfNone row ((earlier : List (List ℕ)) → known.old.texts ≡ firsts earlier
         → known.new.texts ≡ firsts (earlier ++ texts_by modes.now.texts codes.now))) }
     ensures crowded { IfOk result (λ row. (earlier : List (List ℕ)) → known.old.texts ≡ firsts earlier
-        → row ≡ row_at (crowded_place earlier (texts_by modes.now.texts codes.now))) }
+        → row ≡ row_number_at (crowded_place earlier (texts_by modes.now.texts codes.now))) }
     ensures limit { known.new.limit ≡ known.old.limit }
     ensures memory { IfErr result (λ fault. fault ≡ Fault.Memory) }
 {
@@ -72,7 +72,7 @@ pub fn add_modes(
 // The text of a code.
 fn text_of(modes: &Dictionary, code: u16) -> &[u8]
     requires { code < length modes.now.texts }
-    ensures { result.now ≡ text_at modes.now.texts code }
+    ensures { result.now ≡ text_of_code modes.now.texts code }
 {
     match modes.text(u32::from(code)) {
         Some(text) => text,

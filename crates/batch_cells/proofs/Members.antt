@@ -25,7 +25,7 @@ use Rattle.cuboid_upkeep.specs.Steps.{AreUnfit, HaveTooMany}
 use Rattle.cube_query.proofs.Known.{known_after}
 use Rattle.warehouse_root.specs.declared.layout.Layout.{Layout}
 use Rattle.warehouse_root.specs.declared.layout.Layout.TheVariants.{First, Second}
-use Rattle.warehouse_root.specs.Layouts.{views_of}
+use Rattle.warehouse_root.specs.Layouts.{view_count}
 use Rattle.warehouse_root.specs.Modes.{AreModes, kept_modes}
 use Rattle.warehouse_objects.specs.Represents.{AreItsMembers}
 use Rattle.warehouse_objects.specs.Warehouse.{AreInOrder, Warehouse, ship_modes_of}
@@ -64,7 +64,7 @@ of_first_use texts text there few =
 
 -- where a view of a layout groups by ship mode, the layout keeps that of each row
 pub own_modes : (layout : Layout) (rows : List LineOrder) (view : View) → AreModes (kept_modes layout rows)
-    → index_of view < views_of layout → view.ship_mode ≡ true → All (HasMode (kept_modes layout rows)) rows
+    → index_of view < view_count layout → view.ship_mode ≡ true → All (HasMode (kept_modes layout rows)) rows
 own_modes First rows view are below grouped = absurd (omega (arith, below, ap mode_number grouped))
 own_modes Second rows view are below grouped = λ k row lt.
     let text : List ℕ = (get_or rows k row).shipmode in

@@ -10,10 +10,10 @@ use Rattle.cube_model.specs.Causes.{first_cause}
 use Rattle.cube_model.specs.Limits.{longest_text}
 use Rattle.batch_loader.specs.declared.columns.Column.{Column}
 use Rattle.batch_loader.specs.declared.columns.Column.TheVariants.{Number, Text, Skipped}
-use Rattle.batch_loader.specs.Columns.{field_fault, fields_fault, number_in, text_in}
+use Rattle.batch_loader.specs.Columns.{field_fault, fields_fault, number_in, field_text}
 use Rattle.batch_loader.specs.Fields.{parts_at}
-use Rattle.batch_loader.specs.Numbers.{is_digit, value_of, spells_number, number_of}
-use Rattle.batch_loader.specs.Parsing.{FitsColumn, AreNumbers, ReadsField, ReadsFields}
+use Rattle.batch_loader.specs.Numbers.{is_digit, digits_value, spells_number, number_spelled}
+use Rattle.batch_loader.specs.Parsing.{FitsField, AreNumbers, ReadsField, ReadsFields}
 
 pub length-parts_at : (line ends : List ℕ) (from : ℕ) → length (parts_at line from ends) ≡ length ends
 length-parts_at line [] from = refl
@@ -25,7 +25,7 @@ pub record IsRead (line n : ℕ) (columns : List Column) (fields : List (List �
     pub fault : fields_fault line 1 columns fields ≡ fields_fault line (place + 1) (drop place columns)
         (drop place fields)
     pub numbers_fit : (k : ℕ) → k < place
-        → FitsColumn (slice_index_or columns k Skipped) (number_in fields k) (get_or numbers k 0)
+        → FitsField (slice_index_or columns k Skipped) (number_in fields k) (get_or numbers k 0)
     pub count : length numbers ≡ n
     pub columns_count : length columns ≡ n
     pub fields_count : length fields ≡ n
@@ -44,7 +44,7 @@ drop_next (item ∷ items) default (suc i) below = drop_next items default i (om
 fault-next : (line place : ℕ) (columns : List Column) (fields : List (List ℕ)) → place < length columns
     → place < length fields
     → fields_fault line (place + 1) (drop place columns) (drop place fields)
-    ≡ first_cause (field_fault line (place + 1) (slice_index_or columns place Skipped) (text_in fields place)
+    ≡ first_cause (field_fault line (place + 1) (slice_index_or columns place Skipped) (field_text fields place)
     ∷ fields_fault line (place + 1 + 1) (drop (place + 1) columns) (drop (place + 1) fields) ∷ [])
 fault-next line place columns fields in_columns in_fields =
     ap (λ cs. fields_fault line (place + 1) cs (drop place fields)) (drop_next columns Skipped place in_columns)
@@ -58,8 +58,8 @@ only_cause (Some fault) = refl
 -- a field is read, and fits
 pub IsRead-next : (line n : ℕ) (columns : List Column) (fields : List (List ℕ)) (numbers : List ℕ) (place number : ℕ)
     → place < n
-    → field_fault line (place + 1) (slice_index_or columns place Skipped) (text_in fields place) ≡ None
-    → FitsColumn (slice_index_or columns place Skipped) (number_in fields place) number
+    → field_fault line (place + 1) (slice_index_or columns place Skipped) (field_text fields place) ≡ None
+    → FitsField (slice_index_or columns place Skipped) (number_in fields place) number
     → IsRead line n columns fields numbers place
     → IsRead line n columns fields (slice_set numbers place number) (place + 1)
 IsRead-next line n columns fields numbers place number below fits is before = record {
@@ -69,9 +69,9 @@ IsRead-next line n columns fields numbers place number below fits is before = re
       (cause ∷ fields_fault line (place + 1 + 1) (drop (place + 1) columns) (drop (place + 1) fields) ∷ [])) fits
       ∙ only_cause (fields_fault line (place + 1 + 1) (drop (place + 1) columns) (drop (place + 1) fields));
   numbers_fit = below_more _ _
-      (λ k less. subst (FitsColumn (slice_index_or columns k Skipped) (number_in fields k))
+      (λ k less. subst (FitsField (slice_index_or columns k Skipped) (number_in fields k))
       (sym (get_or-set_other numbers place k number 0 (omega arith))) (before.numbers_fit k less))
-      (subst (FitsColumn (slice_index_or columns place Skipped) (number_in fields place))
+      (subst (FitsField (slice_index_or columns place Skipped) (number_in fields place))
       (sym (get_or-set_same numbers place number 0 (omega (arith, before.count)))) is);
   count = length-set numbers place number ∙ before.count;
   columns_count = before.columns_count;
@@ -81,7 +81,7 @@ IsRead-next line n columns fields numbers place number below fits is before = re
 -- a field is refused
 pub IsRead-refused : (line n : ℕ) (columns : List Column) (fields : List (List ℕ)) (numbers : List ℕ) (place : ℕ)
     (fault : Fault) → place < n
-    → field_fault line (place + 1) (slice_index_or columns place Skipped) (text_in fields place) ≡ Some fault
+    → field_fault line (place + 1) (slice_index_or columns place Skipped) (field_text fields place) ≡ Some fault
     → IsRead line n columns fields numbers place → fields_fault line 1 columns fields ≡ Some fault
 IsRead-refused line n columns fields numbers place fault below refused before =
     before.fault
@@ -101,13 +101,13 @@ IsRead-fits line n columns fields numbers place last before =
 
 AreNumbers-from : (first : ℕ) (columns : List Column) (fields : List (List ℕ)) (numbers : List ℕ)
     → ((k : ℕ) → k < length columns
-    → FitsColumn (slice_index_or columns k Skipped) (number_in fields (first + k)) (get_or numbers (first + k) 0))
+    → FitsField (slice_index_or columns k Skipped) (number_in fields (first + k)) (get_or numbers (first + k) 0))
     → AreNumbers first columns fields numbers
 AreNumbers-from first [] fields numbers each = tt
 AreNumbers-from first (column ∷ columns) fields numbers each = (
-  subst (λ n. FitsColumn column (number_in fields n) (get_or numbers n 0)) (at_first first) (each 0 (omega arith)),
+  subst (λ n. FitsField column (number_in fields n) (get_or numbers n 0)) (at_first first) (each 0 (omega arith)),
   AreNumbers-from (suc first) columns fields numbers
-      (λ k less. subst (λ n. FitsColumn (slice_index_or columns k Skipped) (number_in fields n) (get_or numbers n 0))
+      (λ k less. subst (λ n. FitsField (slice_index_or columns k Skipped) (number_in fields n) (get_or numbers n 0))
       (later first k) (each (suc k) (omega arith))),
 )
   where
@@ -122,20 +122,20 @@ pub IsRead-numbers : (line n : ℕ) (columns : List Column) (fields : List (List
     → IsRead line n columns fields numbers place → AreNumbers 0 columns fields numbers
 IsRead-numbers line n columns fields numbers place last before =
     AreNumbers-from 0 columns fields numbers
-    (λ k less. subst (λ n. FitsColumn (slice_index_or columns k Skipped) (number_in fields n) (get_or numbers n 0))
+    (λ k less. subst (λ n. FitsField (slice_index_or columns k Skipped) (number_in fields n) (get_or numbers n 0))
     (sym (omega arith)) (before.numbers_fit k (omega (arith, before.columns_count))))
 
 -- a number that a text spells
 record IsSpelled (limit number : ℕ) (text : List ℕ) : Type 0 where
-  pub value : number ≡ value_of text
+  pub value : number ≡ digits_value text
   pub within : number ≤ limit
   pub spells : spells_number limit text ≡ true
 
-spelled : (limit number : ℕ) (text : List ℕ) → Some number ≡ number_of limit text → IsSpelled limit number text
+spelled : (limit number : ℕ) (text : List ℕ) → Some number ≡ number_spelled limit text → IsSpelled limit number text
 spelled limit number text is =
-    let parts = by_tests (nat_lt 0 (length text)) (list_all is_digit text) (nat_le (value_of text) limit)
-    (value_of text) is in
-    record { value = parts.0; within = at_most (value_of text) parts.0 parts.1; spells = parts.2 }
+    let parts = by_tests (nat_lt 0 (length text)) (list_all is_digit text) (nat_le (digits_value text) limit)
+    (digits_value text) is in
+    record { value = parts.0; within = at_most (digits_value text) parts.0 parts.1; spells = parts.2 }
   where
     by_tests : (some digits small : Bool) (value : ℕ) → Some number ≡ cond (some && (digits && small)) (Some value) None
         → (number ≡ value) × (small ≡ true) × ((some && (digits && small)) ≡ true)
@@ -152,12 +152,12 @@ pub ReadsFields-numbers : (place : ℕ) (columns : List Column) (fields : List (
     → ReadsFields place columns fields numbers → AreNumbers place columns fields numbers
 ReadsFields-numbers place [] fields numbers read = tt
 ReadsFields-numbers place (column ∷ columns) fields numbers read = (
-  fits column (text_in fields place) (slice_index numbers place) read.0,
+  fits column (field_text fields place) (slice_index numbers place) read.0,
   ReadsFields-numbers (suc place) columns fields numbers read.1,
 )
   where
     fits : (column : Column) (text : List ℕ) (number : ℕ) → ReadsField column text number
-        → FitsColumn column (value_of text) number
+        → FitsField column (digits_value text) number
     fits (Number limit) text number is = let number_is = spelled limit number text is in
         (number_is.value, number_is.within)
     fits Text text number is = tt
@@ -181,7 +181,7 @@ ReadsFields-fits line place [] fields numbers count read = refl
 ReadsFields-fits line place (column ∷ columns) fields numbers count read =
     ap (λ texts. fields_fault line (place + 1) (column ∷ columns) texts) (drop_next fields [] place (omega arith))
     ∙ ap (λ cause. first_cause (cause ∷ fields_fault line (place + 1 + 1) columns (drop (place + 1) fields) ∷ []))
-    (ReadsField-fits line (place + 1) column (text_in fields place) (slice_index numbers place) read.0)
+    (ReadsField-fits line (place + 1) column (field_text fields place) (slice_index numbers place) read.0)
     ∙ only_cause (fields_fault line (place + 1 + 1) columns (drop (place + 1) fields))
     ∙ ap (λ next. fields_fault line (next + 1) columns (drop next fields)) (one_more place)
     ∙ ReadsFields-fits line (suc place) columns fields numbers (omega arith) read.1

@@ -5,7 +5,7 @@ use Rattle.std.proofs.Math.ListN.{drop_of_length-le}
 use Rattle.std.specs.Prelude.{◌==◌, ◌&&◌, nat_le, nat_lt, suc, zero, Option, fold}
 use Rattle.std.specs.List.{list_all}
 use Rattle.std.proofs.lemmas.Bool.Decides.{nat_tests}
-use Rattle.batch_loader.specs.Numbers.{number_of, is_digit, value_of}
+use Rattle.batch_loader.specs.Numbers.{number_spelled, is_digit, digits_value}
 
 -- the number that digits spell after a number so far, digit by digit
 abbrev pub number_from : ℕ → ℕ → List ℕ → Option ℕ
@@ -58,9 +58,9 @@ not_zero : (n : ℕ) → (n == 0) ≡ false → 0 < n
 not_zero n other = grind (arith, nat_tests)
 
 pub number_of-start : (limit : ℕ) (text : List ℕ) (empty : Bool) → empty ≡ (length text == 0) → empty ≡ false
-    → number_of limit text ≡ number_from limit 0 text
+    → number_spelled limit text ≡ number_from limit 0 text
 number_of-start limit text empty is some =
-    ap (λ b. cond (b && (list_all is_digit text && nat_le (value_of text) limit)) (Some (value_of text)) None)
+    ap (λ b. cond (b && (list_all is_digit text && nat_le (digits_value text) limit)) (Some (digits_value text)) None)
     (below 0 (length text) (not_zero (length text) (sym is ∙ some)))
     ∙ sym (number_from-value limit 0 text)
 

@@ -10,7 +10,7 @@ use Rattle.std.specs.List.{list_all}
 use Rattle.std.specs.Simd.Lanes.{number_l, Each1}
 use Rattle.std.proofs.lemmas.Bool.Decides.{nat_tests}
 use Rattle.std.proofs.lemmas.Nat.{mod-pow-add, field_of, shl-shr, shr_le}
-use Rattle.batch_loader.specs.Numbers.{is_digit, value_of, number_of}
+use Rattle.batch_loader.specs.Numbers.{is_digit, digits_value, number_spelled}
 use Rattle.batch_loader.specs.ShortNumbers.{AreDigits, IsSpread, decimal_of, raised}
 use Rattle.batch_loader.proofs.Digits.{drop_next}
 
@@ -400,7 +400,7 @@ module _ (b : ℕ → ℕ) (byte : (k : ℕ) → b k < 256) where
       }
   holds (suc (suc (suc (suc (suc (suc (suc (suc (suc more))))))))) some few digits = absurd (omega arith)
 
-  same_value : (n : ℕ) → n ≤ 8 → decimal_of (spread n b) ≡ value_of (bytes_from n 0 b)
+  same_value : (n : ℕ) → n ≤ 8 → decimal_of (spread n b) ≡ digits_value (bytes_from n 0 b)
   same_value zero few = refl
   same_value (suc zero) few = refl
   same_value (suc (suc zero)) few = refl
@@ -635,7 +635,7 @@ pub short-value : (text : List ℕ) (start count word value : ℕ) → 0 < count
     → ((i : ℕ) → get_or text i 0 < 256) → AreDigits text start count
     → word ≡ little_word text start
     → ((digits : List ℕ) → IsSpread (shifted word count) digits → value ≡ decimal_of digits)
-    → value ≡ value_of (slice_range text start (start + count))
+    → value ≡ digits_value (slice_range text start (start + count))
 short-value text start count word value some few room bytes digits word_is by_digits =
     let same : word ≡ word_of (λ j. slice_index text (start + j)) = word_is
     ∙ ap (λ n. slice_index text n + slice_index text (start + 1) * 256 + slice_index text (start + 2) * 65536
@@ -645,7 +645,7 @@ short-value text start count word value some few room bytes digits word_is by_di
     by_digits (spread count (λ j. slice_index text (start + j)))
     (rw same (holds (λ j. slice_index text (start + j)) (λ k. bytes (start + k)) count some few digits))
     ∙ same_value (λ j. slice_index text (start + j)) (λ k. bytes (start + k)) count few
-    ∙ sym (ap value_of (part-is text start (start + count) (omega arith) (omega arith)
+    ∙ sym (ap digits_value (part-is text start (start + count) (omega arith) (omega arith)
     ∙ ap (λ n. bytes_from n 0 (λ j. slice_index text (start + j))) (counted start count)))
   where
     nothing : (start : ℕ) → start ≡ start + 0
@@ -675,8 +675,9 @@ length-bytes (suc n) k b = ap suc (length-bytes n (suc k) b)
 -- a part of a text that is digits spells their value, where it is within the limit
 pub number_of-digits : (limit : ℕ) (text : List ℕ) (start end : ℕ) → start < end → end ≤ length text
     → AreDigits text start (end - start)
-    → number_of limit (slice_range text start end) ≡ cond (nat_le (value_of (slice_range text start end)) limit)
-    (Some (value_of (slice_range text start end))) None
+    → number_spelled limit (slice_range text start end)
+    ≡ cond (nat_le (digits_value (slice_range text start end)) limit)
+    (Some (digits_value (slice_range text start end))) None
 number_of-digits limit text start end some within digits =
     let part = part-is text start end (omega arith) within in
     let long : length (slice_range text start end) ≡ end - start = ap length part
@@ -690,24 +691,24 @@ number_of-digits limit text start end some within digits =
 
 pub number_of-within : (limit : ℕ) (text : List ℕ) (start end value : ℕ) → start < end → end ≤ length text
     → AreDigits text start (end - start)
-    → value ≡ value_of (slice_range text start end) → value ≤ limit
-    → Some value ≡ number_of limit (slice_range text start end)
+    → value ≡ digits_value (slice_range text start end) → value ≤ limit
+    → Some value ≡ number_spelled limit (slice_range text start end)
 number_of-within limit text start end value some within digits is small =
     ap Some is ∙ sym (number_of-digits limit text start end some within digits
-    ∙ ap (λ b. cond b (Some (value_of (slice_range text start end))) None)
-    (fits (value_of (slice_range text start end)) (omega arith)))
+    ∙ ap (λ b. cond b (Some (digits_value (slice_range text start end))) None)
+    (fits (digits_value (slice_range text start end)) (omega arith)))
   where
     fits : (n : ℕ) → n ≤ limit → nat_le n limit ≡ true
     fits n below = grind (arith, nat_tests)
 
 pub number_of-above : (limit : ℕ) (text : List ℕ) (start end value : ℕ) → start < end → end ≤ length text
     → AreDigits text start (end - start)
-    → value ≡ value_of (slice_range text start end) → limit < value
-    → None ≡ number_of limit (slice_range text start end)
+    → value ≡ digits_value (slice_range text start end) → limit < value
+    → None ≡ number_spelled limit (slice_range text start end)
 number_of-above limit text start end value some within digits is large =
     sym (number_of-digits limit text start end some within digits
-    ∙ ap (λ b. cond b (Some (value_of (slice_range text start end))) None)
-    (misses (value_of (slice_range text start end)) (omega arith)))
+    ∙ ap (λ b. cond b (Some (digits_value (slice_range text start end))) None)
+    (misses (digits_value (slice_range text start end)) (omega arith)))
   where
     misses : (n : ℕ) → limit < n → nat_le n limit ≡ false
     misses n above = grind (arith, nat_tests)

@@ -9,7 +9,7 @@ use Rattle.cube_model.specs.Limits.{longest_line, longest_text}
 use Rattle.batch_loader.specs.declared.columns.Column.{Column}
 use Rattle.batch_loader.specs.declared.columns.Column.TheVariants.{Number, Text, Skipped}
 use Rattle.batch_loader.specs.Fields.{fields_of}
-use Rattle.batch_loader.specs.Numbers.{spells_number, value_of}
+use Rattle.batch_loader.specs.Numbers.{spells_number, digits_value}
 use Rattle.batch_loader.specs.Outcomes.{unless}
 
 -- why a field is refused, in a line and at a field number: a number column wants a number up to its limit, a kept text
@@ -41,8 +41,8 @@ row_of columns row number line =
 
 -- the number that a field spells, by its place from 0
 abbrev pub number_in : List (List ℕ) → ℕ → ℕ
-number_in fields place = value_of (slice_index_or fields place [])
+number_in fields place = digits_value (slice_index_or fields place [])
 
 -- a field as a text
-abbrev pub text_in : List (List ℕ) → ℕ → List ℕ
-text_in fields place = slice_index_or fields place []
+abbrev pub field_text : List (List ℕ) → ℕ → List ℕ
+field_text fields place = slice_index_or fields place []

@@ -9,7 +9,7 @@ use Rattle.cube_model.specs.declared.rows.DateRow.{DateRow}
 use Rattle.cube_model.specs.declared.rows.LineOrder.{LineOrder}
 use Rattle.batch_loader.specs.declared.columns.Column.{Column}
 use Rattle.batch_loader.specs.declared.columns.Column.TheVariants.{Number, Text, Skipped}
-use Rattle.batch_loader.specs.Columns.{row_of, number_in, text_in}
+use Rattle.batch_loader.specs.Columns.{row_of, number_in, field_text}
 
 -- keys and line numbers have 32 bits, amounts of money 63, and small counts 8
 abbrev key : Column
@@ -28,9 +28,9 @@ customer_columns = key ∷ Skipped ∷ Skipped ∷ Text ∷ Text ∷ Text ∷ Sk
 abbrev pub customer_of_fields : List (List ℕ) → CustomerRow
 customer_of_fields fields = record {
   key = number_in fields 0;
-  city = text_in fields 3;
-  nation = text_in fields 4;
-  region = text_in fields 5;
+  city = field_text fields 3;
+  nation = field_text fields 4;
+  region = field_text fields 5;
 }
 
 -- suppkey, name, address, city, nation, region, phone
@@ -40,9 +40,9 @@ supplier_columns = key ∷ Skipped ∷ Skipped ∷ Text ∷ Text ∷ Text ∷ Sk
 abbrev pub supplier_of_fields : List (List ℕ) → SupplierRow
 supplier_of_fields fields = record {
   key = number_in fields 0;
-  city = text_in fields 3;
-  nation = text_in fields 4;
-  region = text_in fields 5;
+  city = field_text fields 3;
+  nation = field_text fields 4;
+  region = field_text fields 5;
 }
 
 -- partkey, name, mfgr, category, brand1, color, type, size, container
@@ -52,9 +52,9 @@ part_columns = key ∷ Skipped ∷ Text ∷ Text ∷ Text ∷ Skipped ∷ Skippe
 abbrev pub part_of_fields : List (List ℕ) → PartRow
 part_of_fields fields = record {
   key = number_in fields 0;
-  brand1 = text_in fields 4;
-  category = text_in fields 3;
-  mfgr = text_in fields 2;
+  brand1 = field_text fields 4;
+  category = field_text fields 3;
+  mfgr = field_text fields 2;
 }
 
 -- datekey, date, dayofweek, month, year, yearmonthnum, yearmonth, daynuminweek, daynuminmonth, daynuminyear,
@@ -67,10 +67,10 @@ date_columns =
 abbrev pub date_of_fields : List (List ℕ) → DateRow
 date_of_fields fields = record {
   key = number_in fields 0;
-  year = text_in fields 4;
-  yearmonthnum = text_in fields 5;
-  yearmonth = text_in fields 6;
-  weeknuminyear = text_in fields 11;
+  year = field_text fields 4;
+  yearmonthnum = field_text fields 5;
+  yearmonth = field_text fields 6;
+  weeknuminyear = field_text fields 11;
 }
 
 -- orderkey, linenumber, custkey, partkey, suppkey, orderdate, orderpriority, shippriority, quantity, extendedprice,
@@ -88,8 +88,8 @@ lineorder_of_fields fields = record {
   partkey = number_in fields 3;
   suppkey = number_in fields 4;
   orderdate = number_in fields 5;
-  orderpriority = text_in fields 6;
-  shippriority = text_in fields 7;
+  orderpriority = field_text fields 6;
+  shippriority = field_text fields 7;
   quantity = number_in fields 8;
   extendedprice = number_in fields 9;
   ordtotalprice = number_in fields 10;
@@ -97,8 +97,8 @@ lineorder_of_fields fields = record {
   revenue = number_in fields 12;
   supplycost = number_in fields 13;
   tax = number_in fields 14;
-  commitdate = text_in fields 15;
-  shipmode = text_in fields 16;
+  commitdate = field_text fields 15;
+  shipmode = field_text fields 16;
 }
 
 -- the row of a line with a number, or its first fault

@@ -1,9 +1,9 @@
 //! The columns of the five tables, and what they make of a line's fields.
 ghost use Rattle.std.specs.Prelude.{◌≡◌, ◌<◌, ◌+◌, Some, None, IfSome, IfOk, IfErr};
 ghost use Rattle.batch_loader.specs.declared.columns.Column.TheVariants.{Number};
-ghost use Rattle.batch_loader.specs.Columns.{field_fault, fields_fault, number_in, text_in};
-ghost use Rattle.batch_loader.specs.LineFields.{fields_at, texts_of};
-ghost use Rattle.batch_loader.specs.Parsing.{AreNumbers, FitsColumn, ReadsField};
+ghost use Rattle.batch_loader.specs.Columns.{field_fault, fields_fault, number_in, field_text};
+ghost use Rattle.batch_loader.specs.LineFields.{fields_at, field_texts};
+ghost use Rattle.batch_loader.specs.Parsing.{AreNumbers, FitsField, ReadsField};
 
 use crate::line_fields::{FieldsInPlace, LineFields};
 use cube_model::limits::LONGEST_TEXT;
@@ -69,9 +69,9 @@ pub fn numbers_of<const N: usize>(
     line: u64,
 ) -> Result<[u64; N], Fault>
     requires { N < 255 }
-    ensures fits { IfOk result (λ _. fields_fault line 1 columns.now (texts_of fields.now) ≡ None) }
-    ensures numbers { IfOk result (λ numbers. AreNumbers 0 columns.now (texts_of fields.now) numbers) }
-    ensures refused { IfErr result (λ fault. fields_fault line 1 columns.now (texts_of fields.now) ≡ Some fault) }
+    ensures fits { IfOk result (λ _. fields_fault line 1 columns.now (field_texts fields.now) ≡ None) }
+    ensures numbers { IfOk result (λ numbers. AreNumbers 0 columns.now (field_texts fields.now) numbers) }
+    ensures refused { IfErr result (λ fault. fields_fault line 1 columns.now (field_texts fields.now) ≡ Some fault) }
 {
     let mut numbers = [0u64; N];
     for place in 0..N {
@@ -90,9 +90,11 @@ fn read_field<const N: usize>(
 ) -> Result<u64, Fault>
     requires few { N < 255 }
     requires place { place < N }
-    ensures fits { IfOk result (λ _. field_fault line (place + 1) column (text_in (texts_of fields.now) place) ≡ None) }
-    ensures number { IfOk result (FitsColumn column (number_in (texts_of fields.now) place)) }
-    ensures refused { IfErr result (λ fault. field_fault line (place + 1) column (text_in (texts_of fields.now) place)
+    ensures fits { IfOk result (λ _. field_fault line (place + 1) column (field_text (field_texts fields.now) place)
+        ≡ None) }
+    ensures number { IfOk result (FitsField column (number_in (field_texts fields.now) place)) }
+    ensures refused { IfErr result
+        (λ fault. field_fault line (place + 1) column (field_text (field_texts fields.now) place)
         ≡ Some fault) }
 {
     let field = place as u8 + 1;
@@ -120,7 +122,7 @@ pub fn fitting<const N: usize>(
     place: usize,
 ) -> Option<u64>
     requires { place < N }
-    ensures { IfSome result (ReadsField column (text_in (fields_at fields.now) place)) }
+    ensures { IfSome result (ReadsField column (field_text (fields_at fields.now) place)) }
 {
     match column {
         Column::Number(limit) => fields.number(place, limit),
@@ -137,7 +139,7 @@ pub fn fitting_few_digits<const N: usize>(
     place: usize,
 ) -> Option<u64>
     requires { place < N }
-    ensures { IfSome result (ReadsField (Number limit) (text_in (fields_at fields.now) place)) }
+    ensures { IfSome result (ReadsField (Number limit) (field_text (fields_at fields.now) place)) }
 {
     fields.few_digits(place, limit)
 }

@@ -1,7 +1,7 @@
 //! The fields of a line.
 ghost use Rattle.std.specs.Prelude.{◌≡◌, ◌<◌, ◌≤◌, [], length, slice_index_or, slice_index};
 ghost use Rattle.batch_loader.specs.Fields.{AreEnds, parts_at, start_of};
-ghost use Rattle.batch_loader.specs.Numbers.{number_of};
+ghost use Rattle.batch_loader.specs.Numbers.{number_spelled};
 
 mod bars;
 mod split;
@@ -19,13 +19,13 @@ pub struct LineFields<'a, const N: usize> {
 }
 
 impl<'a, const N: usize> LineFields<'a, N> {
-    ghost use Rattle.batch_loader.specs.LineFields.{fields_at, texts_of};
+    ghost use Rattle.batch_loader.specs.LineFields.{fields_at, field_texts};
 
     /// A field, by its place from 0.
     #[inline]
     pub fn get(&self, place: usize) -> &'a [u8]
         requires { place < N }
-        ensures { result.now ≡ slice_index_or (texts_of self.now) place [] }
+        ensures { result.now ≡ slice_index_or (field_texts self.now) place [] }
     {
         self.in_place().get(place)
     }
@@ -34,7 +34,7 @@ impl<'a, const N: usize> LineFields<'a, N> {
     #[inline(always)]
     pub(crate) fn number(&self, place: usize, limit: u64) -> Option<u64>
         requires { place < N }
-        ensures { result ≡ number_of limit (slice_index_or (texts_of self.now) place []) }
+        ensures { result ≡ number_spelled limit (slice_index_or (field_texts self.now) place []) }
     {
         self.in_place().number(place, limit)
     }
@@ -42,7 +42,7 @@ impl<'a, const N: usize> LineFields<'a, N> {
     /// The same fields, where they are.
     #[inline(always)]
     fn in_place(&self) -> FieldsInPlace<'a, '_, N>
-        ensures { fields_at result ≡ texts_of self.now }
+        ensures { fields_at result ≡ field_texts self.now }
     {
         FieldsInPlace {
             line: self.line,
@@ -61,7 +61,7 @@ pub(crate) struct FieldsInPlace<'a, 'b, const N: usize> {
 }
 
 impl<'a, 'b, const N: usize> FieldsInPlace<'a, 'b, N> {
-    ghost use Rattle.batch_loader.specs.LineFields.{fields_at, texts_of};
+    ghost use Rattle.batch_loader.specs.LineFields.{fields_at, field_texts};
 
     /// The fields of a line, by where they end.
     #[inline(always)]
@@ -74,7 +74,7 @@ impl<'a, 'b, const N: usize> FieldsInPlace<'a, 'b, N> {
 
     /// A copy of the fields.
     pub(crate) fn copied(&self) -> LineFields<'a, N>
-        ensures { texts_of result ≡ fields_at self.now }
+        ensures { field_texts result ≡ fields_at self.now }
     {
         let Some(ends) = self.ends.first_chunk::<N>() else {
             unreachable!()
@@ -98,7 +98,7 @@ impl<'a, 'b, const N: usize> FieldsInPlace<'a, 'b, N> {
     #[inline(always)]
     pub(crate) fn number(&self, place: usize, limit: u64) -> Option<u64>
         requires { place < N }
-        ensures { result ≡ number_of limit (slice_index_or (fields_at self.now) place []) }
+        ensures { result ≡ number_spelled limit (slice_index_or (fields_at self.now) place []) }
     {
         number_between(self.line, self.start(place), self.ends[place], limit)
     }
@@ -107,7 +107,7 @@ impl<'a, 'b, const N: usize> FieldsInPlace<'a, 'b, N> {
     #[inline(always)]
     pub(crate) fn few_digits(&self, place: usize, limit: u64) -> Option<u64>
         requires { place < N }
-        ensures { result ≡ number_of limit (slice_index_or (fields_at self.now) place []) }
+        ensures { result ≡ number_spelled limit (slice_index_or (fields_at self.now) place []) }
     {
         few_digits_between(self.line, self.start(place), self.ends[place], limit)
     }

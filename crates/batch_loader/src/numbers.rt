@@ -1,6 +1,6 @@
 //! Number fields.
 ghost use Rattle.std.specs.Prelude.{◌≡◌, ◌≤◌, ◌<◌, ◌+◌, ℕ, length, slice_index, slice_range};
-ghost use Rattle.batch_loader.specs.Numbers.{number_of, value_of};
+ghost use Rattle.batch_loader.specs.Numbers.{number_spelled, digits_value};
 
 mod few;
 mod short;
@@ -13,7 +13,7 @@ use short::{are_digits, short_value};
 pub fn number_between(text: &[u8], start: usize, end: usize, limit: u64) -> Option<u64>
     requires order { start ≤ end }
     requires within { end ≤ length text.now }
-    ensures { result ≡ number_of limit (slice_range text.now start end) }
+    ensures { result ≡ number_spelled limit (slice_range text.now start end) }
 {
     let count = end - start;
     if count == 0 || count > 8 || start + 8 > text.len() || !are_digits(text, start, count) {
@@ -28,7 +28,7 @@ pub fn number_between(text: &[u8], start: usize, end: usize, limit: u64) -> Opti
 
 /// The number up to a limit that a field spells, if it spells one.
 fn number(text: &[u8], limit: u64) -> Option<u64>
-    ensures { result ≡ number_of limit text.now }
+    ensures { result ≡ number_spelled limit text.now }
 {
     if text.is_empty() {
         return None;

@@ -1,9 +1,9 @@
 //! How a line becomes a row.
 ghost use Rattle.std.specs.Prelude.{◌≡◌, ◌⊎◌, ◌≤◌, ◌∷◌, [], ℕ, Some, None, Ok, Err, MatchResult, IfSome, IfOk, IfErr};
 ghost use Rattle.std.specs.Prelude.{drop, length, take};
-ghost use Rattle.batch_loader.specs.Columns.{fields_fault, row_of, text_in};
+ghost use Rattle.batch_loader.specs.Columns.{fields_fault, row_of, field_text};
 ghost use Rattle.batch_loader.specs.LineFields.{fields_at};
-ghost use Rattle.batch_loader.specs.Parsing.{AreNumbers, ReadsEach};
+ghost use Rattle.batch_loader.specs.Parsing.{AreNumbers, ReadsNumbers};
 ghost use Rattle.batch_loader.specs.Tables.{lineorder_columns, lineorder_of_fields};
 
 use crate::columns::{
@@ -174,7 +174,7 @@ fn fitting_numbers(fields: &FieldsInPlace<'_, '_, 17>) -> Option<[u64; 17]>
 // Those of the six keys.
 #[inline(always)]
 fn fitting_keys(fields: &FieldsInPlace<'_, '_, 17>) -> Option<(u64, u64, u64, u64, u64, u64)>
-    ensures { IfSome result (λ n. ReadsEach 0 (take 6 lineorder_columns) (fields_at fields.now)
+    ensures { IfSome result (λ n. ReadsNumbers 0 (take 6 lineorder_columns) (fields_at fields.now)
         (n.0 ∷ n.1 ∷ n.2 ∷ n.3 ∷ n.4 ∷ n.5 ∷ [])) }
 {
     Some((
@@ -190,7 +190,7 @@ fn fitting_keys(fields: &FieldsInPlace<'_, '_, 17>) -> Option<(u64, u64, u64, u6
 // Those of the next five, from the priority of the order to its total price.
 #[inline(always)]
 fn fitting_order(fields: &FieldsInPlace<'_, '_, 17>) -> Option<(u64, u64, u64, u64, u64)>
-    ensures { IfSome result (λ n. ReadsEach 6 (take 5 (drop 6 lineorder_columns)) (fields_at fields.now)
+    ensures { IfSome result (λ n. ReadsNumbers 6 (take 5 (drop 6 lineorder_columns)) (fields_at fields.now)
         (n.0 ∷ n.1 ∷ n.2 ∷ n.3 ∷ n.4 ∷ [])) }
 {
     Some((
@@ -205,7 +205,7 @@ fn fitting_order(fields: &FieldsInPlace<'_, '_, 17>) -> Option<(u64, u64, u64, u
 // Those of the last six, from the discount to the ship mode.
 #[inline(always)]
 fn fitting_amounts(fields: &FieldsInPlace<'_, '_, 17>) -> Option<(u64, u64, u64, u64, u64, u64)>
-    ensures { IfSome result (λ n. ReadsEach 11 (drop 11 lineorder_columns) (fields_at fields.now)
+    ensures { IfSome result (λ n. ReadsNumbers 11 (drop 11 lineorder_columns) (fields_at fields.now)
         (n.0 ∷ n.1 ∷ n.2 ∷ n.3 ∷ n.4 ∷ n.5 ∷ [])) }
 {
     Some((
@@ -268,9 +268,9 @@ fn line_order_texts(
     alloc: Global,
     fields: &FieldsInPlace<'_, '_, 17>,
 ) -> Result<(RowText, RowText, RowText, RowText), Fault>
-    ensures ok { IfOk result (λ texts. (texts.0 ≡ text_in (fields_at fields.now) 6)
-        × (texts.1 ≡ text_in (fields_at fields.now) 7)
-        × (texts.2 ≡ text_in (fields_at fields.now) 15) × (texts.3 ≡ text_in (fields_at fields.now) 16)) }
+    ensures ok { IfOk result (λ texts. (texts.0 ≡ field_text (fields_at fields.now) 6)
+        × (texts.1 ≡ field_text (fields_at fields.now) 7)
+        × (texts.2 ≡ field_text (fields_at fields.now) 15) × (texts.3 ≡ field_text (fields_at fields.now) 16)) }
     ensures err { IfErr result (λ fault. fault ≡ Fault.Memory) }
 {
     let (orderpriority, shippriority) = row_texts(alloc, fields.get(6), fields.get(7))?;

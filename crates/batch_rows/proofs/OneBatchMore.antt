@@ -23,7 +23,7 @@ use Rattle.dictionary.specs.Dictionary.{firsts}
 use Rattle.warehouse_root.specs.declared.layout.Layout.TheVariants.{First}
 use Rattle.warehouse_objects.specs.Migration.{migration_refusal, place_after}
 use Rattle.warehouse_objects.proofs.Batches.{rows_next, some_one}
-use Rattle.batch_admission.specs.ShipModes.{row_at}
+use Rattle.batch_admission.specs.ShipModes.{row_number_at}
 use Rattle.batch_rows.specs.Gathered.{IsGathered, modes_before}
 use Rattle.batch_rows.specs.declared.gathering.Gathered.{Gathered}
 use Rattle.batch_rows.proofs.Firsts.{crowded_append, crowded_within, later_by, or_later, position_append}
@@ -262,11 +262,11 @@ gathered_none batches gathered none are = record {
 
 -- ---- what a call found
 
-found_at : (o : Option ℕ) (row : ℕ) → Some row ≡ row_at o → (place : ℕ) × (o ≡ Some place) × (row ≡ place + 1)
+found_at : (o : Option ℕ) (row : ℕ) → Some row ≡ row_number_at o → (place : ℕ) × (o ≡ Some place) × (row ≡ place + 1)
 found_at None row e = absurd cc
 found_at (Some k) row e = (k, refl, some_one row (k + 1) e)
 
-pub found_none : (o : Option ℕ) → None ≡ row_at o → o ≡ None
+pub found_none : (o : Option ℕ) → None ≡ row_number_at o → o ≡ None
 found_none None e = refl
 found_none (Some k) e = absurd cc
 
@@ -281,7 +281,7 @@ none_there (Some at) e = absurd cc
 -- the text that means all ship modes, in a row
 pub refused_row : (batches : List (List LineOrder)) (before : ℕ) (batch : List LineOrder)
     → slice_get batches before ≡ Some batch → (gathered : Gathered) → IsGathered batches before gathered
-    → (number row : ℕ) → number ≡ before + 1 → Some row ≡ row_at (reserved_place (modes_in batch))
+    → (number row : ℕ) → number ≡ before + 1 → Some row ≡ row_number_at (reserved_place (modes_in batch))
     → migration_refusal First batches ≡ Some (ReservedMember (InStoredBatch number row))
 refused_row batches before batch here gathered is number row same e =
     let found = found_at (reserved_place (modes_in batch)) row e in

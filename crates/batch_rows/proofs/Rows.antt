@@ -11,7 +11,7 @@ use Rattle.cube_model.specs.ShipModes.{modes_in}
 use Rattle.object_store.specs.Content.{Content, bytes_of}
 use Rattle.column_segment.specs.Projected.{HoldsNoneOf}
 use Rattle.column_segment.specs.Segment.{IsSegment, segment_of}
-use Rattle.warehouse_root.specs.Root.{IsProper, PlainRoot}
+use Rattle.warehouse_root.specs.Root.{IsProperRoot, PlainRoot}
 use Rattle.warehouse_objects.specs.Represents.{Represents, root_of}
 use Rattle.warehouse_objects.specs.Warehouse.{Warehouse}
 use Rattle.warehouse_objects.proofs.Batches.{segment_at, some_one}
@@ -73,7 +73,7 @@ module _ (c : Content) (w : Warehouse) (represents : Represents c w) (before : �
 
 -- the batch after so many others, where a root has one
 module _ (c : Content) (w : Warehouse) (represents : Represents c w) (root : PlainRoot) (rooted : root ≡ root_of w)
-    (proper : IsProper root) (before : ℕ) (within : before < length root.batches) where
+    (proper : IsProperRoot root) (before : ℕ) (within : before < length root.batches) where
   low : before < 65535
   low = omega (arith, within, proper.most_batches)
 

@@ -17,7 +17,7 @@ use Rattle.cube_model.specs.declared.rows.LineOrder.{LineOrder}
 use Rattle.wire.specs.Reading.{TakesBytes}
 use Rattle.wire.specs.Spelling.{spelling}
 use Rattle.wire.proofs.CallerLemmas.{length-spelling}
-use Rattle.dictionary.specs.Columns.{AreCodes, codes_of, codes_spelling, column_spelling, place_of, text_at}
+use Rattle.dictionary.specs.Columns.{AreCodes, codes_of, codes_spelling, column_spelling, place_of, text_of_code}
 use Rattle.dictionary.specs.Dictionary.{firsts}
 use Rattle.dictionary.specs.Spelling.{AreProper, AreShort, BeginsWithNone, ReadsTexts, texts_spelling}
 use Rattle.dictionary.proofs.ColumnLaws.{AreCodes-below, AreProper-firsts, column_has_codes, length-firsts}
@@ -80,7 +80,7 @@ length-chunks zero xs = refl
 length-chunks (suc n) xs = omega (arith, length-chunks n (drop 2 xs))
 
 texts_below : (P : List ℕ → Type 0) (texts : List (List ℕ)) (codes : List ℕ) → All P texts
-    → AllByRecursion (λ code. code < length texts) codes → AllByRecursion P (map (text_at texts) codes)
+    → AllByRecursion (λ code. code < length texts) codes → AllByRecursion P (map (text_of_code texts) codes)
 texts_below P texts [] all below = tt
 texts_below P texts (code ∷ codes) all below = (all code [] below.0, texts_below P texts codes all below.1)
 
@@ -206,7 +206,7 @@ module _ (rows : ℕ) (left new : List ℕ) (texts : List (List ℕ)) (part : Li
   many_chunks = ap length cut ∙ length-chunks rows part
 
   pub many_modes : length (texts_by texts chunks) ≡ rows
-  many_modes = length-map (map (from_le_bytes w16) chunks) (text_at texts) ∙ length-map chunks (from_le_bytes w16)
+  many_modes = length-map (map (from_le_bytes w16) chunks) (text_of_code texts) ∙ length-map chunks (from_le_bytes w16)
       ∙ many_chunks
 
   -- texts by codes that were checked
@@ -237,7 +237,7 @@ module _ (rows : ℕ) (left new : List ℕ) (texts : List (List ℕ)) (part : Li
         (AreCodes-below (length (firsts modes)) (codes_of modes) laws.0)
 
     pub modes_one : texts_by texts chunks ≡ modes_in others
-    modes_one = (λ i. map (text_at (one.0 i)) (read i)) ∙ (column_has_codes (modes_in others)).1
+    modes_one = (λ i. map (text_of_code (one.0 i)) (read i)) ∙ (column_has_codes (modes_in others)).1
 
     pub has_codes : AreCodes (length texts) (map (from_le_bytes w16) chunks)
     has_codes = subst (λ (t : List (List ℕ)). AreCodes (length t) (map (from_le_bytes w16) chunks)) (sym one.0)

@@ -18,14 +18,14 @@ use Rattle.object_store.specs.Content.{Content, bytes_of}
 use Rattle.column_segment.specs.Columns.{Column, number_columns, text_columns}
 use Rattle.column_segment.specs.Projected.{HasColumns, HoldsNoneOf}
 use Rattle.column_segment.specs.Reading.{HasHeader}
-use Rattle.column_segment.specs.Segment.{IsSegment, header_of, number_column, text_column}
+use Rattle.column_segment.specs.Segment.{IsSegment, segment_header, number_column, text_column}
 use Rattle.column_segment.proofs.CallerLemmas.{header-one}
 use Rattle.batch_rows.specs.Stored.{HoldsModes}
 use Rattle.batch_rows.specs.TextColumns.{SpellColumns}
 
 -- ---- the bytes of a batch
 
-length-header : (number rows : ℕ) → length (header_of number rows) ≡ 12
+length-header : (number rows : ℕ) → length (segment_header number rows) ≡ 12
 length-header number rows =
     omega (
       arith,
@@ -69,20 +69,20 @@ numbers_long rows = length-columns number_columns rows
 module _ (text : List ℕ) (number : ℕ) (rows : List LineOrder) (is : IsSegment text number rows) where
   after_header : drop 12 text ≡ flat_map (number_column rows) number_columns ++ flat_map (text_column rows) text_columns
   after_header = ap (drop 12) is.spelled
-      ∙ drop_at (header_of number (length rows)) _ 12 (length-header number (length rows))
+      ∙ drop_at (segment_header number (length rows)) _ 12 (length-header number (length rows))
 
   -- a batch has a header, and room for its columns of numbers
   pub columns_there : HasColumns text number (length rows)
   columns_there = record {
     header = record {
-      spelled = is.spelled ∙ ap (λ (l : List ℕ). header_of number (length rows) ++ l) (sym after_header);
+      spelled = is.spelled ∙ ap (λ (l : List ℕ). segment_header number (length rows) ++ l) (sym after_header);
       fits = is.number_fits;
       few = is.batch.few;
     };
     room = omega (
       arith,
       ap length is.spelled,
-      length-append (header_of number (length rows))
+      length-append (segment_header number (length rows))
           (flat_map (number_column rows) number_columns ++ flat_map (text_column rows) text_columns),
       length-append (flat_map (number_column rows) number_columns) (flat_map (text_column rows) text_columns),
       length-header number (length rows),
@@ -113,7 +113,7 @@ module _ (text : List ℕ) (number : ℕ) (rows : List LineOrder) (is : IsSegmen
 -- one that was written
 pub written : (zeros first second third : List ℕ) (number rows : ℕ) → length zeros ≡ 12
     → first ≡ with_field 0 (codes "SEG1") zeros → second ≡ with_field 4 (spelling 4 number) first
-    → third ≡ with_field 8 (spelling 4 rows) second → third ≡ header_of number rows
+    → third ≡ with_field 8 (spelling 4 rows) second → third ≡ segment_header number rows
 written zeros first second third number rows long is then after =
     let name : List ℕ = codes "SEG1" in
     let f2 : List ℕ = spelling 4 number in
@@ -139,7 +139,7 @@ written zeros first second third number rows long is then after =
 
 -- one that is compared with the first bytes of a text
 module _ (text part own : List ℕ) (number rows : ℕ) (long : length part ≡ 12)
-    (gives : part ≡ take (length part) (drop 0 text)) (is : own ≡ header_of number rows) (same : Bool)
+    (gives : part ≡ take (length part) (drop 0 text)) (is : own ≡ segment_header number rows) (same : Bool)
     (compares : same ≡ bytes_eq part own) where
   front : part ≡ take 12 text
   front = gives ∙ ap (λ (n : ℕ). take n text) long
@@ -156,7 +156,7 @@ module _ (text part own : List ℕ) (number rows : ℕ) (long : length part ≡ 
     λ has.
         let alike : part ≡ own =
         front ∙ ap (take 12) has.spelled
-        ∙ take_at (header_of number rows) (drop 12 text) 12 (length-header number rows) ∙ sym is in
+        ∙ take_at (segment_header number rows) (drop 12 text) 12 (length-header number rows) ∙ sym is in
         compares ∙ ap (λ (l : List ℕ). bytes_eq l own) alike ∙ bytes_eq-refl own,
   )
 

@@ -8,7 +8,7 @@ ghost use Rattle.object_store.specs.Store.{content_of, device_of, has_failed};
 ghost use Rattle.wire.specs.Runs.{HasRead, IsRefused};
 ghost use Rattle.column_segment.specs.Projected.{HasColumns, HoldsNoneOf};
 ghost use Rattle.column_segment.specs.Reading.{HasHeader};
-ghost use Rattle.column_segment.specs.Segment.{header_of};
+ghost use Rattle.column_segment.specs.Segment.{segment_header};
 ghost use Rattle.warehouse_root.specs.Objects.{segment_id};
 ghost use Rattle.warehouse_objects.specs.Reads.{ReadsOnly};
 ghost use Rattle.batch_rows.specs.Stored.{HoldsModes};
@@ -117,7 +117,7 @@ fn has_header<S: Source>(source: &mut S, id: u32, number: u32, rows: usize) -> R
 
 // The header of a batch of a number and of so many rows.
 fn header_of(number: u32, rows: u32) -> [u8; HEADER_BYTES]
-    ensures { result ≡ header_of number rows }
+    ensures { result ≡ segment_header number rows }
 {
     let mut header = [0; HEADER_BYTES];
     write_bytes(&mut header, 0, b"SEG1");

@@ -6,10 +6,10 @@ use Rattle.cube_model.specs.Limits.{most_batch_rows}
 use Rattle.image_jobs.specs.Loading.{RefusesLoad}
 
 -- the numbers of a load: that of its first batch, and how many rows a batch has
-abbrev pub IsCut : ℕ → ℕ → Type 0
-IsCut first rows = (1 ≤ first) × ((1 ≤ rows) × (rows ≤ most_batch_rows))
+abbrev pub AreLoadNumbers : ℕ → ℕ → Type 0
+AreLoadNumbers first rows = (1 ≤ first) × ((1 ≤ rows) × (rows ≤ most_batch_rows))
 
 -- they are no such numbers; or the load is refused
 abbrev pub RefusesChange : List ℕ → (first rows : ℕ) → List ℕ → Fault → Type 0
-RefusesChange image first rows lineorder fault = ((fault ≡ BadQuery) × (IsCut first rows → ⊥))
+RefusesChange image first rows lineorder fault = ((fault ≡ BadQuery) × (AreLoadNumbers first rows → ⊥))
     ⊎ RefusesLoad image first rows lineorder fault

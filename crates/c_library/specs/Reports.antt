@@ -2,8 +2,8 @@
 use Rattle.std.specs.Prelude.{◌≡◌, ◌⊎◌, ◌^◌, ◌≤ℤ◌, ℤ, pos, negsuc, ℕ, List, Option, None, Some}
 use Rattle.cube_model.specs.declared.fault.Fault.{Fault}
 use Rattle.cube_model.specs.declared.fault.Fault.TheVariants.{BadQuery, Memory, NoSuchPrefix}
-use Rattle.image_jobs.specs.Answers.{AnswerRefuses, Answers, IsNoDevice}
-use Rattle.image_jobs.specs.Images.{Holds}
+use Rattle.image_jobs.specs.Answers.{AnswerRefuses, IsReportOver, IsNoDevice}
+use Rattle.image_jobs.specs.Images.{HoldsWarehouse}
 use Rattle.query_words.specs.Words.{Words}
 use Rattle.report_formats.specs.Rows.{format_named}
 use Rattle.report_formats.specs.declared.asked.Asked.{Asked}
@@ -24,20 +24,20 @@ pub record AsksFor (words : Words) (format : List ℕ) (asked : Asked) : Type 0 
   pub spelled : IsReportOf words layout asked
 
 -- a text is the report that words ask for, where the bytes of a file hold a warehouse
-pub record Reports (image : List ℕ) (words : Words) (format : List ℕ) (as_of : ℤ) (text : List ℕ) : Type 0 where
+pub record IsReportFor (image : List ℕ) (words : Words) (format : List ℕ) (as_of : ℤ) (text : List ℕ) : Type 0 where
   pub asked : Asked
   pub asks : AsksFor words format asked
-  pub answers : (facts : Facts) → Holds image facts → Answers facts (prefix_of as_of) asked text
+  pub answers : (facts : Facts) → HoldsWarehouse image facts → IsReportOver facts (prefix_of as_of) asked text
 
 -- the report that words ask for is refused, where the bytes of a file hold a warehouse
-pub record IsRefused (image : List ℕ) (words : Words) (format : List ℕ) (as_of : ℤ) (fault : Fault) : Type 0 where
+pub record ReportIsRefused (image : List ℕ) (words : Words) (format : List ℕ) (as_of : ℤ) (fault : Fault) : Type 0 where
   pub asked : Asked
   pub asks : AsksFor words format asked
-  pub refused : (facts : Facts) → Holds image facts → IsNoDevice image fault
+  pub refused : (facts : Facts) → HoldsWarehouse image facts → IsNoDevice image fault
       ⊎ AnswerRefuses facts (prefix_of as_of) asked fault
 
 -- There is no memory, or the words ask for no report; no warehouse has so many batches; or the report is refused.
-abbrev pub Refuses : List ℕ → Words → List ℕ → ℤ → Fault → Type 0
-Refuses image words format as_of fault =
+abbrev pub RefusesReport : List ℕ → Words → List ℕ → ℤ → Fault → Type 0
+RefusesReport image words format as_of fault =
     ((fault ≡ Memory) ⊎ (fault ≡ BadQuery))
-    ⊎ (((fault ≡ NoSuchPrefix) × (pos (2 ^ 32) ≤ℤ as_of)) ⊎ IsRefused image words format as_of fault)
+    ⊎ (((fault ≡ NoSuchPrefix) × (pos (2 ^ 32) ≤ℤ as_of)) ⊎ ReportIsRefused image words format as_of fault)

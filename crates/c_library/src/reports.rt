@@ -2,7 +2,7 @@
 ghost use Rattle.std.specs.Prelude.{◌≡◌, ◌≤ℤ◌, ◌^◌, pos, IfErr, IfOk};
 ghost use Rattle.cube_model.specs.declared.fault.Fault.TheVariants.{NoSuchPrefix};
 ghost use Rattle.c_library.specs.Handing.{Hands};
-ghost use Rattle.c_library.specs.Reports.{Refuses, Reports, prefix_of};
+ghost use Rattle.c_library.specs.Reports.{RefusesReport, IsReportFor, prefix_of};
 ghost use Rattle.report_words.specs.Words.{benchmark_words, cube_words};
 
 use crate::handing::{number_of, put};
@@ -25,8 +25,8 @@ pub extern "C" fn ssbcube_report(
     format: &[u8],
     out: &mut [u8],
 ) -> i64
-    ensures { Hands (Reports image.now (benchmark_words number.now) format.now as_of)
-        (Refuses image.now (benchmark_words number.now) format.now as_of) out.old out.new result }
+    ensures { Hands (IsReportFor image.now (benchmark_words number.now) format.now as_of)
+        (RefusesReport image.now (benchmark_words number.now) format.now as_of) out.old out.new result }
 {
     match benchmark_report(alloc, image, number, as_of, format) {
         Ok(text) => put(text.as_slice(), out),
@@ -48,8 +48,9 @@ pub extern "C" fn ssbcube_cube(
     format: &[u8],
     out: &mut [u8],
 ) -> i64
-    ensures { Hands (Reports image.now (cube_words set.now by.now agg.now conditions.now) format.now as_of)
-        (Refuses image.now (cube_words set.now by.now agg.now conditions.now) format.now as_of) out.old out.new result }
+    ensures { Hands (IsReportFor image.now (cube_words set.now by.now agg.now conditions.now) format.now as_of)
+        (RefusesReport image.now (cube_words set.now by.now agg.now conditions.now) format.now as_of) out.old out.new
+        result }
 {
     match cube_report(alloc, image, (set, by, agg, conditions), as_of, format) {
         Ok(text) => put(text.as_slice(), out),
@@ -65,8 +66,8 @@ fn benchmark_report(
     as_of: i64,
     format: &[u8],
 ) -> Result<Vec<u8>, Fault>
-    ensures ok { IfOk result (λ text. Reports image.now (benchmark_words number.now) format.now as_of text.items) }
-    ensures refused { IfErr result (Refuses image.now (benchmark_words number.now) format.now as_of) }
+    ensures ok { IfOk result (λ text. IsReportFor image.now (benchmark_words number.now) format.now as_of text.items) }
+    ensures refused { IfErr result (RefusesReport image.now (benchmark_words number.now) format.now as_of) }
 {
     let prefix = prefix(as_of)?;
     let layout = layout_of(format)?;
@@ -83,10 +84,11 @@ fn cube_report(
     format: &[u8],
 ) -> Result<Vec<u8>, Fault>
     ensures ok { IfOk result
-        (λ text. Reports image.now (cube_words words.entry.0.now words.entry.1.now words.entry.2.now words.entry.3.now)
+        (λ text. IsReportFor image.now
+        (cube_words words.entry.0.now words.entry.1.now words.entry.2.now words.entry.3.now)
         format.now as_of text.items) }
     ensures refused { IfErr result
-        (Refuses image.now (cube_words words.entry.0.now words.entry.1.now words.entry.2.now words.entry.3.now)
+        (RefusesReport image.now (cube_words words.entry.0.now words.entry.1.now words.entry.2.now words.entry.3.now)
         format.now as_of) }
 {
     let prefix = prefix(as_of)?;

@@ -13,7 +13,7 @@ use Rattle.std.specs.Int.RustNames.{count_ones}
 use Rattle.std.specs.List.{flat_map, count_by, sum}
 use Rattle.std.specs.Simd.{first_chunks}
 use Rattle.std.specs.Simd.Lanes.{mask_l, zip2, chunk}
-use Rattle.column_kernels.specs.Masks.{bits_of, selected}
+use Rattle.column_kernels.specs.Masks.{bits_of, selected_by}
 use Rattle.column_kernels.proofs.Bits.{length-bits_of, bits_of-mask_l_at, bits_of-next, bits_of-at, ones_of}
 use Rattle.column_kernels.proofs.Bits.{mask_l-next, mask_l-small}
 use Rattle.column_kernels.proofs.Chunks.{zip2-append, zip2_parts, next_pair}
@@ -34,9 +34,9 @@ next_word words i lt =
 
 -- a block more
 pub more_blocks : (words : List ℕ) (i : ℕ) (numbers : List ℕ) → i < length words → 32 * length words ≤ length numbers
-    → sum (selected (flat_map (bits_of 32) (take (i + 1) words)) (take (32 * (i + 1)) numbers))
-    ≡ sum (selected (flat_map (bits_of 32) (take i words)) (take (32 * i) numbers))
-    + sum (selected (bits_of 32 (get_or words i 0)) (chunk (32 * i) 32 numbers))
+    → sum (selected_by (flat_map (bits_of 32) (take (i + 1) words)) (take (32 * (i + 1)) numbers))
+    ≡ sum (selected_by (flat_map (bits_of 32) (take i words)) (take (32 * i) numbers))
+    + sum (selected_by (bits_of 32 (get_or words i 0)) (chunk (32 * i) 32 numbers))
 more_blocks words i numbers lt room =
     let before : List Bool = flat_map (bits_of 32) (take i words) in
     let next : List Bool = bits_of 32 (get_or words i 0) in
@@ -45,40 +45,40 @@ more_blocks words i numbers lt room =
     let rows : length (take (32 * i) numbers) ≡ 32 * i = length-take-le (32 * i) numbers (omega (arith, lt, room)) in
     let long : length before ≡ length (take (32 * i) numbers) =
     omega (arith, length_words (take i words), count, rows) in
-    ap (λ (l : List Bool). sum (selected l (take (32 * (i + 1)) numbers))) (next_word words i lt)
-    ∙ ap (λ (l : List ℕ). sum (selected (before ++ next) l))
+    ap (λ (l : List Bool). sum (selected_by l (take (32 * (i + 1)) numbers))) (next_word words i lt)
+    ∙ ap (λ (l : List ℕ). sum (selected_by (before ++ next) l))
     (ap (λ (m : ℕ). take m numbers) step ∙ take-add (32 * i) 32 numbers)
     ∙ ap sum (selected-append before next (take (32 * i) numbers) (chunk (32 * i) 32 numbers) long)
-    ∙ sum-append (selected before (take (32 * i) numbers)) (selected next (chunk (32 * i) 32 numbers))
+    ∙ sum-append (selected_by before (take (32 * i) numbers)) (selected_by next (chunk (32 * i) 32 numbers))
 
 -- a row more
 pub more_rest : (word i : ℕ) (numbers : List ℕ) → i < length numbers
-    → sum (selected (bits_of (i + 1) word) (take (i + 1) numbers))
-    ≡ sum (selected (bits_of i word) (take i numbers)) + cond (bit_at word i == 1) (get_or numbers i 0) 0
+    → sum (selected_by (bits_of (i + 1) word) (take (i + 1) numbers))
+    ≡ sum (selected_by (bits_of i word) (take i numbers)) + cond (bit_at word i == 1) (get_or numbers i 0) 0
 more_rest word i numbers lt =
     let bit : Bool = bit_at word i == 1 in
     let x : ℕ = get_or numbers i 0 in
     let rows : length (take i numbers) ≡ i = length-take-le i numbers (omega (arith, lt)) in
     let long : length (bits_of i word) ≡ length (take i numbers) = length-bits_of i word ∙ sym rows in
-    ap (λ (l : List Bool). sum (selected l (take (i + 1) numbers))) (bits_of-next i word)
-    ∙ ap (λ (l : List ℕ). sum (selected (bits_of i word ++ bit ∷ []) l)) (take_more numbers i 0 lt)
+    ap (λ (l : List Bool). sum (selected_by l (take (i + 1) numbers))) (bits_of-next i word)
+    ∙ ap (λ (l : List ℕ). sum (selected_by (bits_of i word ++ bit ∷ []) l)) (take_more numbers i 0 lt)
     ∙ ap sum (selected-append (bits_of i word) (bit ∷ []) (take i numbers) (x ∷ []) long)
-    ∙ sum-append (selected (bits_of i word) (take i numbers)) (selected (bit ∷ []) (x ∷ []))
-    ∙ ap (λ (n : ℕ). sum (selected (bits_of i word) (take i numbers)) + n) (one_selected bit x)
+    ∙ sum-append (selected_by (bits_of i word) (take i numbers)) (selected_by (bit ∷ []) (x ∷ []))
+    ∙ ap (λ (n : ℕ). sum (selected_by (bits_of i word) (take i numbers)) + n) (one_selected bit x)
 
 -- the blocks and what is after them
 pub whole_sum : (words : List ℕ) (rest n : ℕ) (numbers : List ℕ) → length numbers ≡ 32 * length words + n
-    → sum (selected (flat_map (bits_of 32) words ++ bits_of n rest) numbers)
-    ≡ sum (selected (flat_map (bits_of 32) words) (take (32 * length words) numbers))
-    + sum (selected (bits_of n rest) (drop (32 * length words) numbers))
+    → sum (selected_by (flat_map (bits_of 32) words ++ bits_of n rest) numbers)
+    ≡ sum (selected_by (flat_map (bits_of 32) words) (take (32 * length words) numbers))
+    + sum (selected_by (bits_of n rest) (drop (32 * length words) numbers))
 whole_sum words rest n numbers room =
     let m : ℕ = 32 * length words in
     let blocks : List Bool = flat_map (bits_of 32) words in
     let rows : length (take m numbers) ≡ m = length-take-le m numbers (omega (arith, room)) in
     let long : length blocks ≡ length (take m numbers) = length_words words ∙ sym rows in
-    ap (λ (l : List ℕ). sum (selected (blocks ++ bits_of n rest) l)) (sym (take-append-drop m numbers))
+    ap (λ (l : List ℕ). sum (selected_by (blocks ++ bits_of n rest) l)) (sym (take-append-drop m numbers))
     ∙ ap sum (selected-append blocks (bits_of n rest) (take m numbers) (drop m numbers) long)
-    ∙ sum-append (selected blocks (take m numbers)) (selected (bits_of n rest) (drop m numbers))
+    ∙ sum-append (selected_by blocks (take m numbers)) (selected_by (bits_of n rest) (drop m numbers))
 
 abbrev set_count : List Bool → ℕ
 set_count [] = 0

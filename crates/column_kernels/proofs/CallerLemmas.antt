@@ -6,12 +6,12 @@ use Rattle.std.proofs.lemmas.List.Recursion.{is_count_by}
 use Rattle.std.specs.List.{count_by, sum}
 use Rattle.std.specs.Simd.Lanes.{sum_l}
 use Rattle.cube_model.specs.Aggregates.{total}
-use Rattle.column_kernels.specs.Masks.{selected}
+use Rattle.column_kernels.specs.Masks.{selected_by}
 use Rattle.column_kernels.proofs.Selecting.{sum_is, total-cons}
 
 -- what is made of each row is selected with the row
 pub selected-map : {A B : Type 0} (f : A → B) (marks : List Bool) (rows : List A)
-    → selected marks (map f rows) ≡ map f (selected marks rows)
+    → selected_by marks (map f rows) ≡ map f (selected_by marks rows)
 selected-map f [] rows = refl
 selected-map f (m ∷ marks) [] = refl
 selected-map f (true ∷ marks) (row ∷ rows) = ap (λ l. f row ∷ l) (selected-map f marks rows)
@@ -33,7 +33,7 @@ chosen_count_is : (marks : List Bool) → chosen_count marks ≡ count_by (λ (c
 chosen_count_is = is_count_by chosen_count (λ (chosen : Bool). chosen) refl (λ chosen marks. refl)
 
 chosen_rows : {A : Type 0} (marks : List Bool) (rows : List A) → length marks ≡ length rows
-    → chosen_count marks ≡ length (selected marks rows)
+    → chosen_count marks ≡ length (selected_by marks rows)
 chosen_rows [] rows long = refl
 chosen_rows (m ∷ marks) [] long = absurd (omega (arith, long))
 chosen_rows (true ∷ marks) (row ∷ rows) long = omega (arith, chosen_rows marks rows (omega (arith, long)))
@@ -41,5 +41,5 @@ chosen_rows (false ∷ marks) (row ∷ rows) long = chosen_rows marks rows (omeg
 
 -- of as many rows as there are marks, those that are set are selected
 pub count_selected : {A : Type 0} (marks : List Bool) (rows : List A) → length marks ≡ length rows
-    → count_by (λ (chosen : Bool). chosen) marks ≡ length (selected marks rows)
+    → count_by (λ (chosen : Bool). chosen) marks ≡ length (selected_by marks rows)
 count_selected marks rows long = sym (chosen_count_is marks) ∙ chosen_rows marks rows long

@@ -8,5 +8,5 @@ abbrev pub all_below : ℕ → List ℕ → Bool
 all_below limit numbers = list_all (λ number. nat_lt number limit) numbers
 
 -- the codes of a column of two bytes each, the lowest byte first
-abbrev pub codes_of : List (List ℕ) → List ℕ
-codes_of column = map (from_le_bytes w16) column
+abbrev pub two_byte_codes : List (List ℕ) → List ℕ
+two_byte_codes column = map (from_le_bytes w16) column

@@ -14,12 +14,12 @@ abbrev pub wholes : List ℕ → List ℤ
 wholes numbers = map (λ number. pos number) numbers
 
 -- what is kept of numbers while they are gone through: of none the ends of the range, the wrong way round
-abbrev pub kept_of : List ℤ → Extremes
-kept_of [] = record {
+abbrev pub kept_extremes : List ℤ → Extremes
+kept_extremes [] = record {
   least = pos 170141183460469231731687303715884105727;
   greatest = negsuc 170141183460469231731687303715884105727;
 }
-kept_of (number ∷ numbers) = record { least = least (number ∷ numbers); greatest = greatest (number ∷ numbers) }
+kept_extremes (number ∷ numbers) = record { least = least (number ∷ numbers); greatest = greatest (number ∷ numbers) }
 
 -- with one number more
 abbrev pub kept_with : Extremes → ℤ → Extremes

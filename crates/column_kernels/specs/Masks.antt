@@ -13,8 +13,8 @@ bits_of zero word = []
 bits_of (suc count) word = (word % 2 == 1) ∷ bits_of count (word / 2)
 
 -- those of some rows, or of their numbers, that are selected, in order
-abbrev pub selected : {A : Type 0} → List Bool → List A → List A
-selected [] rows = []
-selected (chosen ∷ marks) [] = []
-selected (true ∷ marks) (row ∷ rows) = row ∷ selected marks rows
-selected (false ∷ marks) (row ∷ rows) = selected marks rows
+abbrev pub selected_by : {A : Type 0} → List Bool → List A → List A
+selected_by [] rows = []
+selected_by (chosen ∷ marks) [] = []
+selected_by (true ∷ marks) (row ∷ rows) = row ∷ selected_by marks rows
+selected_by (false ∷ marks) (row ∷ rows) = selected_by marks rows

@@ -1,6 +1,6 @@
 //! Checks of columns, in loops that keep a flag and do not end early.
 ghost use Rattle.std.specs.Prelude.{◌≡◌};
-ghost use Rattle.column_kernels.specs.Checks.{all_below, codes_of};
+ghost use Rattle.column_kernels.specs.Checks.{all_below, two_byte_codes};
 ghost use Rattle.column_kernels.specs.Sums.{numbers_of};
 
 /// The least number that is no amount: 2 to the power of 63.
@@ -19,7 +19,7 @@ pub fn are_amounts(column: &[[u8; 8]]) -> bool
 
 /// Whether each code of a column is below a count.
 pub fn are_below(column: &[[u8; 2]], count: u32) -> bool
-    ensures { result ≡ all_below count (codes_of column.now) }
+    ensures { result ≡ all_below count (two_byte_codes column.now) }
 {
     let mut fine = true;
     for code in column {

@@ -2,7 +2,7 @@
 ghost use Rattle.std.specs.Prelude.{◌≡◌, ◌+◌, ◌*◌, ◌^◌, ◌<◌, ◌≤◌, ℕ, ℤ, pos, ◌-ℤ◌, List, length, sum, slice_index};
 ghost use Rattle.std.specs.Prelude.{slice_index_or};
 ghost use Rattle.std.specs.Simd.Lanes.{chunk};
-ghost use Rattle.column_kernels.specs.Masks.{bits_of, selected};
+ghost use Rattle.column_kernels.specs.Masks.{bits_of, selected_by};
 
 use crate::lanes::{sum_of_bytes, sum_of_numbers, sum_of_products};
 
@@ -14,7 +14,7 @@ pub(crate) trait Column {
     /// The sum over those of a block's 32 rows whose bit is set in a word.
     fn block_sum(&self, block: usize, word: u32) -> u128
         requires within { 32 * block + 32 ≤ length (numbers self.now) }
-        ensures value { result ≡ sum (selected (bits_of 32 word) (chunk (32 * block) 32 (numbers self.now))) }
+        ensures value { result ≡ sum (selected_by (bits_of 32 word) (chunk (32 * block) 32 (numbers self.now))) }
         ensures small { result ≤ 2 ^ 97 };
 
     /// The number of a row.

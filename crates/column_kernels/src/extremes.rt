@@ -2,9 +2,9 @@
 ghost use Rattle.std.specs.Prelude.{◌≡◌, ◌≤◌, ◌<◌, ◌+◌, ◌*◌, ◌++◌, ◌↔◌, ◌<ℤ◌, ℤ, IsTrue, [], List, cond, length, take};
 ghost use Rattle.std.specs.Prelude.{drop};
 ghost use Rattle.std.specs.List.{flat_map};
-ghost use Rattle.column_kernels.specs.Masks.{bits_of, selected};
+ghost use Rattle.column_kernels.specs.Masks.{bits_of, selected_by};
 ghost use Rattle.column_kernels.specs.Sums.{numbers_of, products, differences};
-ghost use Rattle.column_kernels.specs.Extremes.{extremes_of, kept_of, kept_with, wholes};
+ghost use Rattle.column_kernels.specs.Extremes.{extremes_of, kept_extremes, kept_with, wholes};
 
 use crate::column::{Bytes, Differences, Numbers, Products, Whole, WholeColumn};
 use crate::mask::{Mask, is_set};
@@ -21,7 +21,7 @@ impl Mask {
     /// The least and the greatest of a column of bytes over the selected rows, if there are any.
     pub fn extremes_of_bytes(&self, column: &[u8]) -> Option<(i128, i128)>
         requires rows { length column.now ≡ length self.now }
-        ensures { result ≡ extremes_of (selected self.now (wholes column.now)) }
+        ensures { result ≡ extremes_of (selected_by self.now (wholes column.now)) }
     {
         selected_extremes(
             self,
@@ -34,7 +34,7 @@ impl Mask {
     /// The same of a column of numbers of eight bytes, the lowest first.
     pub fn extremes_of_numbers(&self, column: &[[u8; 8]]) -> Option<(i128, i128)>
         requires rows { length column.now ≡ length self.now }
-        ensures { result ≡ extremes_of (selected self.now (wholes (numbers_of column.now))) }
+        ensures { result ≡ extremes_of (selected_by self.now (wholes (numbers_of column.now))) }
     {
         selected_extremes(
             self,
@@ -48,7 +48,7 @@ impl Mask {
     pub fn extremes_of_products(&self, column: &[[u8; 8]], factors: &[u8]) -> Option<(i128, i128)>
         requires rows { length column.now ≡ length self.now }
         requires factors { length factors.now ≡ length self.now }
-        ensures { result ≡ extremes_of (selected self.now (wholes (products (numbers_of column.now) factors.now))) }
+        ensures { result ≡ extremes_of (selected_by self.now (wholes (products (numbers_of column.now) factors.now))) }
     {
         selected_extremes(
             self,
@@ -67,7 +67,7 @@ impl Mask {
         requires rows { length column.now ≡ length self.now }
         requires others { length others.now ≡ length self.now }
         ensures { result
-            ≡ extremes_of (selected self.now (differences (numbers_of column.now) (numbers_of others.now))) }
+            ≡ extremes_of (selected_by self.now (differences (numbers_of column.now) (numbers_of others.now))) }
     {
         selected_extremes(self, &Differences { column, others })
     }
@@ -76,7 +76,7 @@ impl Mask {
 impl Extremes {
     // Those of no number.
     fn none() -> Self
-        ensures { result ≡ kept_of [] }
+        ensures { result ≡ kept_extremes [] }
     {
         Extremes {
             least: i128::MAX,
@@ -99,7 +99,7 @@ impl Extremes {
 
     // The least and the greatest, if there was a number.
     fn found(self) -> Option<(i128, i128)>
-        ensures { (numbers : List ℤ) → self ≡ kept_of numbers → result ≡ extremes_of numbers }
+        ensures { (numbers : List ℤ) → self ≡ kept_extremes numbers → result ≡ extremes_of numbers }
     {
         if are_turned(self.least, self.greatest) {
             return None;
@@ -111,7 +111,7 @@ impl Extremes {
 // The least and the greatest of a column over the selected rows.
 fn selected_extremes<C: WholeColumn>(mask: &Mask, column: &C) -> Option<(i128, i128)>
     requires rows { length (C.wholes column.now) ≡ length mask.now }
-    ensures { result ≡ extremes_of (selected mask.now (C.wholes column.now)) }
+    ensures { result ≡ extremes_of (selected_by mask.now (C.wholes column.now)) }
 {
     let bits = mask.words();
     let kept = kept_of_blocks(bits.0, column);
@@ -123,7 +123,8 @@ fn kept_of_blocks<C: WholeColumn>(words: &[u32], column: &C) -> Extremes
     requires rows { 32 * length words.now ≤ length (C.wholes column.now) }
     requires few { length words.now ≤ 2048 }
     ensures { result
-        ≡ kept_of (selected (flat_map (bits_of 32) words.now) (take (32 * length words.now) (C.wholes column.now))) }
+        ≡ kept_extremes
+        (selected_by (flat_map (bits_of 32) words.now) (take (32 * length words.now) (C.wholes column.now))) }
 {
     let mut kept = Extremes::none();
     for i in 0..words.len() {
@@ -142,8 +143,9 @@ fn kept_of_word<C: WholeColumn>(
 ) -> Extremes
     requires rows { first + rows ≤ length (C.wholes column.now) }
     requires few { (rows ≤ 32) × (first ≤ 65536) }
-    ensures { (numbers : List ℤ) → before ≡ kept_of numbers
-        → result ≡ kept_of (numbers ++ selected (bits_of rows word) (take rows (drop first (C.wholes column.now)))) }
+    ensures { (numbers : List ℤ) → before ≡ kept_extremes numbers
+        → result ≡ kept_extremes
+        (numbers ++ selected_by (bits_of rows word) (take rows (drop first (C.wholes column.now)))) }
 {
     let mut kept = before;
     for i in 0..rows as usize {

@@ -1,7 +1,7 @@
 //! Sums over the selected ones of 32 rows, in lanes.
 ghost use Rattle.std.specs.Prelude.{◌≡◌, ◌+◌, ◌*◌, ◌^◌, ◌<◌, ◌≤◌, length, map, sum};
 ghost use Rattle.std.specs.Simd.Lanes.{Each1, sum_l};
-ghost use Rattle.column_kernels.specs.Masks.{bits_of, selected};
+ghost use Rattle.column_kernels.specs.Masks.{bits_of, selected_by};
 ghost use Rattle.column_kernels.specs.Sums.{numbers_of, products, low, high};
 
 use std::simd::prelude::*;
@@ -15,7 +15,7 @@ const BITS: [u64; 32] = [
 
 /// The sum of the bytes whose bit is set in a word.
 pub(crate) fn sum_of_bytes(word: u32, bytes: &[u8; 32]) -> u128
-    ensures value { result ≡ sum (selected (bits_of 32 word) bytes.now) }
+    ensures value { result ≡ sum (selected_by (bits_of 32 word) bytes.now) }
     ensures small { result ≤ 2 ^ 97 }
 {
     u128::from(chosen_sum(word, widened(bytes)))
@@ -24,7 +24,7 @@ pub(crate) fn sum_of_bytes(word: u32, bytes: &[u8; 32]) -> u128
 /// The sum of the numbers of eight bytes whose bit is set in a word. Their low and high halves are added up apart, so
 /// that no lane passes its range.
 pub(crate) fn sum_of_numbers(word: u32, numbers: &[[u8; 8]; 32]) -> u128
-    ensures value { result ≡ sum (selected (bits_of 32 word) (numbers_of numbers.now)) }
+    ensures value { result ≡ sum (selected_by (bits_of 32 word) (numbers_of numbers.now)) }
     ensures small { result ≤ 2 ^ 97 }
 {
     let lanes = loaded(numbers);
@@ -36,7 +36,7 @@ pub(crate) fn sum_of_numbers(word: u32, numbers: &[[u8; 8]; 32]) -> u128
 /// The sum of the numbers of eight bytes whose bit is set in a word, each times a byte. The halves are multiplied and
 /// added up apart, so that no lane passes its range.
 pub(crate) fn sum_of_products(word: u32, numbers: &[[u8; 8]; 32], factors: &[u8; 32]) -> u128
-    ensures value { result ≡ sum (selected (bits_of 32 word) (products (numbers_of numbers.now) factors.now)) }
+    ensures value { result ≡ sum (selected_by (bits_of 32 word) (products (numbers_of numbers.now) factors.now)) }
     ensures small { result ≤ 2 ^ 97 }
 {
     let lanes = loaded(numbers);
@@ -50,7 +50,7 @@ pub(crate) fn sum_of_products(word: u32, numbers: &[[u8; 8]; 32], factors: &[u8;
 fn chosen_sum(word: u32, lanes: u64x32) -> u64
     requires lanes { length lanes ≡ 32 }
     requires small { sum_l lanes < 2 ^ 64 }
-    ensures { result ≡ sum (selected (bits_of 32 word) lanes) }
+    ensures { result ≡ sum (selected_by (bits_of 32 word) lanes) }
 {
     let bits = u64x32::splat(u64::from(word)) & u64x32::from_array(BITS);
     bits.simd_ne(u64x32::splat(0))

@@ -6,7 +6,7 @@ ghost use Rattle.std.specs.List.{flat_map};
 ghost use Rattle.std.specs.Simd.Lanes.{mask_l, zip2};
 ghost use Rattle.cube_model.specs.Aggregates.{total};
 ghost use Rattle.cube_model.specs.Limits.{most_batch_rows};
-ghost use Rattle.column_kernels.specs.Masks.{lies_in, bits_of, selected};
+ghost use Rattle.column_kernels.specs.Masks.{lies_in, bits_of, selected_by};
 ghost use Rattle.column_kernels.specs.Sums.{numbers_of, products, differences};
 
 use crate::block::block_mask;
@@ -103,7 +103,7 @@ impl Mask {
     /// The sum of a column of bytes over the selected rows.
     pub fn sum_of_bytes(&self, column: &[u8]) -> u128
         requires rows { length column.now ≡ length self.now }
-        ensures { result ≡ sum (selected self.now column.now) }
+        ensures { result ≡ sum (selected_by self.now column.now) }
     {
         self.sum(&Bytes { column })
     }
@@ -111,7 +111,7 @@ impl Mask {
     /// The sum of a column of numbers of eight bytes, the lowest first, over the selected rows.
     pub fn sum_of_numbers(&self, column: &[[u8; 8]]) -> u128
         requires rows { length column.now ≡ length self.now }
-        ensures { result ≡ sum (selected self.now (numbers_of column.now)) }
+        ensures { result ≡ sum (selected_by self.now (numbers_of column.now)) }
     {
         self.sum(&Numbers { column })
     }
@@ -120,7 +120,7 @@ impl Mask {
     pub fn sum_of_products(&self, column: &[[u8; 8]], factors: &[u8]) -> u128
         requires rows { length column.now ≡ length self.now }
         requires factors { length factors.now ≡ length self.now }
-        ensures { result ≡ sum (selected self.now (products (numbers_of column.now) factors.now)) }
+        ensures { result ≡ sum (selected_by self.now (products (numbers_of column.now) factors.now)) }
     {
         self.sum(&Products { column, factors })
     }
@@ -129,7 +129,7 @@ impl Mask {
     pub fn sum_of_differences(&self, column: &[[u8; 8]], others: &[[u8; 8]]) -> i128
         requires rows { length column.now ≡ length self.now }
         requires others { length others.now ≡ length self.now }
-        ensures { result ≡ total (selected self.now (differences (numbers_of column.now) (numbers_of others.now))) }
+        ensures { result ≡ total (selected_by self.now (differences (numbers_of column.now) (numbers_of others.now))) }
     {
         let sum = self.sum(&Numbers { column });
         let other = self.sum(&Numbers { column: others });
@@ -139,7 +139,7 @@ impl Mask {
     // The sum of a column over the selected rows.
     fn sum<C: Column>(&self, column: &C) -> u128
         requires rows { length (C.numbers column.now) ≡ length self.now }
-        ensures value { result ≡ sum (selected self.now (C.numbers column.now)) }
+        ensures value { result ≡ sum (selected_by self.now (C.numbers column.now)) }
         ensures small { result < 2 ^ 109 }
     {
         sum_of_blocks(&self.words, column)
@@ -223,7 +223,7 @@ fn ones(words: &[u32]) -> u32
 fn sum_of_blocks<C: Column>(words: &[u32], column: &C) -> u128
     requires rows { 32 * length words.now ≤ length (C.numbers column.now) }
     requires few { length words.now ≤ 2048 }
-    ensures value { result ≡ sum (selected (flat_map (bits_of 32) words.now)
+    ensures value { result ≡ sum (selected_by (flat_map (bits_of 32) words.now)
         (take (32 * length words.now) (C.numbers column.now))) }
     ensures small { result ≤ length words.now * 2 ^ 97 }
 {
@@ -238,7 +238,7 @@ fn sum_of_blocks<C: Column>(words: &[u32], column: &C) -> u128
 fn sum_of_rest<C: Column>(blocks: usize, word: u32, rows: u32, column: &C) -> u128
     requires rows { length (C.numbers column.now) ≡ 32 * blocks + rows }
     requires few { (blocks ≤ 2048) × (rows < 32) }
-    ensures value { result ≡ sum (selected (bits_of rows word) (drop (32 * blocks) (C.numbers column.now))) }
+    ensures value { result ≡ sum (selected_by (bits_of rows word) (drop (32 * blocks) (C.numbers column.now))) }
     ensures small { result ≤ rows * 2 ^ 97 }
 {
     let mut sum = 0;

@@ -4,7 +4,7 @@ use Rattle.std.specs.List.{flat_map}
 use Rattle.std.proofs.lemmas.Grind.{flat_map-append}
 use Rattle.cube_model.specs.declared.rows.LineOrder.{LineOrder}
 use Rattle.column_segment.specs.Columns.{figure_columns, key_columns, number_columns, text_columns}
-use Rattle.column_segment.specs.Segment.{header_of, number_column, segment_of, text_column}
+use Rattle.column_segment.specs.Segment.{segment_header, number_column, segment_of, text_column}
 
 -- a part after others is a part after their start
 pub then_part : (s0 s1 s2 front part : List ℕ) → s1 ≡ s0 ++ front → s2 ≡ s1 ++ part → s2 ≡ s0 ++ (front ++ part)
@@ -25,11 +25,11 @@ no_part f s = sym (append-nil s)
 
 -- a batch is its header, its keys, its figures and its texts
 pub batch_put : (number : ℕ) (rows : List LineOrder) (s0 s1 s2 s3 s4 : List ℕ)
-    → s1 ≡ s0 ++ header_of number (length rows)
+    → s1 ≡ s0 ++ segment_header number (length rows)
     → s2 ≡ s1 ++ flat_map (number_column rows) key_columns → s3 ≡ s2 ++ flat_map (number_column rows) figure_columns
     → s4 ≡ s3 ++ flat_map (text_column rows) text_columns → s4 ≡ s0 ++ segment_of number rows
 batch_put number rows s0 s1 s2 s3 s4 header keys figures texts =
-    let head : List ℕ = header_of number (length rows) in
+    let head : List ℕ = segment_header number (length rows) in
     let key : List ℕ = flat_map (number_column rows) key_columns in
     let figure : List ℕ = flat_map (number_column rows) figure_columns in
     let text : List ℕ = flat_map (text_column rows) text_columns in

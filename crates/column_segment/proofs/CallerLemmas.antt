@@ -11,11 +11,11 @@ use Rattle.wire.specs.Spelling.{spelling}
 use Rattle.wire.proofs.CallerLemmas.{spelling-one}
 use Rattle.dictionary.specs.Dictionary.{firsts}
 use Rattle.dictionary.specs.Spelling.{AreShort, texts_spelling}
-use Rattle.dictionary.specs.Columns.{codes_of, codes_spelling, column_spelling, text_at}
+use Rattle.dictionary.specs.Columns.{codes_of, codes_spelling, column_spelling, text_of_code}
 use Rattle.dictionary.proofs.ColumnLaws.{AreCodes-below, AreProper-firsts, column_has_codes, length-firsts}
 use Rattle.dictionary.proofs.ColumnLaws.{texts_spelling-one}
 use Rattle.column_segment.specs.Columns.{Column, FitsColumn, number_columns, text_columns, text_of}
-use Rattle.column_segment.specs.Segment.{IsBatch, IsSegment, header_of, number_column, text_column}
+use Rattle.column_segment.specs.Segment.{IsBatch, IsSegment, segment_header, number_column, text_column}
 use Rattle.column_segment.specs.declared.columns.TextColumn.{TextColumn}
 
 -- bytes begin with one list of so many numbers at most
@@ -58,8 +58,8 @@ texts-one column others xs ys many few short also same =
     let below1 = weaker (length (firsts column)) c1 (omega arith) (AreCodes-below (length (firsts column)) c1 has1.0) in
     let below2 = weaker (length (firsts others)) c2 (omega arith) (AreCodes-below (length (firsts others)) c2 has2.0) in
     let same_codes = numbers-one 2 c1 c2 xs ys (len1 ∙ many ∙ sym len2) below1 below2 texts.1 in (
-      sym has1.1 ∙ ap (λ (t : List (List ℕ)). map (text_at t) c1) texts.0
-          ∙ ap (map (text_at (firsts others))) same_codes.0 ∙ has2.1,
+      sym has1.1 ∙ ap (λ (t : List (List ℕ)). map (text_of_code t) c1) texts.0
+          ∙ ap (map (text_of_code (firsts others))) same_codes.0 ∙ has2.1,
       same_codes.1,
     )
   where
@@ -241,13 +241,14 @@ rows-one (one ∷ rows) (other ∷ others) many same texts =
 
 -- the name, the number and how many rows, one after the other
 pub header-append : (n c : ℕ) (rest : List ℕ)
-    → header_of n c ++ rest ≡ codes "SEG1" ++ (spelling 4 n ++ (spelling 4 c ++ rest))
+    → segment_header n c ++ rest ≡ codes "SEG1" ++ (spelling 4 n ++ (spelling 4 c ++ rest))
 header-append n c rest = append_assoc (codes "SEG1") (spelling 4 n ++ spelling 4 c) rest
     ∙ ap (λ (part : List ℕ). codes "SEG1" ++ part) (append_assoc (spelling 4 n) (spelling 4 c) rest)
 
 pub header-one : (number count others other : ℕ) (xs ys : List ℕ) → number < 2 ^ 32 → count < 2 ^ 32 → others < 2 ^ 32
     → other < 2 ^ 32
-    → header_of number count ++ xs ≡ header_of others other ++ ys → (number ≡ others) × (count ≡ other) × (xs ≡ ys)
+    → segment_header number count ++ xs ≡ segment_header others other ++ ys → (number ≡ others) × (count ≡ other)
+    × (xs ≡ ys)
 header-one number count others other xs ys fit1 fit2 fit3 fit4 same =
     let parts : codes "SEG1" ++ (spelling 4 number ++ (spelling 4 count ++ xs)) ≡ codes "SEG1"
     ++ (spelling 4 others ++ (spelling 4 other ++ ys)) =

@@ -8,7 +8,7 @@ use Rattle.std.proofs.lemmas.List.Elements.{All-from_recursion}
 use Rattle.wire.specs.Spelling.{spelling}
 use Rattle.wire.proofs.CallerLemmas.{length-spelling}
 use Rattle.dictionary.specs.Dictionary.{Texts, firsts}
-use Rattle.dictionary.specs.Columns.{codes_of, text_at}
+use Rattle.dictionary.specs.Columns.{codes_of, text_of_code}
 use Rattle.dictionary.proofs.ColumnLaws.{AreCodes-below, column_has_codes}
 use Rattle.column_segment.specs.Coding.{AreCoded, AreCodesOf}
 use Rattle.column_segment.proofs.Passes.{codes_back, weaker}
@@ -55,7 +55,7 @@ codes_read column texts chunks long few are =
     ap (map (from_le_bytes w16)) (chunks_are chunks (codes_of column) long are.codes_are)
     ∙ codes_back (codes_of column) least in
     record {
-      texts = (λ i. map (text_at (are.texts_are i)) (read i)) ∙ laws.1;
+      texts = (λ i. map (text_of_code (are.texts_are i)) (read i)) ∙ laws.1;
       below = subst (All (λ (code : ℕ). code < length texts.texts)) (sym read)
           (subst (λ (t : List (List ℕ)). All (λ (code : ℕ). code < length t) (codes_of column)) (sym are.texts_are)
           (All-from_recursion (λ (code : ℕ). code < length (firsts column)) (codes_of column) below));

@@ -7,9 +7,9 @@ use Rattle.std.proofs.Math.Seq.{take-append_seam}
 use Rattle.std.proofs.lemmas.List.{take-append-drop}
 use Rattle.std.proofs.lemmas.List.Elements.{recursion_from_All}
 use Rattle.column_segment.specs.declared.columns.FactColumn.{FactColumn}
-use Rattle.column_segment.specs.Projected.{FitsColumnIn, HasColumns, ShareColumn, place_of, width_of}
+use Rattle.column_segment.specs.Projected.{FitsColumnIn, HasColumns, ShareColumn, fact_place, width_of}
 use Rattle.column_segment.specs.Reading.{HasHeader, HasNumbers}
-use Rattle.column_segment.specs.Segment.{header_of}
+use Rattle.column_segment.specs.Segment.{segment_header}
 use Rattle.column_segment.proofs.OneColumn.{column_part, column_within, fits_shared, part_same}
 use Rattle.column_segment.proofs.Passes.{length-header}
 
@@ -17,7 +17,7 @@ use Rattle.column_segment.proofs.Passes.{length-header}
 header_moved : (some others : List ℕ) (number rows : ℕ) → take 12 some ≡ take 12 others → HasHeader some number rows
     → HasHeader others number rows
 header_moved some others number rows same has =
-    let head : List ℕ = header_of number rows in
+    let head : List ℕ = segment_header number rows in
     let first : take 12 some ≡ head =
     ap (take 12) has.spelled ∙ ap (λ (n : ℕ). take n (head ++ drop 12 some)) (sym (length-header number rows))
     ∙ take-append_seam head (drop 12 some) in
@@ -46,7 +46,7 @@ module _ (new text : List ℕ) (rows : ℕ) (room : 12 + 63 * rows ≤ length ne
   front_shares : (column : FactColumn) → ShareColumn rows new text column
   front_shares column =
       let within = column_within column rows in
-      let at : ℕ = 12 + place_of column * rows in
+      let at : ℕ = 12 + fact_place column * rows in
       let count : ℕ = width_of column * rows in
       column_part column rows new
       ∙ part_same at count new text (omega (arith, within, room)) (omega (arith, within, enough))

@@ -8,7 +8,7 @@ use Rattle.cube_model.specs.Limits.{most_batch_rows}
 use Rattle.cube_model.specs.declared.rows.LineOrder.{LineOrder}
 use Rattle.wire.specs.Spelling.{spelling}
 use Rattle.column_segment.specs.Columns.{Column, text_of}
-use Rattle.column_segment.specs.Encoding.{HasRoom, HaveRoom, HaveTexts, IsCoding, number_chunks}
+use Rattle.column_segment.specs.Encoding.{CodingHasRoom, CodingsHaveRoom, HaveTexts, IsCoding, number_chunks}
 use Rattle.column_segment.specs.Segment.{number_column}
 use Rattle.column_segment.specs.declared.coding.Coding.{Coding}
 use Rattle.column_segment.specs.declared.coding.Texts.{Texts}
@@ -42,7 +42,7 @@ flat_more old new chunk put = ap (flat_map (λ code. code)) put
     ∙ sym (flat_map_more (λ (code : List ℕ). code) [] old chunk)
 
 one_room : (column : TextColumn) (rows : List LineOrder) (coding : Coding) → IsCoding (map (text_of column) rows) coding
-    → length rows < most_batch_rows → HasRoom coding
+    → length rows < most_batch_rows → CodingHasRoom coding
 one_room column rows coding are few = record {
   room = has_room (map (text_of column) rows) coding.texts (flat_map (λ code. code) coding.codes.items) are
       (omega (arith, length-map rows (text_of column), few));
@@ -51,7 +51,7 @@ one_room column rows coding are few = record {
 
 -- after fewer rows than a batch may have there is room for one more
 pub room_left : (rows : List LineOrder) (texts : Texts) → HaveTexts rows texts → length rows < most_batch_rows
-    → HaveRoom texts
+    → CodingsHaveRoom texts
 room_left rows texts have few = record {
   orderpriority = one_room OrderPriority rows texts.orderpriority have.orderpriority few;
   shippriority = one_room ShipPriority rows texts.shippriority have.shippriority few;

@@ -10,7 +10,7 @@ use Rattle.wire.specs.Reading.{ReadsNumber, TakesBytes}
 use Rattle.wire.proofs.CallerLemmas.{length-spelling}
 use Rattle.dictionary.proofs.CallerLemmas.{bytes_eq-refl, bytes_eq-same}
 use Rattle.column_segment.specs.Reading.{HasHeader}
-use Rattle.column_segment.specs.Segment.{header_of}
+use Rattle.column_segment.specs.Segment.{segment_header}
 use Rattle.column_segment.proofs.CallerLemmas.{header-append}
 use Rattle.column_segment.proofs.Passes.{header_holds}
 
@@ -80,13 +80,13 @@ module _ (old r0 name : List ℕ) (taken : TakesBytes 4 old r0 name) where
 
       pub header_is : name ≡ codes "SEG1" → k ≤ most_batch_rows → HasHeader old n k
       header_is own few =
-          let parts : old ≡ header_of n k ++ r2 =
+          let parts : old ≡ segment_header n k ++ r2 =
           taken.spelled ∙ ap (λ (front : List ℕ). front ++ r0) own
           ∙ ap (λ (l : List ℕ). codes "SEG1" ++ l)
           (numbered.spelled ∙ ap (λ (l : List ℕ). spelling 4 n ++ l) counted.spelled)
           ∙ sym (header-append n k r2) in
           record {
-            spelled = parts ∙ ap (λ (l : List ℕ). header_of n k ++ l) (sym (header_holds old r2 n k parts));
+            spelled = parts ∙ ap (λ (l : List ℕ). segment_header n k ++ l) (sym (header_holds old r2 n k parts));
             fits = omega (arith, numbered.fits);
             few = few;
           }

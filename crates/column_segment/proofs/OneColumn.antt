@@ -15,7 +15,7 @@ use Rattle.column_segment.specs.declared.columns.ByteColumn.TheVariants.{Quantit
 use Rattle.column_segment.specs.declared.columns.FactColumn.{FactColumn}
 use Rattle.column_segment.specs.declared.columns.FactColumn.TheVariants.{Amount, Number, Figure}
 use Rattle.column_segment.specs.Decoded.{column_bytes}
-use Rattle.column_segment.specs.Projected.{FitsColumnIn, ShareColumn, StaysOutside, place_of, width_of}
+use Rattle.column_segment.specs.Projected.{FitsColumnIn, ShareColumn, StaysOutside, fact_place, width_of}
 use Rattle.column_segment.proofs.Chunked.{within_rows}
 
 -- ---- a part of a list, item by item
@@ -58,7 +58,7 @@ side at count place = by (nat_lt place at) refl
 
 -- ---- where columns are
 
-pub column_place : (column : FactColumn) → place_of column + width_of column ≤ 63
+pub column_place : (column : FactColumn) → fact_place column + width_of column ≤ 63
 column_place (Amount OrderKey) = omega arith
 column_place (Amount ExtendedPrice) = omega arith
 column_place (Amount OrdTotalPrice) = omega arith
@@ -74,45 +74,45 @@ column_place (Figure Discount) = omega arith
 column_place (Figure Tax) = omega arith
 
 pub column_within : (column : FactColumn) (rows : ℕ)
-    → 12 + place_of column * rows + width_of column * rows ≤ 12 + 63 * rows
-column_within column rows = omega (arith, within_rows (place_of column) (width_of column) rows (column_place column))
+    → 12 + fact_place column * rows + width_of column * rows ≤ 12 + 63 * rows
+column_within column rows = omega (arith, within_rows (fact_place column) (width_of column) rows (column_place column))
 
 pub column_part : (column : FactColumn) (rows : ℕ) (xs : List ℕ)
-    → column_bytes (place_of column) (width_of column) rows xs
-    ≡ take (width_of column * rows) (drop (12 + place_of column * rows) xs)
-column_part column rows xs = ap (take (width_of column * rows)) (drop-drop (place_of column * rows) 12 xs)
+    → column_bytes (fact_place column) (width_of column) rows xs
+    ≡ take (width_of column * rows) (drop (12 + fact_place column * rows) xs)
+column_part column rows xs = ap (take (width_of column * rows)) (drop-drop (fact_place column * rows) 12 xs)
 
 -- ---- a column read
 
 module _ (old new : List ℕ) (rows : ℕ) (column : FactColumn) (room : 12 + 63 * rows ≤ length old)
-    (outside : StaysOutside (12 + place_of column * rows) (width_of column * rows) old new) where
+    (outside : StaysOutside (12 + fact_place column * rows) (width_of column * rows) old new) where
   -- columns that have what a text has, once this one has
   module _ (text : List ℕ) (enough : 12 + 63 * rows ≤ length text)
-      (inside : (place : ℕ) → place < width_of column * rows → slice_index new (12 + place_of column * rows + place)
-      ≡ slice_index text (12 + place_of column * rows + place)) where
+      (inside : (place : ℕ) → place < width_of column * rows → slice_index new (12 + fact_place column * rows + place)
+      ≡ slice_index text (12 + fact_place column * rows + place)) where
     pub shares : ShareColumn rows new text column
     shares =
         let within = column_within column rows in
         column_part column rows new
-        ∙ part_same (12 + place_of column * rows) (width_of column * rows) new text
+        ∙ part_same (12 + fact_place column * rows) (width_of column * rows) new text
         (omega (arith, within, room, outside.long)) (omega (arith, within, enough)) inside
         ∙ sym (column_part column rows text)
 
     pub still_shares : (other : FactColumn) → ShareColumn rows old text other → ShareColumn rows new text other
     still_shares other same =
         let within = column_within other rows in
-        let at : ℕ = 12 + place_of other * rows in
+        let at : ℕ = 12 + fact_place other * rows in
         let count : ℕ = width_of other * rows in
         let before : take count (drop at old) ≡ take count (drop at text) = sym (column_part other rows old) ∙ same
         ∙ column_part other rows text in
         column_part other rows new
         ∙ part_same at count new text (omega (arith, within, room, outside.long)) (omega (arith, within, enough))
         (λ place below. by (at + place) (item_same at count old text before place below)
-        (side (12 + place_of column * rows) (width_of column * rows) (at + place)))
+        (side (12 + fact_place column * rows) (width_of column * rows) (at + place)))
         ∙ sym (column_part other rows text)
       where
         by : (place : ℕ) → slice_index old place ≡ slice_index text place
-            → Side (12 + place_of column * rows) (width_of column * rows) place
+            → Side (12 + fact_place column * rows) (width_of column * rows) place
             → slice_index new place ≡ slice_index text place
         by place was (inl front) = outside.front place front ∙ was
         by place was (inr (inl back)) = outside.back place back ∙ was

@@ -29,14 +29,14 @@ use Rattle.column_segment.specs.Columns.{Column, FitsColumn, amount_of, amounts,
 use Rattle.column_segment.specs.Decoded.{amounts_in, column_bytes, texts_in}
 use Rattle.column_segment.specs.Reading.{BeginsWithCodes, BeginsWithNoColumn, HasColumn, HasHeader, HasNumbers}
 use Rattle.column_segment.specs.Reading.{SpellNoTexts, SpellNone}
-use Rattle.column_segment.specs.Segment.{IsBatch, IsSegment, header_of, number_column, text_column}
+use Rattle.column_segment.specs.Segment.{IsBatch, IsSegment, segment_header, number_column, text_column}
 use Rattle.column_segment.proofs.CallerLemmas.{header-one, shorts, texts-one}
 use Rattle.column_segment.proofs.Chunked.{AreBytes, chunks_of, length-parts, read_2, read_8}
 use Rattle.column_segment.proofs.Whole.{column_many, column_short, column_holds, sum_times, total}
 
 -- ---- the header
 
-pub length-header : (number rows : ℕ) → length (header_of number rows) ≡ 12
+pub length-header : (number rows : ℕ) → length (segment_header number rows) ≡ 12
 length-header number rows =
     omega (
       arith,
@@ -47,9 +47,10 @@ length-header number rows =
     )
 
 -- a header is before what is left after twelve bytes
-pub header_holds : (text rest : List ℕ) (number rows : ℕ) → text ≡ header_of number rows ++ rest → drop 12 text ≡ rest
+pub header_holds : (text rest : List ℕ) (number rows : ℕ) → text ≡ segment_header number rows ++ rest
+    → drop 12 text ≡ rest
 header_holds text rest number rows is = ap (drop 12) is
-    ∙ drop_at (header_of number rows) rest 12 (length-header number rows)
+    ∙ drop_at (segment_header number rows) rest 12 (length-header number rows)
 
 pub has_header : (text : List ℕ) (number : ℕ) (rows : List LineOrder) → IsSegment text number rows
     → HasHeader text number (length rows)
@@ -57,7 +58,7 @@ has_header text number rows is =
     let rest : List ℕ = flat_map (number_column rows) number_columns ++ flat_map (text_column rows) text_columns in
     record {
       spelled = is.spelled
-          ∙ ap (λ (l : List ℕ). header_of number (length rows) ++ l)
+          ∙ ap (λ (l : List ℕ). segment_header number (length rows) ++ l)
           (sym (header_holds text rest number (length rows) is.spelled));
       fits = is.number_fits;
       few = is.batch.few;
@@ -176,7 +177,7 @@ module _ (text : List ℕ) (number : ℕ) (rows : List LineOrder) (is : IsSegmen
           numbers_long,
           length-drop 12 text,
           ap length is.spelled,
-          length-append (header_of number (length rows))
+          length-append (segment_header number (length rows))
               (flat_map (number_column rows) number_columns ++ flat_map (text_column rows) text_columns),
           length-header number (length rows),
         );

@@ -14,8 +14,8 @@ use Rattle.column_segment.specs.declared.columns.FactColumn.{FactColumn}
 use Rattle.column_segment.specs.declared.columns.FactColumn.TheVariants.{Amount, Number, Figure}
 use Rattle.column_segment.specs.declared.layout.Layout.{Layout}
 use Rattle.column_segment.specs.Columns.{Column, FitsColumn, amount_of, amounts, bytes, number_columns, numbers}
-use Rattle.column_segment.specs.Decoded.{HoldsColumns, column_bytes, rows_in}
-use Rattle.column_segment.specs.Projected.{AgreeOn, HasColumns, ShareColumn, place_of, value_of, width_of}
+use Rattle.column_segment.specs.Decoded.{HoldsColumns, column_bytes, decoded_rows}
+use Rattle.column_segment.specs.Projected.{AgreeOn, HasColumns, ShareColumn, fact_place, fact_value, width_of}
 use Rattle.column_segment.specs.Reading.{HasHeader, HasNumbers}
 use Rattle.column_segment.specs.Segment.{FitColumns, IsSegment, number_column}
 use Rattle.column_segment.proofs.CallerLemmas.{column-one, header-one}
@@ -57,7 +57,7 @@ fits (Figure Tax) rows f = f.1.1.1.1.1.1.1.1.1.1.1.1.0
 
 holds : (column : FactColumn) (n : ℕ) (rows : List LineOrder) (text : List ℕ)
     → Sections number_columns 0 n rows (drop 12 text)
-    → column_bytes (place_of column) (width_of column) n text ≡ number_column rows (column_of column)
+    → column_bytes (fact_place column) (width_of column) n text ≡ number_column rows (column_of column)
 holds (Amount OrderKey) n rows text s = s.0
 holds (Number LineNumber) n rows text s = s.1.0
 holds (Number CustKey) n rows text s = s.1.1.0
@@ -73,7 +73,7 @@ holds (Amount SupplyCost) n rows text s = s.1.1.1.1.1.1.1.1.1.1.1.0
 holds (Figure Tax) n rows text s = s.1.1.1.1.1.1.1.1.1.1.1.1.0
 
 value_is : (column : FactColumn) (rows : List LineOrder)
-    → map (value_of column) rows ≡ map (column_of column).value rows
+    → map (fact_value column) rows ≡ map (column_of column).value rows
 value_is (Amount column) rows = refl
 value_is (Number column) rows = refl
 value_is (Figure column) rows = refl
@@ -81,35 +81,36 @@ value_is (Figure column) rows = refl
 -- ---- the rows of some bytes
 
 module _ (own : List ℕ) (layout : Layout) (has : HoldsColumns own layout.rows) (are : AreBytes own) where
-  own_fits : (column : FactColumn) → All (FitsColumn (column_of column)) (rows_in own layout)
+  own_fits : (column : FactColumn) → All (FitsColumn (column_of column)) (decoded_rows own layout)
   own_fits (Amount column) = amounts_small own layout has.room are column
   own_fits (Number column) = numbers_fit own layout has.room are column
   own_fits (Figure column) = bytes_fit own layout has.room are column
 
-  own_holds : (column : FactColumn) → column_bytes (place_of column) (width_of column) layout.rows own
-      ≡ number_column (rows_in own layout) (column_of column)
+  own_holds : (column : FactColumn) → column_bytes (fact_place column) (width_of column) layout.rows own
+      ≡ number_column (decoded_rows own layout) (column_of column)
   own_holds (Amount column) = sym (amounts_hold own layout has.room are column (column_place (Amount column)))
   own_holds (Number column) = sym (numbers_hold own layout has.room are column (column_place (Number column)))
   own_holds (Figure column) = sym (bytes_hold own layout has.room are column)
 
   module _ (text : List ℕ) (another : ℕ) (others : List LineOrder) (is : IsSegment text another others)
       (many : layout.rows ≡ length others) where
-    long : length (rows_in own layout) ≡ length others
+    long : length (decoded_rows own layout) ≡ length others
     long = rows_many own layout ∙ many
 
     shared_values : (column : FactColumn) → ShareColumn layout.rows own text column
-        → map (value_of column) (rows_in own layout) ≡ map (value_of column) others
+        → map (fact_value column) (decoded_rows own layout) ≡ map (fact_value column) others
     shared_values column same =
         let two = holds column (length others) others text (segment_sections text another others is) in
-        value_is column (rows_in own layout)
-        ∙ column-one (column_of column) (rows_in own layout) others long (wide column) (own_fits column)
+        value_is column (decoded_rows own layout)
+        ∙ column-one (column_of column) (decoded_rows own layout) others long (wide column) (own_fits column)
         (fits column others is.fits)
-        (sym (own_holds column) ∙ same ∙ ap (λ (m : ℕ). column_bytes (place_of column) (width_of column) m text) many
+        (sym (own_holds column) ∙ same ∙ ap (λ (m : ℕ). column_bytes (fact_place column) (width_of column) m text) many
         ∙ two)
         ∙ sym (value_is column others)
 
     all_shared : (columns : List FactColumn) → AllByRecursion (ShareColumn layout.rows own text) columns
-        → AllByRecursion (λ column. map (value_of column) (rows_in own layout) ≡ map (value_of column) others) columns
+        → AllByRecursion (λ column. map (fact_value column) (decoded_rows own layout) ≡ map (fact_value column) others)
+        columns
     all_shared [] same = tt
     all_shared (column ∷ columns) same = (shared_values column same.0, all_shared columns same.1)
 
@@ -124,7 +125,7 @@ same_header text number other rows others one two =
 pub read_agree : (own : List ℕ) (layout : Layout) → HoldsColumns own layout.rows → AreBytes own
     → (text : List ℕ) (number other : ℕ) (others : List LineOrder) (columns : List FactColumn)
     → HasColumns text number layout.rows → AllByRecursion (ShareColumn layout.rows own text) columns
-    → IsSegment text other others → (other ≡ number) × AgreeOn columns (rows_in own layout) others
+    → IsSegment text other others → (other ≡ number) × AgreeOn columns (decoded_rows own layout) others
 read_agree own layout has are text number other others columns found shared is =
     let same = same_header text other number (length others) layout.rows (has_header text other others is)
     found.header in (
@@ -141,17 +142,17 @@ pub found_agrees : (shown new kept : List ℕ) (layout : Layout) (number : ℕ) 
     → ((text : List ℕ) (number other : ℕ) (others : List LineOrder) (columns : List FactColumn)
     → HasColumns text number layout.rows → AllByRecursion (ShareColumn layout.rows shown text) columns
     → IsSegment text other others
-    → (other ≡ number) × AgreeOn columns (rows_in shown layout) others)
+    → (other ≡ number) × AgreeOn columns (decoded_rows shown layout) others)
     → (text : Option (List ℕ))
     → IsSomeAnd text (λ t. HasColumns t number layout.rows × AllByRecursion (ShareColumn layout.rows new t) columns)
     → IsSomeAnd text (λ t. (other : ℕ) (others : List LineOrder) → IsSegment t other others
-    → (other ≡ number) × AgreeOn columns (rows_in kept layout) others)
+    → (other ≡ number) × AgreeOn columns (decoded_rows kept layout) others)
 found_agrees shown new kept layout number columns is also law None found = absurd found
 found_agrees shown new kept layout number columns is also law (Some text) found = λ other others segment.
     let own = law text number other others columns found.0
     (subst (λ (l : List ℕ). AllByRecursion (ShareColumn layout.rows l text) columns) (sym (is ∙ also)) found.1)
     segment in
-    (own.0, subst (λ (l : List ℕ). AgreeOn columns (rows_in l layout) others) is own.1)
+    (own.0, subst (λ (l : List ℕ). AgreeOn columns (decoded_rows l layout) others) is own.1)
 
 -- ---- what each batch of so many rows has
 

@@ -3,7 +3,7 @@ use Rattle.std.proofs.Common.{◌≤◌, ◌&&◌, ◌↔◌, sym, refl, true≢
 use Rattle.cube_model.specs.declared.rows.LineOrder.{LineOrder}
 use Rattle.cube_model.specs.Limits.{longest_text, most_batch_rows}
 use Rattle.column_segment.specs.Columns.{text_of}
-use Rattle.column_segment.specs.Segment.{HasShortTexts, IsBatch}
+use Rattle.column_segment.specs.Segment.{HasShortFactTexts, IsBatch}
 use Rattle.column_segment.specs.declared.columns.TextColumn.{TextColumn}
 use Rattle.column_segment.specs.declared.columns.TextColumn.TheVariants.{OrderPriority, ShipPriority, CommitDate}
 use Rattle.column_segment.specs.declared.columns.TextColumn.TheVariants.{ShipMode}
@@ -29,13 +29,14 @@ four_tests P false b c d one two three four = (λ e. absurd (true≢false (sym e
 pub short_texts : (row : LineOrder) (a b c d : Bool) → IsTrue a ↔ (length (text_of OrderPriority row) ≤ longest_text)
     → IsTrue b ↔ (length (text_of ShipPriority row) ≤ longest_text) → IsTrue c
     ↔ (length (text_of CommitDate row) ≤ longest_text)
-    → IsTrue d ↔ (length (text_of ShipMode row) ≤ longest_text) → IsTrue (((a && b) && c) && d) ↔ HasShortTexts row
+    → IsTrue d ↔ (length (text_of ShipMode row) ≤ longest_text) → IsTrue (((a && b) && c) && d) ↔ HasShortFactTexts row
 short_texts row a b c d one two three four =
     let tests = four_tests (λ column. length (text_of column row) ≤ longest_text) a b c d one two three four in
     (λ e. record { each = tests.0 e }, λ short. tests.1 short.each)
 
 -- few rows with short texts are a batch
-pub batch_of : (rows : List LineOrder) (b : Bool) → length rows ≤ most_batch_rows → IsTrue b ↔ All HasShortTexts rows
+pub batch_of : (rows : List LineOrder) (b : Bool) → length rows ≤ most_batch_rows → IsTrue b
+    ↔ All HasShortFactTexts rows
     → IsTrue b ↔ IsBatch rows
 batch_of rows b few test = (
   λ e. record { few = few; short = λ column i d lt. (test.0 e i d lt).each column },

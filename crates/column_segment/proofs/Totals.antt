@@ -11,7 +11,7 @@ use Rattle.std.proofs.lemmas.Simd.{map-map}
 use Rattle.cube_model.specs.Aggregates.{total}
 use Rattle.cube_model.specs.Limits.{most_batch_rows}
 use Rattle.cube_model.specs.declared.rows.LineOrder.{LineOrder}
-use Rattle.column_kernels.specs.Masks.{lies_in, selected}
+use Rattle.column_kernels.specs.Masks.{lies_in, selected_by}
 use Rattle.column_kernels.specs.Sums.{differences, numbers_of, products}
 use Rattle.column_kernels.proofs.CallerLemmas.{selected-map, total_of_numbers}
 use Rattle.column_segment.specs.declared.columns.AmountColumn.{AmountColumn}
@@ -21,7 +21,7 @@ use Rattle.column_segment.specs.declared.columns.ByteColumn.{ByteColumn}
 use Rattle.column_segment.specs.declared.columns.ByteColumn.TheVariants.{Quantity, Discount}
 use Rattle.column_segment.specs.declared.layout.Layout.{Layout}
 use Rattle.column_segment.specs.Columns.{amount_of, byte_of}
-use Rattle.column_segment.specs.Decoded.{HoldsColumns, amount_place, byte_place, column_bytes, rows_in}
+use Rattle.column_segment.specs.Decoded.{HoldsColumns, amount_place, byte_place, column_bytes, decoded_rows}
 use Rattle.column_segment.proofs.Chunked.{AreBytes}
 use Rattle.column_segment.proofs.Values.{amount_values, amounts_small, byte_values, bytes_fit, rows_many}
 use Rattle.column_segment.proofs.Whole.{sum_times}
@@ -34,14 +34,14 @@ zip2-maps f g h (x ∷ xs) = ap (λ l. f (g x) (h x) ∷ l) (zip2-maps f g h xs)
 
 -- a sum of small numbers of few rows is small
 pub sum_small : (value : LineOrder → ℕ) (limit : ℕ) (marks : List Bool) (rows : List LineOrder)
-    → All (λ row. value row < limit) rows → sum (selected marks (map value rows)) ≤ limit * length rows
+    → All (λ row. value row < limit) rows → sum (selected_by marks (map value rows)) ≤ limit * length rows
 sum_small value limit [] rows fit = omega arith
 sum_small value limit (m ∷ marks) [] fit = omega arith
 sum_small value limit (true ∷ marks) (row ∷ rows) fit =
     let own : value row < limit = All-head (λ (r : LineOrder). value r < limit) row rows fit in
     let rest = sum_small value limit marks rows (All-tail (λ (r : LineOrder). value r < limit) row rows fit) in
     let more : limit * suc (length rows) ≡ limit + limit * length rows = omega arith in
-    omega (arith, own, rest, more, sum_by-cons (λ (n : ℕ). n) (value row) (selected marks (map value rows)))
+    omega (arith, own, rest, more, sum_by-cons (λ (n : ℕ). n) (value row) (selected_by marks (map value rows)))
 sum_small value limit (false ∷ marks) (row ∷ rows) fit =
     let rest = sum_small value limit marks rows (All-tail (λ (r : LineOrder). value r < limit) row rows fit) in
     let more : limit * suc (length rows) ≡ limit + limit * length rows = omega arith in
@@ -49,11 +49,11 @@ sum_small value limit (false ∷ marks) (row ∷ rows) fit =
 
 -- the sum of the selected numbers is the total of the selected rows'
 pub total_is : (value : LineOrder → ℕ) (marks : List Bool) (rows : List LineOrder)
-    → pos (sum (selected marks (map value rows))) ≡ total (map (λ row. pos (value row)) (selected marks rows))
+    → pos (sum (selected_by marks (map value rows))) ≡ total (map (λ row. pos (value row)) (selected_by marks rows))
 total_is value marks rows =
     ap (λ (l : List ℕ). pos (sum l)) (selected-map value marks rows)
-    ∙ sym (total_of_numbers (map value (selected marks rows)))
-    ∙ ap total (map-map (λ (n : ℕ). pos n) value (selected marks rows))
+    ∙ sym (total_of_numbers (map value (selected_by marks rows)))
+    ∙ ap total (map-map (λ (n : ℕ). pos n) value (selected_by marks rows))
 
 times_small : (a b p : ℕ) → a < p → b < 256 → a * b < p * 256
 times_small a b p lt small =
@@ -69,32 +69,33 @@ pub marks_are : (text : List ℕ) (layout : Layout) → HoldsColumns text layout
     → quantities ≡ column_bytes (byte_place Quantity) 1 layout.rows text
     → discounts ≡ column_bytes (byte_place Discount) 1 layout.rows text
     → zip2 (lies_in quantity discount) quantities discounts
-    ≡ map (λ row. lies_in quantity discount row.quantity row.discount) (rows_in text layout)
+    ≡ map (λ row. lies_in quantity discount row.quantity row.discount) (decoded_rows text layout)
 marks_are text layout has quantity discount quantities discounts is also =
-    let first : quantities ≡ map (byte_of Quantity) (rows_in text layout) = is
+    let first : quantities ≡ map (byte_of Quantity) (decoded_rows text layout) = is
     ∙ sym (byte_values text layout has.room Quantity) in
-    let second : discounts ≡ map (byte_of Discount) (rows_in text layout) = also
+    let second : discounts ≡ map (byte_of Discount) (decoded_rows text layout) = also
     ∙ sym (byte_values text layout has.room Discount) in
     (λ i. zip2 (lies_in quantity discount) (first i) (second i))
-    ∙ zip2-maps (lies_in quantity discount) (byte_of Quantity) (byte_of Discount) (rows_in text layout)
+    ∙ zip2-maps (lies_in quantity discount) (byte_of Quantity) (byte_of Discount) (decoded_rows text layout)
 
 -- ---- the sums that are taken
 
 module _ (text : List ℕ) (layout : Layout) (has : HoldsColumns text layout.rows) (marks : List Bool) where
-  few : length (rows_in text layout) ≤ most_batch_rows
+  few : length (decoded_rows text layout) ≤ most_batch_rows
   few = omega (arith, rows_many text layout, has.few)
 
   pub amounts_are : (column : AmountColumn) (chunks : List (List ℕ))
       → chunks ≡ first_chunks 8 layout.rows (column_bytes (amount_place column) 8 layout.rows text)
-      → numbers_of chunks ≡ map (amount_of column) (rows_in text layout)
+      → numbers_of chunks ≡ map (amount_of column) (decoded_rows text layout)
   amounts_are column chunks is = ap (map (from_le_bytes w64)) is ∙ sym (amount_values text layout column)
 
   pub bytes_are : (column : ByteColumn) (part : List ℕ) → part ≡ column_bytes (byte_place column) 1 layout.rows text
-      → part ≡ map (byte_of column) (rows_in text layout)
+      → part ≡ map (byte_of column) (decoded_rows text layout)
   bytes_are column part is = is ∙ sym (byte_values text layout has.room column)
 
   -- a price times a discount
-  products_small : AreBytes text → All (λ row. row.extendedprice * row.discount < 2 ^ 64 * 256) (rows_in text layout)
+  products_small : AreBytes text
+      → All (λ row. row.extendedprice * row.discount < 2 ^ 64 * 256) (decoded_rows text layout)
   products_small are = λ i d lt.
       times_small _ _ (2 ^ 64) (amounts_small text layout has.room are ExtendedPrice i d lt)
       (bytes_fit text layout has.room are Discount i d lt)
@@ -102,33 +103,34 @@ module _ (text : List ℕ) (layout : Layout) (has : HoldsColumns text layout.row
   -- what is summed up, which is small, and its total
   abbrev pub Sums : ℕ → (LineOrder → ℕ) → Type 0
   Sums found value = (found < 2 ^ 127)
-      × (pos found ≡ total (map (λ row. pos (value row)) (selected marks (rows_in text layout))))
+      × (pos found ≡ total (map (λ row. pos (value row)) (selected_by marks (decoded_rows text layout))))
 
   pub amount_sum : AreBytes text → (column : AmountColumn) (chunks : List (List ℕ)) (found : ℕ)
       → chunks ≡ first_chunks 8 layout.rows (column_bytes (amount_place column) 8 layout.rows text)
-      → found ≡ sum (selected marks (numbers_of chunks)) → Sums found (amount_of column)
+      → found ≡ sum (selected_by marks (numbers_of chunks)) → Sums found (amount_of column)
   amount_sum are column chunks found is summed =
-      let same : found ≡ sum (selected marks (map (amount_of column) (rows_in text layout))) = summed
-      ∙ ap (λ (l : List ℕ). sum (selected marks l)) (amounts_are column chunks is) in
+      let same : found ≡ sum (selected_by marks (map (amount_of column) (decoded_rows text layout))) = summed
+      ∙ ap (λ (l : List ℕ). sum (selected_by marks l)) (amounts_are column chunks is) in
       let small =
-      sum_small (amount_of column) (2 ^ 64) marks (rows_in text layout)
+      sum_small (amount_of column) (2 ^ 64) marks (decoded_rows text layout)
       (amounts_small text layout has.room are column) in (
         omega (arith, same, small, few),
         ap (λ (n : ℕ). pos n) same
-            ∙ total_is (amount_of column) marks (rows_in text layout),
+            ∙ total_is (amount_of column) marks (decoded_rows text layout),
       )
 
   pub byte_sum : AreBytes text → (column : ByteColumn) (part : List ℕ) (found : ℕ)
       → part ≡ column_bytes (byte_place column) 1 layout.rows text
-      → found ≡ sum (selected marks part) → Sums found (byte_of column)
+      → found ≡ sum (selected_by marks part) → Sums found (byte_of column)
   byte_sum are column part found is summed =
-      let same : found ≡ sum (selected marks (map (byte_of column) (rows_in text layout))) = summed
-      ∙ ap (λ (l : List ℕ). sum (selected marks l)) (bytes_are column part is) in
+      let same : found ≡ sum (selected_by marks (map (byte_of column) (decoded_rows text layout))) = summed
+      ∙ ap (λ (l : List ℕ). sum (selected_by marks l)) (bytes_are column part is) in
       let small =
-      sum_small (byte_of column) (2 ^ 8) marks (rows_in text layout) (bytes_fit text layout has.room are column) in (
+      sum_small (byte_of column) (2 ^ 8) marks (decoded_rows text layout)
+      (bytes_fit text layout has.room are column) in (
         omega (arith, same, small, few),
         ap (λ (n : ℕ). pos n) same
-            ∙ total_is (byte_of column) marks (rows_in text layout),
+            ∙ total_is (byte_of column) marks (decoded_rows text layout),
       )
 
   abbrev pub discounted : LineOrder → ℕ
@@ -137,18 +139,21 @@ module _ (text : List ℕ) (layout : Layout) (has : HoldsColumns text layout.row
   pub discounted_sum : AreBytes text → (chunks : List (List ℕ)) (part : List ℕ) (found : ℕ)
       → chunks ≡ first_chunks 8 layout.rows (column_bytes (amount_place ExtendedPrice) 8 layout.rows text)
       → part ≡ column_bytes (byte_place Discount) 1 layout.rows text
-      → found ≡ sum (selected marks (products (numbers_of chunks) part)) → Sums found discounted
+      → found ≡ sum (selected_by marks (products (numbers_of chunks) part)) → Sums found discounted
   discounted_sum are chunks part found is part_is summed =
       let prices = amounts_are ExtendedPrice chunks is in
       let discounts = bytes_are Discount part part_is in
-      let both : products (numbers_of chunks) part ≡ map discounted (rows_in text layout) =
+      let both : products (numbers_of chunks) part ≡ map discounted (decoded_rows text layout) =
       (λ i. products (prices i) (discounts i))
       ∙ zip2-maps (λ (number factor : ℕ). number * factor) (amount_of ExtendedPrice) (byte_of Discount)
-      (rows_in text layout) in
-      let same : found ≡ sum (selected marks (map discounted (rows_in text layout))) = summed
-      ∙ ap (λ (l : List ℕ). sum (selected marks l)) both in
-      let small = sum_small discounted (2 ^ 64 * 256) marks (rows_in text layout) (products_small are) in
-      (omega (arith, same, small, few), ap (λ (n : ℕ). pos n) same ∙ total_is discounted marks (rows_in text layout))
+      (decoded_rows text layout) in
+      let same : found ≡ sum (selected_by marks (map discounted (decoded_rows text layout))) = summed
+      ∙ ap (λ (l : List ℕ). sum (selected_by marks l)) both in
+      let small = sum_small discounted (2 ^ 64 * 256) marks (decoded_rows text layout) (products_small are) in (
+        omega (arith, same, small, few),
+        ap (λ (n : ℕ). pos n) same
+            ∙ total_is discounted marks (decoded_rows text layout),
+      )
 
   abbrev pub profit : LineOrder → ℤ
   profit row = pos row.revenue -ℤ pos row.supplycost
@@ -156,13 +161,13 @@ module _ (text : List ℕ) (layout : Layout) (has : HoldsColumns text layout.row
   pub profit_sum : (chunks others : List (List ℕ)) (found : ℤ)
       → chunks ≡ first_chunks 8 layout.rows (column_bytes (amount_place Revenue) 8 layout.rows text)
       → others ≡ first_chunks 8 layout.rows (column_bytes (amount_place SupplyCost) 8 layout.rows text)
-      → found ≡ total (selected marks (differences (numbers_of chunks) (numbers_of others)))
-      → found ≡ total (map profit (selected marks (rows_in text layout)))
+      → found ≡ total (selected_by marks (differences (numbers_of chunks) (numbers_of others)))
+      → found ≡ total (map profit (selected_by marks (decoded_rows text layout)))
   profit_sum chunks others found is also summed =
       let revenues = amounts_are Revenue chunks is in
       let costs = amounts_are SupplyCost others also in
-      summed ∙ ap (λ (l : List ℤ). total (selected marks l))
+      summed ∙ ap (λ (l : List ℤ). total (selected_by marks l))
       ((λ i. differences (revenues i) (costs i))
       ∙ zip2-maps (λ (number other : ℕ). pos number -ℤ pos other) (amount_of Revenue) (amount_of SupplyCost)
-      (rows_in text layout))
-      ∙ ap total (selected-map profit marks (rows_in text layout))
+      (decoded_rows text layout))
+      ∙ ap total (selected-map profit marks (decoded_rows text layout))

@@ -11,7 +11,7 @@ use Rattle.std.proofs.lemmas.List.FromFn.{length-map-range_with_len}
 use Rattle.std.proofs.lemmas.Simd.{map-map, pick_l_whole}
 use Rattle.cube_model.specs.declared.rows.LineOrder.{LineOrder}
 use Rattle.wire.specs.Spelling.{spelling}
-use Rattle.dictionary.specs.Columns.{text_at}
+use Rattle.dictionary.specs.Columns.{text_of_code}
 use Rattle.column_segment.specs.declared.columns.AmountColumn.{AmountColumn}
 use Rattle.column_segment.specs.declared.columns.AmountColumn.TheVariants.{OrderKey, ExtendedPrice, OrdTotalPrice}
 use Rattle.column_segment.specs.declared.columns.AmountColumn.TheVariants.{Revenue, SupplyCost}
@@ -24,9 +24,10 @@ use Rattle.column_segment.specs.declared.columns.TextColumn.{TextColumn}
 use Rattle.column_segment.specs.declared.columns.TextColumn.TheVariants.{OrderPriority, ShipPriority, CommitDate}
 use Rattle.column_segment.specs.declared.columns.TextColumn.TheVariants.{ShipMode}
 use Rattle.column_segment.specs.declared.layout.Layout.{Layout}
-use Rattle.column_segment.specs.Columns.{FitsColumn, amount_of, amounts, byte_of, bytes, number_of, numbers, text_of}
+use Rattle.column_segment.specs.Columns.{FitsColumn, amount_of, amounts, byte_of, bytes, column_number, numbers}
+use Rattle.column_segment.specs.Columns.{text_of}
 use Rattle.column_segment.specs.Decoded.{amount_place, amounts_in, byte_place, codes_in, coded_of, column_bytes}
-use Rattle.column_segment.specs.Decoded.{figures_in, number_place, numbers_in, row_in, rows_in, texts_in}
+use Rattle.column_segment.specs.Decoded.{figures_in, number_place, numbers_in, row_in, decoded_rows, texts_in}
 use Rattle.column_segment.specs.Segment.{number_column}
 use Rattle.column_segment.proofs.Chunked.{AreBytes, AreBytes-drop, AreBytes-take, back_4, back_8, below_4, below_8}
 use Rattle.column_segment.proofs.Chunked.{bytes_back, bytes_below, chunks_back, length-read, read_below, within_rows}
@@ -36,20 +37,20 @@ pub All-unmap : {X Y : Type 0} (P : Y → Type 0) (f : X → Y) (xs : List X) �
 All-unmap P f xs all = λ i d lt. subst P (get_or-map f xs i d) (all i (f d) (omega (arith, lt, length-map xs f)))
 
 module _ (text : List ℕ) (layout : Layout) where
-  pub rows_many : length (rows_in text layout) ≡ layout.rows
+  pub rows_many : length (decoded_rows text layout) ≡ layout.rows
   rows_many = length-map-range_with_len (row_in text layout) 0 layout.rows
 
   picked : (value : LineOrder → ℕ) (column : List ℕ) → length column ≡ layout.rows
       → map (λ (i : ℕ). value (row_in text layout i)) (range_with_len 0 layout.rows)
       ≡ map (λ (i : ℕ). slice_index column i) (range_with_len 0 layout.rows)
-      → map value (rows_in text layout) ≡ column
+      → map value (decoded_rows text layout) ≡ column
   picked value column many same = map-map value (row_in text layout) (range_with_len 0 layout.rows) ∙ same
       ∙ pick_l_whole 0 column layout.rows many
 
   picked_text : (value : LineOrder → List ℕ) (column : List (List ℕ)) → length column ≡ layout.rows
       → map (λ (i : ℕ). value (row_in text layout i)) (range_with_len 0 layout.rows)
       ≡ map (λ (i : ℕ). slice_index_or column i []) (range_with_len 0 layout.rows)
-      → map value (rows_in text layout) ≡ column
+      → map value (decoded_rows text layout) ≡ column
   picked_text value column many same = map-map value (row_in text layout) (range_with_len 0 layout.rows) ∙ same
       ∙ pick_l_whole [] column layout.rows many
 
@@ -58,7 +59,7 @@ module _ (text : List ℕ) (layout : Layout) where
       length-read (from_le_bytes w64) 8 layout.rows (column_bytes (amount_place column) 8 layout.rows text)
 
   pub amount_values : (column : AmountColumn)
-      → map (amount_of column) (rows_in text layout) ≡ amounts_in text layout.rows column
+      → map (amount_of column) (decoded_rows text layout) ≡ amounts_in text layout.rows column
   amount_values OrderKey = picked (amount_of OrderKey) (amounts_in text layout.rows OrderKey) (amounts_many OrderKey)
       refl
   amount_values ExtendedPrice =
@@ -74,28 +75,31 @@ module _ (text : List ℕ) (layout : Layout) where
       length-read (from_le_bytes w32) 4 layout.rows (column_bytes (number_place column) 4 layout.rows text)
 
   pub number_values : (column : NumberColumn)
-      → map (number_of column) (rows_in text layout) ≡ numbers_in text layout.rows column
+      → map (column_number column) (decoded_rows text layout) ≡ numbers_in text layout.rows column
   number_values LineNumber =
-      picked (number_of LineNumber) (numbers_in text layout.rows LineNumber) (numbers_many LineNumber) refl
-  number_values CustKey = picked (number_of CustKey) (numbers_in text layout.rows CustKey) (numbers_many CustKey) refl
-  number_values PartKey = picked (number_of PartKey) (numbers_in text layout.rows PartKey) (numbers_many PartKey) refl
-  number_values SuppKey = picked (number_of SuppKey) (numbers_in text layout.rows SuppKey) (numbers_many SuppKey) refl
+      picked (column_number LineNumber) (numbers_in text layout.rows LineNumber) (numbers_many LineNumber) refl
+  number_values CustKey = picked (column_number CustKey) (numbers_in text layout.rows CustKey) (numbers_many CustKey)
+      refl
+  number_values PartKey = picked (column_number PartKey) (numbers_in text layout.rows PartKey) (numbers_many PartKey)
+      refl
+  number_values SuppKey = picked (column_number SuppKey) (numbers_in text layout.rows SuppKey) (numbers_many SuppKey)
+      refl
   number_values OrderDate =
-      picked (number_of OrderDate) (numbers_in text layout.rows OrderDate) (numbers_many OrderDate) refl
+      picked (column_number OrderDate) (numbers_in text layout.rows OrderDate) (numbers_many OrderDate) refl
 
   pub text_values : (column : TextColumn)
-      → map (text_of column) (rows_in text layout) ≡ texts_in text layout.rows (coded_of column layout.texts)
+      → map (text_of column) (decoded_rows text layout) ≡ texts_in text layout.rows (coded_of column layout.texts)
   text_values column = by column
     where
       many : (c : TextColumn) → length (texts_in text layout.rows (coded_of c layout.texts)) ≡ layout.rows
       many c =
           length-map (codes_in text layout.rows (coded_of c layout.texts).at)
-          (text_at (coded_of c layout.texts).texts.texts)
+          (text_of_code (coded_of c layout.texts).texts.texts)
           ∙ length-read (from_le_bytes w16) 2 layout.rows
           (take (2 * layout.rows) (drop (coded_of c layout.texts).at text))
 
       by : (c : TextColumn)
-          → map (text_of c) (rows_in text layout) ≡ texts_in text layout.rows (coded_of c layout.texts)
+          → map (text_of c) (decoded_rows text layout) ≡ texts_in text layout.rows (coded_of c layout.texts)
       by OrderPriority = picked_text (text_of OrderPriority) (texts_in text layout.rows layout.texts.orderpriority)
           (many OrderPriority) refl
       by ShipPriority = picked_text (text_of ShipPriority) (texts_in text layout.rows layout.texts.shippriority)
@@ -120,7 +124,7 @@ module _ (text : List ℕ) (layout : Layout) where
         ))
 
     pub byte_values : (column : ByteColumn)
-        → map (byte_of column) (rows_in text layout) ≡ figures_in text layout.rows column
+        → map (byte_of column) (decoded_rows text layout) ≡ figures_in text layout.rows column
     byte_values Quantity =
         picked (byte_of Quantity) (figures_in text layout.rows Quantity) (omega (arith, column_long 28 1 (omega arith)))
         refl
@@ -137,55 +141,58 @@ module _ (text : List ℕ) (layout : Layout) where
           AreBytes-take (width * layout.rows) (drop (place * layout.rows) (drop 12 text))
           (AreBytes-drop (place * layout.rows) (drop 12 text) (AreBytes-drop 12 text are))
 
-      spelled : (width : ℕ) (value : LineOrder → ℕ) (column : List ℕ) → map value (rows_in text layout) ≡ column
-          → flat_map (λ row. spelling width (value row)) (rows_in text layout) ≡ flat_map (spelling width) column
-      spelled width value column is = sym (flat_map-map (spelling width) value (rows_in text layout))
+      spelled : (width : ℕ) (value : LineOrder → ℕ) (column : List ℕ) → map value (decoded_rows text layout) ≡ column
+          → flat_map (λ row. spelling width (value row)) (decoded_rows text layout) ≡ flat_map (spelling width) column
+      spelled width value column is = sym (flat_map-map (spelling width) value (decoded_rows text layout))
           ∙ ap (flat_map (spelling width)) is
 
       pub amounts_hold : (column : AmountColumn) → amount_place column + 8 ≤ 63
-          → number_column (rows_in text layout) (amounts column) ≡ column_bytes (amount_place column) 8 layout.rows text
+          → number_column (decoded_rows text layout) (amounts column) ≡ column_bytes (amount_place column) 8 layout.rows
+          text
       amounts_hold column within =
           spelled 8 (amount_of column) (amounts_in text layout.rows column) (amount_values column)
           ∙ chunks_back 8 (from_le_bytes w64) back_8 layout.rows (column_bytes (amount_place column) 8 layout.rows text)
           (column_long (amount_place column) 8 within) (column_are (amount_place column) 8)
 
       pub numbers_hold : (column : NumberColumn) → number_place column + 4 ≤ 63
-          → number_column (rows_in text layout) (numbers column) ≡ column_bytes (number_place column) 4 layout.rows text
+          → number_column (decoded_rows text layout) (numbers column) ≡ column_bytes (number_place column) 4 layout.rows
+          text
       numbers_hold column within =
-          spelled 4 (number_of column) (numbers_in text layout.rows column) (number_values column)
+          spelled 4 (column_number column) (numbers_in text layout.rows column) (number_values column)
           ∙ chunks_back 4 (from_le_bytes w32) back_4 layout.rows (column_bytes (number_place column) 4 layout.rows text)
           (column_long (number_place column) 4 within) (column_are (number_place column) 4)
 
-      pub bytes_hold : (column : ByteColumn) → number_column (rows_in text layout) (bytes column)
+      pub bytes_hold : (column : ByteColumn) → number_column (decoded_rows text layout) (bytes column)
           ≡ column_bytes (byte_place column) 1 layout.rows text
       bytes_hold column =
           spelled 1 (byte_of column) (figures_in text layout.rows column) (byte_values column)
           ∙ bytes_back (column_bytes (byte_place column) 1 layout.rows text) (column_are (byte_place column) 1)
 
       -- and they fit
-      fit : (limit : ℕ) (value : LineOrder → ℕ) (column : List ℕ) → map value (rows_in text layout) ≡ column
-          → AllByRecursion (λ x. x < limit) column → All (λ row. value row < limit) (rows_in text layout)
+      fit : (limit : ℕ) (value : LineOrder → ℕ) (column : List ℕ) → map value (decoded_rows text layout) ≡ column
+          → AllByRecursion (λ x. x < limit) column → All (λ row. value row < limit) (decoded_rows text layout)
       fit limit value column is below =
-          All-unmap (λ (x : ℕ). x < limit) value (rows_in text layout)
+          All-unmap (λ (x : ℕ). x < limit) value (decoded_rows text layout)
           (subst (All (λ (x : ℕ). x < limit)) (sym is) (All-from_recursion (λ (x : ℕ). x < limit) column below))
 
-      pub numbers_fit : (column : NumberColumn) → All (FitsColumn (numbers column)) (rows_in text layout)
+      pub numbers_fit : (column : NumberColumn) → All (FitsColumn (numbers column)) (decoded_rows text layout)
       numbers_fit column =
-          fit (2 ^ 32) (number_of column) (numbers_in text layout.rows column) (number_values column)
+          fit (2 ^ 32) (column_number column) (numbers_in text layout.rows column) (number_values column)
           (read_below 4 (from_le_bytes w32) (2 ^ 32) below_4 layout.rows
           (column_bytes (number_place column) 4 layout.rows text) (column_are (number_place column) 4))
 
-      pub bytes_fit : (column : ByteColumn) → All (FitsColumn (bytes column)) (rows_in text layout)
+      pub bytes_fit : (column : ByteColumn) → All (FitsColumn (bytes column)) (decoded_rows text layout)
       bytes_fit column = fit (2 ^ 8) (byte_of column) (figures_in text layout.rows column) (byte_values column)
           (bytes_below (figures_in text layout.rows column) (column_are (byte_place column) 1))
 
       pub amounts_fit : (column : AmountColumn) → AllByRecursion (λ x. x < 2 ^ 63) (amounts_in text layout.rows column)
-          → All (FitsColumn (amounts column)) (rows_in text layout)
+          → All (FitsColumn (amounts column)) (decoded_rows text layout)
       amounts_fit column below =
           fit (2 ^ 63) (amount_of column) (amounts_in text layout.rows column) (amount_values column) below
 
       -- amounts of any bytes
-      pub amounts_small : (column : AmountColumn) → All (λ row. amount_of column row < 2 ^ 64) (rows_in text layout)
+      pub amounts_small : (column : AmountColumn)
+          → All (λ row. amount_of column row < 2 ^ 64) (decoded_rows text layout)
       amounts_small column =
           fit (2 ^ 64) (amount_of column) (amounts_in text layout.rows column) (amount_values column)
           (read_below 8 (from_le_bytes w64) (2 ^ 64) below_8 layout.rows

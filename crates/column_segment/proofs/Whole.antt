@@ -10,7 +10,7 @@ use Rattle.std.proofs.lemmas.List.{drop_all, length-map, length-take-le, take-ap
 use Rattle.std.proofs.lemmas.List.Elements.{All-from_recursion}
 use Rattle.cube_model.specs.Limits.{longest_text}
 use Rattle.column_kernels.specs.Checks.{all_below}
-use Rattle.dictionary.specs.Columns.{codes_spelling, column_spelling, text_at}
+use Rattle.dictionary.specs.Columns.{codes_spelling, column_spelling, text_of_code}
 use Rattle.dictionary.specs.Spelling.{AreShort, texts_spelling}
 use Rattle.dictionary.proofs.ColumnLaws.{AreCodes-below, one_column}
 use Rattle.column_segment.specs.declared.columns.AmountColumn.{AmountColumn}
@@ -25,9 +25,9 @@ use Rattle.column_segment.specs.declared.columns.TextColumn.TheVariants.{ShipMod
 use Rattle.column_segment.specs.declared.layout.Coded.{Coded}
 use Rattle.column_segment.specs.declared.layout.Layout.{Layout}
 use Rattle.column_segment.specs.Columns.{Column, FitsColumn, amounts, number_columns, text_columns, text_of}
-use Rattle.column_segment.specs.Decoded.{HasCodes, IsDecoded, amounts_in, codes_in, coded_of, rows_in, texts_in}
+use Rattle.column_segment.specs.Decoded.{HasCodes, IsDecoded, amounts_in, codes_in, coded_of, decoded_rows, texts_in}
 use Rattle.column_segment.specs.Reading.{HasColumn, HasHeader, HasNumbers, HasTexts}
-use Rattle.column_segment.specs.Segment.{FitColumns, header_of, number_column, text_column}
+use Rattle.column_segment.specs.Segment.{FitColumns, segment_header, number_column, text_column}
 use Rattle.column_segment.proofs.Chunked.{AreBytes, AreBytes-drop, AreBytes-take, back_2, chunks_back, length-read}
 use Rattle.column_segment.proofs.Values.{All-unmap, amounts_fit, amounts_hold, bytes_fit, bytes_hold, numbers_fit}
 use Rattle.column_segment.proofs.Values.{numbers_hold, rows_many, text_values}
@@ -74,7 +74,8 @@ below_of limit (x ∷ xs) fine = by (λ all. below_of limit xs all) (nat_lt x li
     by more false is both = absurd (true≢false (sym both))
 
 module _ (text : List ℕ) (layout : Layout) (are : AreBytes text) (numbers_are : HasNumbers text layout.rows) where
-  keys_hold : flat_map (number_column (rows_in text layout)) number_columns ≡ take (63 * layout.rows) (drop 12 text)
+  keys_hold : flat_map (number_column (decoded_rows text layout)) number_columns
+      ≡ take (63 * layout.rows) (drop 12 text)
   keys_hold =
       let room = numbers_are.room in
       let c1 = amounts_hold text layout room are OrderKey (omega arith) in
@@ -90,7 +91,7 @@ module _ (text : List ℕ) (layout : Layout) (are : AreBytes text) (numbers_are 
       let c11 = amounts_hold text layout room are Revenue (omega arith) in
       let c12 = amounts_hold text layout room are SupplyCost (omega arith) in
       let c13 = bytes_hold text layout room are Tax in
-      let cut : flat_map (number_column (rows_in text layout)) number_columns
+      let cut : flat_map (number_column (decoded_rows text layout)) number_columns
       ≡ pieces number_columns 0 layout.rows (drop 12 text) =
       λ i. c1 i ++ (c2 i
       ++ (c3 i ++ (c4 i
@@ -99,10 +100,10 @@ module _ (text : List ℕ) (layout : Layout) (are : AreBytes text) (numbers_are 
       cut ∙ pieces_whole number_columns 0 layout.rows (drop 12 text)
       ∙ ap (λ (m : ℕ). take (63 * layout.rows) (drop m (drop 12 text))) none
 
-  numbers_all_fit : FitColumns (rows_in text layout)
+  numbers_all_fit : FitColumns (decoded_rows text layout)
   numbers_all_fit =
       let room = numbers_are.room in
-      let amount : (column : AmountColumn) → All (FitsColumn (amounts column)) (rows_in text layout) =
+      let amount : (column : AmountColumn) → All (FitsColumn (amounts column)) (decoded_rows text layout) =
       λ column. amounts_fit text layout room are column
       (below_of (2 ^ 63) (amounts_in text layout.rows column) (numbers_are.amounts column)) in
       let number = numbers_fit text layout room are in
@@ -135,7 +136,7 @@ module _ (text : List ℕ) (layout : Layout) (are : AreBytes text) (numbers_are 
 -- ---- columns of texts
 
 texts_below : (P : List ℕ → Type 0) (texts : List (List ℕ)) (codes : List ℕ) → All P texts
-    → AllByRecursion (λ code. code < length texts) codes → AllByRecursion P (map (text_at texts) codes)
+    → AllByRecursion (λ code. code < length texts) codes → AllByRecursion P (map (text_of_code texts) codes)
 texts_below P texts [] all below = tt
 texts_below P texts (code ∷ codes) all below = (all code [] below.0, texts_below P texts codes all below.1)
 
@@ -174,7 +175,7 @@ module _ (text : List ℕ) (n from : ℕ) (coded : Coded) (are : AreBytes text) 
   }
 
   pub column_many : length (texts_in text n coded) ≡ n
-  column_many = length-map (codes_in text n coded.at) (text_at coded.texts.texts)
+  column_many = length-map (codes_in text n coded.at) (text_of_code coded.texts.texts)
       ∙ length-read (from_le_bytes w16) 2 n (take (2 * n) (drop coded.at text))
 
 -- ---- the whole
@@ -194,7 +195,7 @@ module _ (text : List ℕ) (layout : Layout) (are : AreBytes text) (header : Has
   each_codes CommitDate = has_codes text layout.rows _ layout.texts.commitdate are texts_are.commitdate
   each_codes ShipMode = has_codes text layout.rows _ layout.texts.shipmode are texts_are.shipmode
 
-  texts_hold : drop (12 + 63 * layout.rows) text ≡ flat_map (text_column (rows_in text layout)) text_columns
+  texts_hold : drop (12 + 63 * layout.rows) text ≡ flat_map (text_column (decoded_rows text layout)) text_columns
   texts_hold =
       let n : ℕ = layout.rows in
       let t1 = column_holds text n (12 + 63 * n) layout.texts.orderpriority are texts_are.orderpriority in
@@ -206,7 +207,7 @@ module _ (text : List ℕ) (layout : Layout) (are : AreBytes text) (header : Has
       let end : drop (layout.texts.shipmode.at + 2 * n) text ≡ [] =
       drop_all (layout.texts.shipmode.at + 2 * n) text (omega (arith, texts_are.end)) in
       let s : (column : TextColumn)
-      → text_column (rows_in text layout) column
+      → text_column (decoded_rows text layout) column
       ≡ column_spelling (texts_in text n (coded_of column layout.texts)) =
       λ column. ap column_spelling (text_values text layout column) in
       let a1 : List ℕ = column_spelling (texts_in text n layout.texts.orderpriority) in
@@ -222,22 +223,24 @@ module _ (text : List ℕ) (layout : Layout) (are : AreBytes text) (header : Has
   pub whole : IsDecoded text layout
   whole =
       let n : ℕ = layout.rows in
-      let many : length (rows_in text layout) ≡ n = rows_many text layout in
-      let number_part : List ℕ = flat_map (number_column (rows_in text layout)) number_columns in
-      let text_part : List ℕ = flat_map (text_column (rows_in text layout)) text_columns in
+      let many : length (decoded_rows text layout) ≡ n = rows_many text layout in
+      let number_part : List ℕ = flat_map (number_column (decoded_rows text layout)) number_columns in
+      let text_part : List ℕ = flat_map (text_column (decoded_rows text layout)) text_columns in
       let keys : number_part ≡ take (63 * n) (drop 12 text) = keys_hold text layout are numbers_are in
       let after : drop (63 * n) (drop 12 text) ≡ text_part = drop-drop (63 * n) 12 text ∙ texts_hold in
-      let spelled : text ≡ header_of layout.number (length (rows_in text layout)) ++ (number_part ++ text_part) =
+      let spelled : text ≡ segment_header layout.number (length (decoded_rows text layout))
+      ++ (number_part ++ text_part) =
       header.spelled
-      ∙ ap (λ (l : List ℕ). header_of layout.number n ++ l) (sym (take-append-drop (63 * n) (drop 12 text)))
-      ∙ (λ i. header_of layout.number (sym many i) ++ (sym keys i ++ after i)) in
+      ∙ ap (λ (l : List ℕ). segment_header layout.number n ++ l) (sym (take-append-drop (63 * n) (drop 12 text)))
+      ∙ (λ i. segment_header layout.number (sym many i) ++ (sym keys i ++ after i)) in
       record {
         segment = record {
           spelled = spelled;
           number_fits = header.fits;
           batch = record {
             few = omega (arith, many, header.few);
-            short = λ column. All-unmap (λ (t : List ℕ). length t ≤ longest_text) (text_of column) (rows_in text layout)
+            short = λ column. All-unmap (λ (t : List ℕ). length t ≤ longest_text) (text_of column)
+                (decoded_rows text layout)
                 (subst AreShort (sym (text_values text layout column)) (each_short column));
           };
           fits = numbers_all_fit text layout are numbers_are;

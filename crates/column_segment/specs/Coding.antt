@@ -5,7 +5,7 @@ use Rattle.cube_model.specs.Limits.{most_batch_rows}
 use Rattle.cube_model.specs.declared.rows.LineOrder.{LineOrder}
 use Rattle.cube_model.specs.ShipModes.{modes_in}
 use Rattle.dictionary.specs.Dictionary.{Texts, firsts}
-use Rattle.dictionary.specs.Columns.{codes_of, codes_spelling, text_at}
+use Rattle.dictionary.specs.Columns.{codes_of, codes_spelling, text_of_code}
 
 -- a dictionary has the texts of a column, and the bytes are the codes of them
 pub record AreCoded (column : List (List ℕ)) (texts : Texts) (codes : List ℕ) : Type 0 where
@@ -15,7 +15,7 @@ pub record AreCoded (column : List (List ℕ)) (texts : Texts) (codes : List ℕ
 
 -- the code of each text of a column among those of a dictionary, in two bytes, the lowest first
 pub record AreCodesOf (column dictionary codes : List (List ℕ)) : Type 0 where
-  pub texts : map (text_at dictionary) (map (from_le_bytes w16) codes) ≡ column
+  pub texts : map (text_of_code dictionary) (map (from_le_bytes w16) codes) ≡ column
   pub below : All (λ code. code < length dictionary) (map (from_le_bytes w16) codes)
 
 -- the code of each row's ship mode

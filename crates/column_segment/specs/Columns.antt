@@ -22,12 +22,12 @@ amount_of Revenue row = row.revenue
 amount_of SupplyCost row = row.supplycost
 
 -- what it has in a column of numbers
-abbrev pub number_of : NumberColumn → LineOrder → ℕ
-number_of LineNumber row = row.linenumber
-number_of CustKey row = row.custkey
-number_of PartKey row = row.partkey
-number_of SuppKey row = row.suppkey
-number_of OrderDate row = row.orderdate
+abbrev pub column_number : NumberColumn → LineOrder → ℕ
+column_number LineNumber row = row.linenumber
+column_number CustKey row = row.custkey
+column_number PartKey row = row.partkey
+column_number SuppKey row = row.suppkey
+column_number OrderDate row = row.orderdate
 
 -- what it has in a column of small numbers
 abbrev pub byte_of : ByteColumn → LineOrder → ℕ
@@ -52,7 +52,7 @@ abbrev pub amounts : AmountColumn → Column
 amounts column = record { width = 8; limit = 2 ^ 63; value = amount_of column }
 
 abbrev pub numbers : NumberColumn → Column
-numbers column = record { width = 4; limit = 2 ^ 32; value = number_of column }
+numbers column = record { width = 4; limit = 2 ^ 32; value = column_number column }
 
 abbrev pub bytes : ByteColumn → Column
 bytes column = record { width = 1; limit = 2 ^ 8; value = byte_of column }

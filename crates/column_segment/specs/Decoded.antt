@@ -6,7 +6,7 @@ use Rattle.std.specs.List.{range_with_len}
 use Rattle.std.specs.Simd.{first_chunks}
 use Rattle.cube_model.specs.Limits.{most_batch_rows}
 use Rattle.cube_model.specs.declared.rows.LineOrder.{LineOrder}
-use Rattle.dictionary.specs.Columns.{text_at}
+use Rattle.dictionary.specs.Columns.{text_of_code}
 use Rattle.column_segment.specs.declared.columns.AmountColumn.{AmountColumn}
 use Rattle.column_segment.specs.declared.columns.AmountColumn.TheVariants.{OrderKey, ExtendedPrice, OrdTotalPrice}
 use Rattle.column_segment.specs.declared.columns.AmountColumn.TheVariants.{Revenue, SupplyCost}
@@ -64,7 +64,7 @@ abbrev pub codes_in : List ℕ → ℕ → ℕ → List ℕ
 codes_in bytes rows at = map (from_le_bytes w16) (first_chunks 2 rows (take (2 * rows) (drop at bytes)))
 
 abbrev pub texts_in : List ℕ → ℕ → Coded → List (List ℕ)
-texts_in bytes rows coded = map (text_at coded.texts.texts) (codes_in bytes rows coded.at)
+texts_in bytes rows coded = map (text_of_code coded.texts.texts) (codes_in bytes rows coded.at)
 
 abbrev pub coded_of : TextColumn → CodedTexts → Coded
 coded_of OrderPriority texts = texts.orderpriority
@@ -96,8 +96,8 @@ row_in bytes layout row =
       shipmode = slice_index_or (texts_in bytes rows layout.texts.shipmode) row [];
     }
 
-abbrev pub rows_in : List ℕ → Layout → List LineOrder
-rows_in bytes layout = map (row_in bytes layout) (range_with_len 0 layout.rows)
+abbrev pub decoded_rows : List ℕ → Layout → List LineOrder
+decoded_rows bytes layout = map (row_in bytes layout) (range_with_len 0 layout.rows)
 
 -- there is room for the columns of numbers of so many rows
 pub record HoldsColumns (bytes : List ℕ) (rows : ℕ) : Type 0 where
@@ -118,5 +118,5 @@ pub record IsReadable (bytes : List ℕ) (layout : Layout) : Type 0 where
 
 -- the bytes are those of a batch that is laid out in this way
 pub record IsDecoded (bytes : List ℕ) (layout : Layout) : Type 0 where
-  pub segment : IsSegment bytes layout.number (rows_in bytes layout)
+  pub segment : IsSegment bytes layout.number (decoded_rows bytes layout)
   pub readable : IsReadable bytes layout

@@ -61,16 +61,16 @@ pub record HaveRows (rows : List LineOrder) (columns : BatchColumns) : Type 0 wh
   pub texts : HaveTexts rows columns.texts
 
 -- a dictionary takes one more text, whose code fits two bytes
-pub record HasRoom (coding : Coding) : Type 0 where
+pub record CodingHasRoom (coding : Coding) : Type 0 where
   pub room : length coding.texts.texts < coding.texts.limit
   pub limit : coding.texts.limit ≤ most_batch_rows
 
 -- each of the dictionaries does
-pub record HaveRoom (texts : Texts) : Type 0 where
-  pub orderpriority : HasRoom texts.orderpriority
-  pub shippriority : HasRoom texts.shippriority
-  pub commitdate : HasRoom texts.commitdate
-  pub shipmode : HasRoom texts.shipmode
+pub record CodingsHaveRoom (texts : Texts) : Type 0 where
+  pub orderpriority : CodingHasRoom texts.orderpriority
+  pub shippriority : CodingHasRoom texts.shippriority
+  pub commitdate : CodingHasRoom texts.commitdate
+  pub shipmode : CodingHasRoom texts.shipmode
 
 -- the columns of texts are those of some batch
 abbrev pub AreOfBatch : Texts → Type 0

@@ -7,27 +7,27 @@ use Rattle.column_segment.specs.declared.columns.AmountColumn.{AmountColumn}
 use Rattle.column_segment.specs.declared.columns.ByteColumn.{ByteColumn}
 use Rattle.column_segment.specs.declared.columns.FactColumn.{FactColumn}
 use Rattle.column_segment.specs.declared.columns.FactColumn.TheVariants.{Amount, Number, Figure}
-use Rattle.column_segment.specs.Columns.{FitsColumn, amount_of, byte_of, bytes, number_of}
+use Rattle.column_segment.specs.Columns.{FitsColumn, amount_of, byte_of, bytes, column_number}
 use Rattle.column_segment.specs.Decoded.{amount_place, amounts_in, byte_place, column_bytes, number_place}
 use Rattle.column_segment.specs.Reading.{HasHeader}
 use Rattle.column_segment.specs.Segment.{IsSegment}
 
 -- what a row has in a column of numbers
-abbrev pub value_of : FactColumn → LineOrder → ℕ
-value_of (Amount column) = amount_of column
-value_of (Number column) = number_of column
-value_of (Figure column) = byte_of column
+abbrev pub fact_value : FactColumn → LineOrder → ℕ
+fact_value (Amount column) = amount_of column
+fact_value (Number column) = column_number column
+fact_value (Figure column) = byte_of column
 
 -- two batches have as many rows as each other, and the same numbers in some columns
 pub record AgreeOn (columns : List FactColumn) (rows others : List LineOrder) : Type 0 where
   pub count : length rows ≡ length others
-  pub each : AllByRecursion (λ column. map (value_of column) rows ≡ map (value_of column) others) columns
+  pub each : AllByRecursion (λ column. map (fact_value column) rows ≡ map (fact_value column) others) columns
 
 -- how many bytes of a row are in the columns before one, and in it
-abbrev pub place_of : FactColumn → ℕ
-place_of (Amount column) = amount_place column
-place_of (Number column) = number_place column
-place_of (Figure column) = byte_place column
+abbrev pub fact_place : FactColumn → ℕ
+fact_place (Amount column) = amount_place column
+fact_place (Number column) = number_place column
+fact_place (Figure column) = byte_place column
 
 abbrev pub width_of : FactColumn → ℕ
 width_of (Amount column) = 8
@@ -37,7 +37,8 @@ width_of (Figure column) = 1
 -- the bytes have the same numbers in a column
 abbrev pub ShareColumn : ℕ → List ℕ → List ℕ → FactColumn → Type 0
 ShareColumn rows bytes others column =
-    column_bytes (place_of column) (width_of column) rows bytes ≡ column_bytes (place_of column) (width_of column) rows
+    column_bytes (fact_place column) (width_of column) rows bytes ≡ column_bytes (fact_place column) (width_of column)
+    rows
     others
 
 -- what is outside of so many bytes from a place on stays
@@ -52,8 +53,8 @@ pub record HasColumns (text : List ℕ) (number rows : ℕ) : Type 0 where
   pub room : 12 + 63 * rows ≤ length text
 
 -- the small numbers of rows are those of bytes
-abbrev pub HaveFigures : List LineOrder → Type 0
-HaveFigures rows = (column : ByteColumn) → All (FitsColumn (bytes column)) rows
+abbrev pub BytesHaveFigures : List LineOrder → Type 0
+BytesHaveFigures rows = (column : ByteColumn) → All (FitsColumn (bytes column)) rows
 
 -- there is no text, or it is that of no batch of a number and of so many rows
 abbrev pub HoldsNoneOf : Option (List ℕ) → ℕ → ℕ → Type 0

@@ -14,11 +14,11 @@ use Rattle.column_segment.specs.declared.layout.Coded.{Coded}
 use Rattle.column_segment.specs.declared.layout.CodedTexts.{CodedTexts}
 use Rattle.column_segment.specs.Columns.{text_columns}
 use Rattle.column_segment.specs.Decoded.{amounts_in, codes_in}
-use Rattle.column_segment.specs.Segment.{IsBatch, header_of, text_column}
+use Rattle.column_segment.specs.Segment.{IsBatch, segment_header, text_column}
 
 -- the bytes begin with the header of a batch
 pub record HasHeader (bytes : List ℕ) (number rows : ℕ) : Type 0 where
-  pub spelled : bytes ≡ header_of number rows ++ drop 12 bytes
+  pub spelled : bytes ≡ segment_header number rows ++ drop 12 bytes
   pub fits : number < 2 ^ 32
   pub few : rows ≤ most_batch_rows
 

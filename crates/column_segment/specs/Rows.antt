@@ -4,8 +4,8 @@ use Rattle.column_segment.specs.declared.rows.RowFigures.{RowFigures}
 use Rattle.column_segment.specs.declared.rows.RowKeys.{RowKeys}
 
 -- the keys of a row
-abbrev pub keys_of : LineOrder → RowKeys
-keys_of row =
+abbrev pub row_keys_of : LineOrder → RowKeys
+row_keys_of row =
     record {
       orderkey = row.orderkey;
       linenumber = row.linenumber;

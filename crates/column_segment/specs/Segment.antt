@@ -9,8 +9,8 @@ use Rattle.column_segment.specs.declared.columns.TextColumn.{TextColumn}
 use Rattle.column_segment.specs.Columns.{Column, FitsColumn, number_columns, text_columns, text_of}
 
 -- the 12 bytes before the columns: the name, the batch's number, how many rows
-abbrev pub header_of : ℕ → ℕ → List ℕ
-header_of number rows = codes "SEG1" ++ (spelling 4 number ++ spelling 4 rows)
+abbrev pub segment_header : ℕ → ℕ → List ℕ
+segment_header number rows = codes "SEG1" ++ (spelling 4 number ++ spelling 4 rows)
 
 -- a column of numbers: that of each row
 abbrev pub number_column : List LineOrder → Column → List ℕ
@@ -23,7 +23,7 @@ text_column rows column = column_spelling (map (text_of column) rows)
 -- the bytes of a batch: the header, the columns of numbers, the columns of texts
 abbrev pub segment_of : ℕ → List LineOrder → List ℕ
 segment_of number rows =
-    header_of number (length rows)
+    segment_header number (length rows)
     ++ (flat_map (number_column rows) number_columns ++ flat_map (text_column rows) text_columns)
 
 -- the texts of a column are short
@@ -31,7 +31,7 @@ abbrev pub HaveShort : List LineOrder → TextColumn → Type 0
 HaveShort rows column = All (λ row. length (text_of column row) ≤ longest_text) rows
 
 -- the texts of a row are short
-pub record HasShortTexts (row : LineOrder) : Type 0 where
+pub record HasShortFactTexts (row : LineOrder) : Type 0 where
   pub each : (column : TextColumn) → length (text_of column row) ≤ longest_text
 
 -- the caller's part: not too many rows, and no text too long

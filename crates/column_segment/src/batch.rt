@@ -2,7 +2,7 @@
 ghost use Rattle.std.specs.Prelude.{◌↔◌, ◌≤◌, All, IsTrue, length};
 ghost use Rattle.cube_model.specs.Limits.{longest_text};
 ghost use Rattle.column_segment.specs.Columns.{text_of};
-ghost use Rattle.column_segment.specs.Segment.{HasShortTexts, IsBatch};
+ghost use Rattle.column_segment.specs.Segment.{HasShortFactTexts, IsBatch};
 
 use crate::columns::TextColumn;
 use cube_model::LineOrder;
@@ -20,14 +20,14 @@ pub fn is_batch(rows: &[LineOrder]) -> bool
 
 // Whether no text of any row is too long.
 fn have_short_texts(rows: &[LineOrder]) -> bool
-    ensures { IsTrue result ↔ All HasShortTexts rows.now }
+    ensures { IsTrue result ↔ All HasShortFactTexts rows.now }
 {
     rows.iter().all(|row| has_short_texts(row))
 }
 
 // Whether no text of a row is too long.
 fn has_short_texts(row: &LineOrder) -> bool
-    ensures { IsTrue result ↔ HasShortTexts row.now }
+    ensures { IsTrue result ↔ HasShortFactTexts row.now }
 {
     is_short(row, TextColumn::OrderPriority)
         & is_short(row, TextColumn::ShipPriority)

@@ -34,7 +34,7 @@ impl Drop for Coding {
 }
 
 impl Coding {
-    ghost use Rattle.column_segment.specs.Encoding.{HasRoom, IsCoding};
+    ghost use Rattle.column_segment.specs.Encoding.{CodingHasRoom, IsCoding};
 
     // That of no row, with room for the codes of so many.
     fn new(alloc: Global, rows: usize) -> Result<Coding, Fault>
@@ -50,7 +50,7 @@ impl Coding {
     // Adds a row's text, which may have a code. There is room for one text more.
     #[inline(always)]
     fn push(&mut self, alloc: Global, text: &[u8]) -> Result<(), Fault>
-        requires room { HasRoom self.old }
+        requires room { CodingHasRoom self.old }
         ensures ok { OnOk result ((column : List (List ℕ)) → IsCoding column self.old
             → IsCoding (column ++ text.now ∷ []) self.new) }
         ensures memory { IsOkUnless result Fault.Memory }
@@ -84,7 +84,7 @@ pub(crate) struct Texts {
 
 impl Texts {
     ghost use Rattle.column_segment.specs.Coding.{AreModesOf};
-    ghost use Rattle.column_segment.specs.Encoding.{AreOfBatch, HaveRoom, HaveTexts};
+    ghost use Rattle.column_segment.specs.Encoding.{AreOfBatch, CodingsHaveRoom, HaveTexts};
 
     // Those of no row, with room for the codes of so many.
     pub(crate) fn new(alloc: Global, rows: usize) -> Result<Texts, Fault>
@@ -102,7 +102,7 @@ impl Texts {
     // Adds those of a row.
     #[inline(always)]
     pub(crate) fn push(&mut self, alloc: Global, row: &LineOrder) -> Result<(), Fault>
-        requires room { HaveRoom self.old }
+        requires room { CodingsHaveRoom self.old }
         ensures ok { OnOk result ((rows : List LineOrder) → HaveTexts rows self.old
             → HaveTexts (rows ++ row.now ∷ []) self.new) }
         ensures memory { IsOkUnless result Fault.Memory }

@@ -39,11 +39,11 @@ impl Drop for ColumnBuffer {
 impl Model for ColumnBuffer {
     ghost use Rattle.std.specs.Prelude.{List};
     ghost use Rattle.cube_model.specs.declared.rows.LineOrder.{LineOrder};
-    ghost use Rattle.column_segment.specs.Decoded.{HoldsColumns, rows_in};
+    ghost use Rattle.column_segment.specs.Decoded.{HoldsColumns, decoded_rows};
 
     ghost Value = { List LineOrder };
 
-    ghost view = { λ b. rows_in b.bytes.items b.layout };
+    ghost view = { λ b. decoded_rows b.bytes.items b.layout };
 
     ghost invariant = { λ b. HoldsColumns b.bytes.items b.layout.rows };
 }

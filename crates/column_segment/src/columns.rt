@@ -41,11 +41,11 @@ pub enum NumberColumn {
 }
 
 impl NumberColumn {
-    ghost use Rattle.column_segment.specs.Columns.{number_of};
+    ghost use Rattle.column_segment.specs.Columns.{column_number};
 
     // What a row has in the column.
     pub(crate) fn of(self, row: &LineOrder) -> u32
-        ensures { result ≡ number_of self row.now }
+        ensures { result ≡ column_number self row.now }
     {
         match self {
             NumberColumn::LineNumber => row.linenumber,

@@ -3,7 +3,7 @@ ghost use Rattle.std.specs.Prelude.{◌≡◌, ◌≤◌, ◌+◌, ◌++◌, [],
 ghost use Rattle.cube_model.specs.Limits.{most_batch_rows};
 ghost use Rattle.cube_model.specs.declared.rows.LineOrder.{LineOrder};
 ghost use Rattle.column_segment.specs.Encoding.{HaveFewTexts, HaveTexts};
-ghost use Rattle.column_segment.specs.Segment.{IsBatch, header_of, segment_of};
+ghost use Rattle.column_segment.specs.Segment.{IsBatch, segment_header, segment_of};
 
 use crate::coding::Texts;
 use crate::gathering::{Figures, Keys, PIECE};
@@ -36,7 +36,7 @@ pub fn encode(alloc: Global, number: u32, rows: &[LineOrder]) -> Result<Vec<u8>,
 }
 
 fn push_header(out: &mut Vec<u8>, number: u32, rows: u32) -> Result<(), Fault>
-    ensures ok { OnOk result (out.new.items ≡ out.old.items ++ header_of number rows) }
+    ensures ok { OnOk result (out.new.items ≡ out.old.items ++ segment_header number rows) }
     ensures memory { IsOkUnless result Fault.Memory }
 {
     push_bytes(out, NAME)?;

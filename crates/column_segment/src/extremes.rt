@@ -2,9 +2,9 @@
 ghost use Rattle.std.specs.Prelude.{◌≡◌, ◌*◌, ◌-ℤ◌, pos, length, map};
 ghost use Rattle.cube_model.specs.Measures.{measure_of};
 ghost use Rattle.column_kernels.specs.Extremes.{extremes_of};
-ghost use Rattle.column_kernels.specs.Masks.{selected};
+ghost use Rattle.column_kernels.specs.Masks.{selected_by};
 ghost use Rattle.column_segment.specs.Columns.{amount_of, byte_of};
-ghost use Rattle.column_segment.specs.Decoded.{HoldsColumns, rows_in};
+ghost use Rattle.column_segment.specs.Decoded.{HoldsColumns, decoded_rows};
 
 use crate::columns::{AmountColumn, ByteColumn};
 use crate::layout::{Layout, amount_chunks, byte_part};
@@ -20,7 +20,8 @@ pub(crate) fn selected_extremes(
 ) -> Option<(i128, i128)>
     requires columns { HoldsColumns bytes.now layout.now.rows }
     requires rows { length mask.now ≡ layout.now.rows }
-    ensures { result ≡ extremes_of (map (measure_of measure) (selected mask.now (rows_in bytes.now layout.now))) }
+    ensures { result
+        ≡ extremes_of (map (measure_of measure) (selected_by mask.now (decoded_rows bytes.now layout.now))) }
 {
     match measure {
         Measure::Quantity => extremes_of_bytes(bytes, layout, ByteColumn::Quantity, mask),
@@ -44,7 +45,8 @@ fn extremes_of_bytes(
     requires columns { HoldsColumns bytes.now layout.now.rows }
     requires rows { length mask.now ≡ layout.now.rows }
     ensures { result
-        ≡ extremes_of (map (λ row. pos (byte_of column row)) (selected mask.now (rows_in bytes.now layout.now))) }
+        ≡ extremes_of
+        (map (λ row. pos (byte_of column row)) (selected_by mask.now (decoded_rows bytes.now layout.now))) }
 {
     mask.extremes_of_bytes(byte_part(bytes, layout.rows, column))
 }
@@ -59,7 +61,8 @@ fn extremes_of_amounts(
     requires columns { HoldsColumns bytes.now layout.now.rows }
     requires rows { length mask.now ≡ layout.now.rows }
     ensures { result
-        ≡ extremes_of (map (λ row. pos (amount_of column row)) (selected mask.now (rows_in bytes.now layout.now))) }
+        ≡ extremes_of
+        (map (λ row. pos (amount_of column row)) (selected_by mask.now (decoded_rows bytes.now layout.now))) }
 {
     mask.extremes_of_numbers(amount_chunks(bytes, layout.rows, column))
 }
@@ -70,7 +73,8 @@ fn extremes_of_discounted(bytes: &[u8], layout: &Layout, mask: &Mask) -> Option<
     requires rows { length mask.now ≡ layout.now.rows }
     ensures { result
         ≡ extremes_of
-        (map (λ row. pos (row.extendedprice * row.discount)) (selected mask.now (rows_in bytes.now layout.now))) }
+        (map (λ row. pos (row.extendedprice * row.discount))
+        (selected_by mask.now (decoded_rows bytes.now layout.now))) }
 {
     let prices = amount_chunks(bytes, layout.rows, AmountColumn::ExtendedPrice);
     let discounts = byte_part(bytes, layout.rows, ByteColumn::Discount);
@@ -83,7 +87,8 @@ fn extremes_of_profit(bytes: &[u8], layout: &Layout, mask: &Mask) -> Option<(i12
     requires rows { length mask.now ≡ layout.now.rows }
     ensures { result
         ≡ extremes_of
-        (map (λ row. pos row.revenue -ℤ pos row.supplycost) (selected mask.now (rows_in bytes.now layout.now))) }
+        (map (λ row. pos row.revenue -ℤ pos row.supplycost)
+        (selected_by mask.now (decoded_rows bytes.now layout.now))) }
 {
     let revenues = amount_chunks(bytes, layout.rows, AmountColumn::Revenue);
     let costs = amount_chunks(bytes, layout.rows, AmountColumn::SupplyCost);

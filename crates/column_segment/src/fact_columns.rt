@@ -7,11 +7,11 @@ ghost use Rattle.cube_model.specs.Limits.{most_batch_rows};
 ghost use Rattle.cube_model.specs.Measures.{measure_of};
 ghost use Rattle.std.specs.Int.{from_le_bytes, w32};
 ghost use Rattle.column_kernels.specs.Extremes.{extremes_of};
-ghost use Rattle.column_kernels.specs.Masks.{lies_in, selected};
+ghost use Rattle.column_kernels.specs.Masks.{lies_in, selected_by};
 ghost use Rattle.column_kernels.specs.Sums.{numbers_of};
-ghost use Rattle.column_segment.specs.Columns.{amount_of, byte_of, number_of};
-ghost use Rattle.column_segment.specs.Decoded.{HoldsColumns, rows_in};
-ghost use Rattle.column_segment.specs.Projected.{HaveFigures};
+ghost use Rattle.column_segment.specs.Columns.{amount_of, byte_of, column_number};
+ghost use Rattle.column_segment.specs.Decoded.{HoldsColumns, decoded_rows};
+ghost use Rattle.column_segment.specs.Projected.{BytesHaveFigures};
 
 use crate::columns::{AmountColumn, ByteColumn, NumberColumn};
 use crate::extremes::selected_extremes;
@@ -32,11 +32,11 @@ pub struct FactColumns<'a> {
 impl<'a> Model for FactColumns<'a> {
     ghost use Rattle.std.specs.Prelude.{List};
     ghost use Rattle.cube_model.specs.declared.rows.LineOrder.{LineOrder};
-    ghost use Rattle.column_segment.specs.Decoded.{HoldsColumns, rows_in};
+    ghost use Rattle.column_segment.specs.Decoded.{HoldsColumns, decoded_rows};
 
     ghost Value = { List LineOrder };
 
-    ghost view = { λ c. rows_in c.bytes.now c.layout.now };
+    ghost view = { λ c. decoded_rows c.bytes.now c.layout.now };
 
     ghost invariant = { λ c. HoldsColumns c.bytes.now c.layout.now.rows };
 }
@@ -45,7 +45,7 @@ impl<'a> FactColumns<'a> {
     // Those of bytes that are laid out in a way.
     pub(crate) fn of(bytes: &'a [u8], layout: &'a Layout) -> FactColumns<'a>
         requires { HoldsColumns bytes.now layout.now.rows }
-        ensures { result ≡ rows_in bytes.now layout.now }
+        ensures { result ≡ decoded_rows bytes.now layout.now }
     {
         FactColumns { bytes, layout }
     }
@@ -54,7 +54,7 @@ impl<'a> FactColumns<'a> {
     pub fn len(&self) -> usize
         ensures count { result ≡ length self.now }
         ensures few { length self.now ≤ most_batch_rows }
-        ensures figures { HaveFigures self.now }
+        ensures figures { BytesHaveFigures self.now }
     {
         figures_are_bytes(self.bytes, self.layout);
         self.layout.rows
@@ -69,7 +69,7 @@ impl<'a> FactColumns<'a> {
 
     /// A column of numbers, four bytes a row, the lowest byte first.
     pub fn numbers(&self, column: NumberColumn) -> &'a [[u8; 4]]
-        ensures { map (from_le_bytes w32) result.now ≡ map (number_of column) self.now }
+        ensures { map (from_le_bytes w32) result.now ≡ map (column_number column) self.now }
     {
         number_chunks(self.bytes, self.layout.rows, column)
     }
@@ -95,7 +95,7 @@ impl<'a> FactColumns<'a> {
     /// The sum of a measure over the rows that a mask of as many rows selects.
     pub fn selected_sum(&self, measure: Measure, mask: &Mask) -> i128
         requires rows { length mask.now ≡ length self.now }
-        ensures { result ≡ total (map (measure_of measure) (selected mask.now self.now)) }
+        ensures { result ≡ total (map (measure_of measure) (selected_by mask.now self.now)) }
     {
         selected_sum(self.bytes, self.layout, measure, mask)
     }
@@ -103,7 +103,7 @@ impl<'a> FactColumns<'a> {
     /// The least and the greatest of a measure over the rows that a mask of as many rows selects, if there are any.
     pub fn selected_extremes(&self, measure: Measure, mask: &Mask) -> Option<(i128, i128)>
         requires rows { length mask.now ≡ length self.now }
-        ensures { result ≡ extremes_of (map (measure_of measure) (selected mask.now self.now)) }
+        ensures { result ≡ extremes_of (map (measure_of measure) (selected_by mask.now self.now)) }
     {
         selected_extremes(self.bytes, self.layout, measure, mask)
     }
@@ -112,5 +112,5 @@ impl<'a> FactColumns<'a> {
 // Each small number in the columns of bytes is that of a byte. It does nothing.
 fn figures_are_bytes(bytes: &[u8], layout: &Layout)
     requires { HoldsColumns bytes.now layout.now.rows }
-    ensures { HaveFigures (rows_in bytes.now layout.now) }
+    ensures { BytesHaveFigures (decoded_rows bytes.now layout.now) }
 {}

@@ -5,7 +5,7 @@ ghost use Rattle.std.specs.Simd.{first_chunks};
 ghost use Rattle.cube_model.specs.Limits.{most_batch_rows};
 ghost use Rattle.column_segment.specs.Decoded.{amount_place, byte_place, codes_in, coded_of, column_bytes};
 ghost use Rattle.column_segment.specs.Decoded.{number_place};
-ghost use Rattle.column_segment.specs.Projected.{place_of, width_of};
+ghost use Rattle.column_segment.specs.Projected.{fact_place, width_of};
 
 use crate::columns::{AmountColumn, ByteColumn, FactColumn, NumberColumn, TextColumn};
 use dictionary::Dictionary;
@@ -156,7 +156,7 @@ fn part(bytes: &[u8], rows: usize, place: usize, width: usize) -> &[u8]
 
 /// How many bytes of a row are in the columns before one.
 pub(crate) fn place_of(column: FactColumn) -> usize
-    ensures value { result ≡ place_of column }
+    ensures value { result ≡ fact_place column }
     ensures within { result + width_of column ≤ 63 }
 {
     match column {

@@ -8,10 +8,10 @@ ghost use Rattle.cube_model.specs.declared.rows.LineOrder.{LineOrder};
 ghost use Rattle.wire.specs.Parts.{Gives};
 ghost use Rattle.wire.specs.Runs.{HasRead, IsRefused};
 ghost use Rattle.column_segment.specs.declared.columns.FactColumn.{FactColumn};
-ghost use Rattle.column_segment.specs.Decoded.{HoldsColumns, rows_in};
+ghost use Rattle.column_segment.specs.Decoded.{HoldsColumns, decoded_rows};
 ghost use Rattle.column_segment.specs.Reading.{HasHeader, HasNumbers};
 ghost use Rattle.column_segment.specs.Projected.{AgreeOn, FitsColumnIn, HasColumns, HoldsNoneOf, ShareColumn};
-ghost use Rattle.column_segment.specs.Projected.{StaysOutside, place_of, width_of};
+ghost use Rattle.column_segment.specs.Projected.{StaysOutside, fact_place, width_of};
 ghost use Rattle.column_segment.specs.Segment.{IsSegment};
 
 use crate::columns::FactColumn;
@@ -63,7 +63,7 @@ pub(crate) fn columns_agree(bytes: &[u8], layout: &Layout)
     ensures { (text : List ℕ) (number other : ℕ) (others : List LineOrder) (columns : List FactColumn)
         → HasColumns text number layout.now.rows
         → AllByRecursion (ShareColumn layout.now.rows bytes.now text) columns → IsSegment text other others
-        → (other ≡ number) × AgreeOn columns (rows_in bytes.now layout.now) others }
+        → (other ≡ number) × AgreeOn columns (decoded_rows bytes.now layout.now) others }
 {}
 
 // Reads the header and all columns of numbers at once, each to its place, and checks the header and the columns asked

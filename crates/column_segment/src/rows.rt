@@ -5,7 +5,7 @@ ghost use Rattle.std.specs.List.{range_with_len};
 ghost use Rattle.cube_model.specs.Limits.{most_batch_rows};
 ghost use Rattle.column_segment.specs.Decoded.{HasCodes, IsReadable, amounts_in, figures_in, numbers_in, row_in};
 ghost use Rattle.column_segment.specs.Decoded.{texts_in};
-ghost use Rattle.column_segment.specs.Rows.{figures_of, keys_of};
+ghost use Rattle.column_segment.specs.Rows.{figures_of, row_keys_of};
 
 use crate::columns::{AmountColumn, ByteColumn, NumberColumn};
 use crate::layout::{Coded, Layout, amount_chunks, byte_part, number_chunks};
@@ -109,7 +109,7 @@ fn row_at(alloc: Global, bytes: &[u8], layout: &Layout, row: usize) -> Result<Li
 fn keys_at(bytes: &[u8], layout: &Layout, row: usize) -> RowKeys
     requires readable { IsReadable bytes.now layout.now }
     requires within { row < layout.now.rows }
-    ensures { result ≡ keys_of (row_in bytes.now layout.now row) }
+    ensures { result ≡ row_keys_of (row_in bytes.now layout.now row) }
 {
     RowKeys {
         orderkey: amount_at(bytes, layout, AmountColumn::OrderKey, row),

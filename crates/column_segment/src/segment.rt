@@ -4,7 +4,7 @@ ghost use Rattle.std.specs.Prelude.{IfOk, IsOkUnless, OnOk};
 ghost use Rattle.cube_model.specs.declared.fault.Fault.{Fault};
 ghost use Rattle.cube_model.specs.declared.rows.LineOrder.{LineOrder};
 ghost use Rattle.std.specs.Int.{from_le_bytes, w16};
-ghost use Rattle.dictionary.specs.Columns.{text_at};
+ghost use Rattle.dictionary.specs.Columns.{text_of_code};
 ghost use Rattle.column_segment.specs.Columns.{text_of};
 ghost use Rattle.column_segment.specs.Segment.{FitColumns, IsBatch, IsSegment};
 
@@ -39,9 +39,9 @@ impl Model for Segment {
 
     ghost Value = { Batch };
 
-    ghost use Rattle.column_segment.specs.Decoded.{IsDecoded, rows_in};
+    ghost use Rattle.column_segment.specs.Decoded.{IsDecoded, decoded_rows};
 
-    ghost view = { λ s. record { number = s.layout.number; rows = rows_in s.bytes.items s.layout } };
+    ghost view = { λ s. record { number = s.layout.number; rows = decoded_rows s.bytes.items s.layout } };
 
     ghost invariant = { λ s. IsDecoded s.bytes.items s.layout };
 }
@@ -110,7 +110,7 @@ impl Segment {
     /// in two bytes, the lowest first.
     pub fn coded(&self, column: TextColumn) -> (&Dictionary, &[[u8; 2]])
         ensures below { All (λ code. code < length result.0.now.texts) (map (from_le_bytes w16) result.1.now) }
-        ensures texts { map (text_at result.0.now.texts) (map (from_le_bytes w16) result.1.now)
+        ensures texts { map (text_of_code result.0.now.texts) (map (from_le_bytes w16) result.1.now)
             ≡ map (text_of column) self.now.rows }
     {
         let coded = self.layout.texts.column(column);

@@ -2,9 +2,9 @@
 ghost use Rattle.std.specs.Prelude.{◌≡◌, ◌<◌, ◌^◌, ◌*◌, ◌-ℤ◌, pos, length, map};
 ghost use Rattle.cube_model.specs.Aggregates.{total};
 ghost use Rattle.cube_model.specs.Measures.{measure_of};
-ghost use Rattle.column_kernels.specs.Masks.{selected};
+ghost use Rattle.column_kernels.specs.Masks.{selected_by};
 ghost use Rattle.column_segment.specs.Columns.{amount_of, byte_of};
-ghost use Rattle.column_segment.specs.Decoded.{HoldsColumns, rows_in};
+ghost use Rattle.column_segment.specs.Decoded.{HoldsColumns, decoded_rows};
 
 use crate::columns::{AmountColumn, ByteColumn};
 use crate::layout::{Layout, amount_chunks, byte_part};
@@ -15,7 +15,7 @@ use cube_model::Measure;
 pub(crate) fn selected_sum(bytes: &[u8], layout: &Layout, measure: Measure, mask: &Mask) -> i128
     requires columns { HoldsColumns bytes.now layout.now.rows }
     requires rows { length mask.now ≡ layout.now.rows }
-    ensures { result ≡ total (map (measure_of measure) (selected mask.now (rows_in bytes.now layout.now))) }
+    ensures { result ≡ total (map (measure_of measure) (selected_by mask.now (decoded_rows bytes.now layout.now))) }
 {
     match measure {
         Measure::Quantity => sum_of_bytes(bytes, layout, ByteColumn::Quantity, mask),
@@ -32,7 +32,7 @@ fn sum_of_bytes(bytes: &[u8], layout: &Layout, column: ByteColumn, mask: &Mask) 
     requires columns { HoldsColumns bytes.now layout.now.rows }
     requires rows { length mask.now ≡ layout.now.rows }
     ensures { result
-        ≡ total (map (λ row. pos (byte_of column row)) (selected mask.now (rows_in bytes.now layout.now))) }
+        ≡ total (map (λ row. pos (byte_of column row)) (selected_by mask.now (decoded_rows bytes.now layout.now))) }
 {
     whole(mask.sum_of_bytes(byte_part(bytes, layout.rows, column)))
 }
@@ -42,7 +42,7 @@ fn sum_of_amounts(bytes: &[u8], layout: &Layout, column: AmountColumn, mask: &Ma
     requires columns { HoldsColumns bytes.now layout.now.rows }
     requires rows { length mask.now ≡ layout.now.rows }
     ensures { result
-        ≡ total (map (λ row. pos (amount_of column row)) (selected mask.now (rows_in bytes.now layout.now))) }
+        ≡ total (map (λ row. pos (amount_of column row)) (selected_by mask.now (decoded_rows bytes.now layout.now))) }
 {
     whole(mask.sum_of_numbers(amount_chunks(bytes, layout.rows, column)))
 }
@@ -53,7 +53,7 @@ fn sum_of_discounted(bytes: &[u8], layout: &Layout, mask: &Mask) -> i128
     requires rows { length mask.now ≡ layout.now.rows }
     ensures { result
         ≡ total (map (λ row. pos (row.extendedprice * row.discount))
-        (selected mask.now (rows_in bytes.now layout.now))) }
+        (selected_by mask.now (decoded_rows bytes.now layout.now))) }
 {
     let prices = amount_chunks(bytes, layout.rows, AmountColumn::ExtendedPrice);
     let discounts = byte_part(bytes, layout.rows, ByteColumn::Discount);
@@ -66,7 +66,7 @@ fn sum_of_profit(bytes: &[u8], layout: &Layout, mask: &Mask) -> i128
     requires rows { length mask.now ≡ layout.now.rows }
     ensures { result
         ≡ total (map (λ row. pos row.revenue -ℤ pos row.supplycost)
-        (selected mask.now (rows_in bytes.now layout.now))) }
+        (selected_by mask.now (decoded_rows bytes.now layout.now))) }
 {
     let revenues = amount_chunks(bytes, layout.rows, AmountColumn::Revenue);
     let costs = amount_chunks(bytes, layout.rows, AmountColumn::SupplyCost);

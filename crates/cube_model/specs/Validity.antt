@@ -127,12 +127,12 @@ abbrev pub HasShortTexts : {Row : Type 0} → Rules Row → Row → Type 0
 HasShortTexts rules row = AllByRecursion (λ text. length (text row) ≤ longest_text) rules.texts
 
 -- the same of each row: longer texts have no spelling on a disk
-abbrev pub AreShort : {Row : Type 0} → Rules Row → List Row → Type 0
-AreShort rules rows = AllByRecursion (HasShortTexts rules) rows
+abbrev pub RowsHaveShortTexts : {Row : Type 0} → Rules Row → List Row → Type 0
+RowsHaveShortTexts rules rows = AllByRecursion (HasShortTexts rules) rows
 
 -- The same of the four dimensions. It is no part of being valid: who takes rows in asks for it.
 pub record HaveShortTexts (rows : DimRows) : Type 0 where
-  pub customers : AreShort customer_rules rows.customers
-  pub suppliers : AreShort supplier_rules rows.suppliers
-  pub parts : AreShort part_rules rows.parts
-  pub dates : AreShort date_rules rows.dates
+  pub customers : RowsHaveShortTexts customer_rules rows.customers
+  pub suppliers : RowsHaveShortTexts supplier_rules rows.suppliers
+  pub parts : RowsHaveShortTexts part_rules rows.parts
+  pub dates : RowsHaveShortTexts date_rules rows.dates

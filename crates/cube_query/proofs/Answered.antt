@@ -26,14 +26,14 @@ use Rattle.cube_model.specs.declared.rows.DimRows.{DimRows}
 use Rattle.cube_model.specs.Keys.{key_cmp, keys_of}
 use Rattle.cube_model.specs.Order.{key_cmp_total, key_cmp-IsAntisymmetric}
 use Rattle.cube_model.specs.Selection.{selected}
-use Rattle.cube_query.specs.Tallies.{tally_of, tallies_of, tallies_if_any, number_of, value_of, values_of}
+use Rattle.cube_query.specs.Tallies.{tally_of, tallies_of, tallies_if_any, aggregated, value_of, values_of}
 use Rattle.cube_query.specs.Columns.{line_with}
 use Rattle.cube_model.proofs.Entries.{entries_are, find-lookup, find-map}
 
 -- what an aggregate takes of the tally of some rows is the aggregate over them
-pub value_of-tally_of : (agg : Agg) (rows : List LineOrder) → value_of agg (tally_of (map (number_of agg) rows))
+pub value_of-tally_of : (agg : Agg) (rows : List LineOrder) → value_of agg (tally_of (map (aggregated agg) rows))
     ≡ aggregate agg rows
-value_of-tally_of Count rows = ap (λ n. Whole (pos n)) (length-map rows (number_of Count))
+value_of-tally_of Count rows = ap (λ n. Whole (pos n)) (length-map rows (aggregated Count))
 value_of-tally_of (Sum measure) rows = refl
 value_of-tally_of (Min measure) rows = refl
 value_of-tally_of (Max measure) rows = refl

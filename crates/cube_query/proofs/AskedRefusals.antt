@@ -19,15 +19,15 @@ use Rattle.cube_model.specs.declared.rows.LineOrder.{LineOrder}
 use Rattle.cube_model.specs.Attributes.{axis_of}
 use Rattle.cube_model.specs.Places.{row_count_of, row_index_of}
 use Rattle.cube_model.specs.Selection.{is_selected}
-use Rattle.column_kernels.specs.Masks.{selected}
+use Rattle.column_kernels.specs.Masks.{selected_by}
 use Rattle.column_segment.specs.declared.columns.FactColumn.{FactColumn}
 use Rattle.group_plan.specs.Numbers.{IsKnown}
 use Rattle.group_plan.specs.Parts.{IsKnownFor, is_on, is_same, is_used}
 use Rattle.group_plan.proofs.Numbers.{is_same-same}
 use Rattle.cube_query.specs.Asked.{AreSame, SameIn, aggregate_asks, condition_asks, has_keys_of, is_asked}
-use Rattle.cube_query.specs.Columns.{can_add, chosen, size_of, tally_at}
+use Rattle.cube_query.specs.Columns.{can_add, rows_with_slots, aggregate_size, tally_at}
 use Rattle.cube_query.specs.FoldInvariant.{AreGroupSlots, HaveRoom, IsGroupSlot}
-use Rattle.cube_query.specs.Tallies.{number_of}
+use Rattle.cube_query.specs.Tallies.{aggregated}
 use Rattle.cube_query.specs.WholeBatch.{HaveRoomAt}
 use Rattle.cube_query.specs.declared.tally.Tally.{Tally}
 use Rattle.cube_query.proofs.AskedRows.{key_same, number_same, or_left, or_right, same_key, same_selected}
@@ -46,7 +46,7 @@ module _ (asks : FactColumn → Bool) where
   same_self (row ∷ rows) = ((λ column asked. refl), same_self rows)
 
   pub masked_same : (marks : List Bool) (rows others : List LineOrder) → AreSame asks rows others
-      → AreSame asks (selected marks rows) (selected marks others)
+      → AreSame asks (selected_by marks rows) (selected_by marks others)
   masked_same [] rows others same = tt
   masked_same (mark ∷ marks) [] [] same = tt
   masked_same (mark ∷ marks) [] (other ∷ others) same = absurd same
@@ -55,7 +55,7 @@ module _ (asks : FactColumn → Bool) where
   masked_same (false ∷ marks) (row ∷ rows) (other ∷ others) same = masked_same marks rows others same.1
 
   chosen_same : (rows others : List LineOrder) (group_slots : List (Option ℕ)) → AreSame asks rows others
-      → AreSame asks (chosen rows group_slots) (chosen others group_slots)
+      → AreSame asks (rows_with_slots rows group_slots) (rows_with_slots others group_slots)
   chosen_same [] [] group_slots same = tt
   chosen_same [] (other ∷ others) group_slots same = absurd same
   chosen_same (row ∷ rows) [] group_slots same = absurd same
@@ -65,12 +65,12 @@ module _ (asks : FactColumn → Bool) where
       (same.0, chosen_same rows others group_slots same.1)
 
   size_same : (agg : Agg) → ((column : FactColumn) → aggregate_asks column agg ≡ true → asks column ≡ true)
-      → (rows others : List LineOrder) → AreSame asks rows others → size_of agg rows ≡ size_of agg others
+      → (rows others : List LineOrder) → AreSame asks rows others → aggregate_size agg rows ≡ aggregate_size agg others
   size_same agg asked [] [] same = refl
   size_same agg asked [] (other ∷ others) same = absurd same
   size_same agg asked (row ∷ rows) [] same = absurd same
   size_same agg asked (row ∷ rows) (other ∷ others) same =
-      let size = λ (one : LineOrder). nat_abs (number_of agg one) in
+      let size = λ (one : LineOrder). nat_abs (aggregated agg one) in
       let own = number_same agg row other (λ column it. same.0 column (asked column it)) in
       let rest = size_same agg asked rows others same.1 in
       sum_by-cons size row rows ∙ (λ i. nat_abs (own i) + rest i) ∙ sym (sum_by-cons size other others)
@@ -194,7 +194,8 @@ module _ (query : Query) (columns : List (Vec Tally Global)) where
   room_same rows others group_slots same room k lt agg column =
       let own = get_or query.aggregates k agg in
       let there = room k lt agg column in
-      let size = size_same (is_asked query) own (asks_of k agg lt) (chosen rows group_slots) (chosen others group_slots)
+      let size = size_same (is_asked query) own (asks_of k agg lt) (rows_with_slots rows group_slots)
+      (rows_with_slots others group_slots)
       (chosen_same (is_asked query) rows others group_slots same) in
       let many = same_length (is_asked query) rows others same in
       record {

@@ -31,11 +31,11 @@ use Rattle.column_segment.specs.declared.columns.FactColumn.{FactColumn}
 use Rattle.column_segment.specs.declared.columns.FactColumn.TheVariants.{Amount, Number, Figure}
 use Rattle.column_segment.specs.declared.columns.NumberColumn.TheVariants.{LineNumber, CustKey, PartKey, SuppKey}
 use Rattle.column_segment.specs.declared.columns.NumberColumn.TheVariants.{OrderDate}
-use Rattle.column_segment.specs.Projected.{AgreeOn, value_of}
+use Rattle.column_segment.specs.Projected.{AgreeOn, fact_value}
 use Rattle.cube_query.specs.Asked.{AreSame, SameIn, aggregate_asks, asked_columns, condition_asks, fact_columns}
 use Rattle.cube_query.specs.Asked.{has_keys_of, is_asked, is_made_of}
 use Rattle.cube_query.specs.Groups.{FoldState, RepresentsRows, Takes, finest, rows_at}
-use Rattle.cube_query.specs.Tallies.{number_of, tallies_of, tally_of}
+use Rattle.cube_query.specs.Tallies.{aggregated, tallies_of, tally_of}
 use Rattle.cube_query.proofs.OneRow.{plain_key, rows_at-skip, rows_at-take}
 
 -- ---- tests
@@ -73,7 +73,7 @@ measure_same measures.Profit row other same =
     λ i. pos (revenue i) -ℤ pos (cost i)
 
 pub number_same : (agg : Agg) (row other : LineOrder) → SameIn (λ column. aggregate_asks column agg) row other
-    → number_of agg row ≡ number_of agg other
+    → aggregated agg row ≡ aggregated agg other
 number_same Count row other same = refl
 number_same (Sum measure) row other same = measure_same measure row other same
 number_same (Min measure) row other same = measure_same measure row other same
@@ -195,7 +195,7 @@ module _ (dimensions : DimRows) (query : Query) where
         ≡ tallies_of aggs (rows_at dimensions (finest query) key others)
     tallies_among [] asked = refl
     tallies_among (agg ∷ aggs) asked =
-        let own = made_same dimensions (finest query) refl key (is_asked query) (number_of agg) same_selected same_key
+        let own = made_same dimensions (finest query) refl key (is_asked query) (aggregated agg) same_selected same_key
         (λ row other alike. number_same agg row other
         (λ column asks. alike column (asked column (or_left _ (list_any (aggregate_asks column) aggs) asks)))) rows
         others same in
@@ -210,10 +210,10 @@ module _ (dimensions : DimRows) (query : Query) where
 
     same_none : rows_at dimensions (finest query) key rows ≡ [] → rows_at dimensions (finest query) key others ≡ []
     same_none none =
-        let both = made_same dimensions (finest query) refl key (is_asked query) (number_of Count) same_selected
+        let both = made_same dimensions (finest query) refl key (is_asked query) (aggregated Count) same_selected
         same_key (λ row other alike. refl) rows others same in
-        no_items (number_of Count) (rows_at dimensions (finest query) key others)
-        (sym both ∙ ap (map (number_of Count)) none)
+        no_items (aggregated Count) (rows_at dimensions (finest query) key others)
+        (sym both ∙ ap (map (aggregated Count)) none)
 
   -- agreement by columns is agreement row by row
   picked : (P : FactColumn → Type 0) (asks : FactColumn → Bool) (columns : List FactColumn)
@@ -245,7 +245,7 @@ module _ (dimensions : DimRows) (query : Query) where
 
   row_by_row : (rows others : List LineOrder) → length rows ≡ length others
       → ((column : FactColumn) → is_asked query column ≡ true
-      → map (value_of column) rows ≡ map (value_of column) others) → AreSame (is_asked query) rows others
+      → map (fact_value column) rows ≡ map (fact_value column) others) → AreSame (is_asked query) rows others
   row_by_row [] [] many same = tt
   row_by_row [] (other ∷ others) many same = absurd (omega (arith, many))
   row_by_row (row ∷ rows) [] many same = absurd (omega (arith, many))
@@ -262,8 +262,9 @@ module _ (dimensions : DimRows) (query : Query) where
       → AreSame (is_asked query) rows others
   agreeing_same rows others agree =
       row_by_row rows others agree.count
-      (each_column (λ column. is_asked query column ≡ true → map (value_of column) rows ≡ map (value_of column) others)
-      (picked (λ column. map (value_of column) rows ≡ map (value_of column) others) (is_asked query) fact_columns
+      (each_column (λ column. is_asked query column ≡ true
+      → map (fact_value column) rows ≡ map (fact_value column) others)
+      (picked (λ column. map (fact_value column) rows ≡ map (fact_value column) others) (is_asked query) fact_columns
       agree.each))
 
 -- ---- a fold

@@ -8,16 +8,16 @@ use Rattle.cube_model.specs.Selection.{is_selected}
 use Rattle.cube_model.specs.declared.query.Query.{Query}
 use Rattle.cube_model.specs.declared.rows.DimRows.{DimRows}
 use Rattle.cube_model.specs.declared.rows.LineOrder.{LineOrder}
-use Rattle.column_kernels.specs.Masks.{selected}
+use Rattle.column_kernels.specs.Masks.{selected_by}
 use Rattle.group_plan.specs.Numbers.{group_count}
-use Rattle.group_plan.specs.Plans.{IsPlanOver, query_of}
+use Rattle.group_plan.specs.Plans.{IsGroupPlanOver, query_of}
 use Rattle.group_plan.specs.declared.plan.GroupPlan.{GroupPlan}
 use Rattle.cube_query.specs.Columns.{tallies_at}
 use Rattle.cube_query.specs.FoldInvariant.{AreGroupSlots, CountIn, IsKept}
 use Rattle.cube_query.specs.Groups.{FoldState, RepresentsRows, Takes}
 use Rattle.cube_query.specs.Limits.{AreFoldable}
 use Rattle.cube_query.specs.Slots.{entries_of, slot_of, AreSlots, CanPlace, Cover, Grow}
-use Rattle.cube_query.specs.WholeBatch.{HaveRoomAt, all_at, has_one_group, with_rows}
+use Rattle.cube_query.specs.WholeBatch.{HaveRoomAt, all_at, has_one_group, tallies_with_rows}
 use Rattle.cube_query.specs.declared.slots.Slots.{Slots}
 use Rattle.cube_query.specs.declared.slots.Slots.TheVariants.{Direct, Below, Seen}
 use Rattle.cube_query.specs.declared.tally.Tally.{Tally}
@@ -48,7 +48,7 @@ takes_none dimensions fold =
     }
 
 -- ---- a fold
-module _ (dimensions : DimRows) (plan : GroupPlan) (over : IsPlanOver dimensions plan) (old : Slots)
+module _ (dimensions : DimRows) (plan : GroupPlan) (over : IsGroupPlanOver dimensions plan) (old : Slots)
     (columns : List (Vec Tally Global)) (kept : IsKept plan old columns) (one : has_one_group (query_of plan) ≡ true)
   where
     abbrev query : Query
@@ -85,7 +85,7 @@ module _ (dimensions : DimRows) (plan : GroupPlan) (over : IsPlanOver dimensions
         module _ (marks : List Bool) (rows : List LineOrder)
             (marks_are : marks ≡ map (is_selected dimensions query.conditions) rows) where
           abbrev some : List LineOrder
-          some = selected marks rows
+          some = selected_by marks rows
 
           have : AreGroupSlots dimensions query (entries_of new) some (all_at slot some)
           have = slots_are dimensions query (entries_of new) slot one there marks rows marks_are
@@ -101,17 +101,19 @@ module _ (dimensions : DimRows) (plan : GroupPlan) (over : IsPlanOver dimensions
 
           module _ (merged : List (Vec Tally Global))
               (merged_is : (other : ℕ)
-              → tallies_at merged other ≡ with_rows query.aggregates some slot other (tallies_at longer other)) where
-            counted : CountIn query.aggregates some (all_at slot some) longer merged
-            counted = batch_counted query.aggregates some slot longer merged merged_is
+              → tallies_at merged other ≡ tallies_with_rows query.aggregates some slot other (tallies_at longer other))
+            where
+              counted : CountIn query.aggregates some (all_at slot some) longer merged
+              counted = batch_counted query.aggregates some slot longer merged merged_is
 
-            pub kept_batch : IsKept plan new merged
-            kept_batch = kept_count dimensions plan over old columns kept new longer cover grow same some
-                (all_at slot some) have merged counted
+              pub kept_batch : IsKept plan new merged
+              kept_batch = kept_count dimensions plan over old columns kept new longer cover grow same some
+                  (all_at slot some) have merged counted
 
-            pub represents_batch : (so_far : List LineOrder) → RepresentsRows dimensions (shown plan old columns) so_far
-                → RepresentsRows dimensions (shown plan new merged) (so_far ++ some)
-            represents_batch so_far represents =
-                represents_count dimensions plan over old columns kept new longer cover grow same some
-                (all_at slot some)
-                have merged counted so_far represents
+              pub represents_batch : (so_far : List LineOrder)
+                  → RepresentsRows dimensions (shown plan old columns) so_far
+                  → RepresentsRows dimensions (shown plan new merged) (so_far ++ some)
+              represents_batch so_far represents =
+                  represents_count dimensions plan over old columns kept new longer cover grow same some
+                  (all_at slot some)
+                  have merged counted so_far represents

@@ -13,7 +13,7 @@ use Rattle.cube_model.specs.declared.measure.Agg.TheVariants.{Count}
 use Rattle.cube_model.specs.declared.measure.Measure.{Measure}
 use Rattle.cube_model.specs.declared.rows.LineOrder.{LineOrder}
 use Rattle.column_kernels.specs.Extremes.{extremes_of}
-use Rattle.cube_query.specs.Tallies.{number_of, tally_of}
+use Rattle.cube_query.specs.Tallies.{aggregated, tally_of}
 use Rattle.cube_query.proofs.Sums.{FitsSigned-small, nat_abs-total}
 
 -- no extremes, no number
@@ -118,7 +118,7 @@ noughts_greatest [] = refl
 noughts_greatest (row ∷ rows) = noughts_greatest rows
 
 pub tally_noughts : (rows : List LineOrder) (count : ℕ) → count ≡ length rows
-    → record { count = count; sum = pos 0; least = pos 0; greatest = pos 0 } ≡ tally_of (map (number_of Count) rows)
+    → record { count = count; sum = pos 0; least = pos 0; greatest = pos 0 } ≡ tally_of (map (aggregated Count) rows)
 tally_noughts [] count is = λ i. record { count = is i; sum = pos 0; least = pos 0; greatest = pos 0 }
 tally_noughts (row ∷ rows) count is =
     λ i. record {

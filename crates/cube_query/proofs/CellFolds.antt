@@ -18,23 +18,23 @@ use Rattle.cube_model.specs.declared.rows.LineOrder.{LineOrder}
 use Rattle.lattice.specs.declared.view.View.{View}
 use Rattle.lattice.specs.Determined.{Serves}
 use Rattle.cuboid_cells.specs.declared.cell.Cell.{Cell}
-use Rattle.cuboid_cells.specs.Cells.{AreAscending, PlainCells, cell_at, number_of as key_number}
-use Rattle.cuboid_upkeep.specs.Grouping.{HasMembers, RepresentRows, cell_over, key_of, rows_of}
+use Rattle.cuboid_cells.specs.Cells.{AreAscending, PlainCells, cell_at, key_as_number}
+use Rattle.cuboid_upkeep.specs.Grouping.{HasMembers, RepresentRows, cell_over, key_of, rows_of_number}
 use Rattle.cuboid_upkeep.specs.Lawful.{OneKeyOneGroup}
 use Rattle.cuboid_upkeep.proofs.Represented.{row_of_cell}
-use Rattle.group_plan.specs.Numbers.{group_count, key_at}
-use Rattle.group_plan.specs.Plans.{IsPlanOver, query_of}
+use Rattle.group_plan.specs.Numbers.{group_count, group_key_at}
+use Rattle.group_plan.specs.Plans.{IsGroupPlanOver, query_of}
 use Rattle.group_plan.specs.declared.plan.GroupPlan.{GroupPlan}
 use Rattle.group_plan.proofs.Extending.{plan_of_over}
 use Rattle.cube_query.specs.CellRuns.{AreWantedMerged}
 use Rattle.cube_query.specs.CellSlots.{AreMergedIn, asked_of}
-use Rattle.cube_query.specs.CellTallies.{AreBelow, GroupsHaveRoomFor, HasRoomFor, HaveRoomFor, with_cells}
-use Rattle.cube_query.specs.Columns.{size_of, slotted, tallies_at}
+use Rattle.cube_query.specs.CellTallies.{SlotsAreBelow, GroupsHaveRoomFor, HasRoomForCells, HaveRoomFor, with_cells}
+use Rattle.cube_query.specs.Columns.{aggregate_size, slotted, tallies_at}
 use Rattle.cube_query.specs.FoldInvariant.{AreGroupSlots, CountIn, IsGroupSlot, IsKept}
 use Rattle.cube_query.specs.Groups.{RepresentsRows, finest, rows_at}
 use Rattle.cube_query.specs.Limits.{AreFoldable}
 use Rattle.cube_query.specs.Slots.{entries_of, Cover, Grow}
-use Rattle.cube_query.specs.Tallies.{number_of, tallies_of, tally_of}
+use Rattle.cube_query.specs.Tallies.{aggregated, tallies_of, tally_of}
 use Rattle.cube_query.specs.declared.slots.Slots.{Slots}
 use Rattle.cube_query.specs.declared.tally.Tally.{Tally}
 use Rattle.cube_query.proofs.CellGroups.{AreApart, cells_are_rows, counts-rows, sizes-rows, slot_by, slotted-filter}
@@ -51,18 +51,19 @@ use Rattle.cube_query.proofs.Sums.{length-filter-le, nat_abs-total, sum_by-filte
 
 -- ---- cells that ascend are apart
 none_above : (number : ℕ) (cells : List Cell)
-    → ((k : ℕ) (d : Cell) → k < length cells → number < key_number (get_or cells k d).key) → cell_at number cells ≡ None
+    → ((k : ℕ) (d : Cell) → k < length cells → number < key_as_number (get_or cells k d).key)
+    → cell_at number cells ≡ None
 none_above number [] above = refl
 none_above number (cell ∷ cells) above =
     let low = above 0 cell (omega arith) in
-    let test : (key_number cell.key == number) ≡ false = grind (arith, nat_tests) in
+    let test : (key_as_number cell.key == number) ≡ false = grind (arith, nat_tests) in
     ap (λ (b : Bool). cond b (Some cell) (cell_at number cells)) test
     ∙ none_above number cells (λ k d h. above (suc k) d (omega (arith, h)))
 
 pub apart : (cells : List Cell) → AreAscending cells → AreApart cells
 apart [] up = tt
 apart (cell ∷ cells) up = (
-  none_above (key_number cell.key) cells (λ k d h. up 0 (suc k) d (omega arith) (omega (arith, h))),
+  none_above (key_as_number cell.key) cells (λ k d h. up 0 (suc k) d (omega arith) (omega (arith, h))),
   apart cells (λ i j d before h. up (suc i) (suc j) d (omega (arith, before)) (omega (arith, h))),
 )
 
@@ -70,22 +71,24 @@ apart (cell ∷ cells) up = (
 module _ (dimensions : DimRows) (modes : List (List ℕ)) (view : View) (query : Query) (entries : List (ℕ × ℕ)) where
   -- ---- the cell of a row
   row_found : (number : ℕ) (rows : List LineOrder) (row : LineOrder) → Contains rows row
-      → key_number (key_of dimensions modes view row) ≡ number
-      → cell_over dimensions modes view (rows_of dimensions modes view number rows) ≡ None → ⊥
+      → key_as_number (key_of dimensions modes view row) ≡ number
+      → cell_over dimensions modes view (rows_of_number dimensions modes view number rows) ≡ None → ⊥
   row_found number [] row there own none = absurd (omega (arith, there.1))
   row_found number (first ∷ rows) row (zero, within, is) own none =
-      let test : (key_number (key_of dimensions modes view first) == number) ≡ true =
-      (let same : key_number (key_of dimensions modes view first) ≡ number =
-      ap (λ (r : LineOrder). key_number (key_of dimensions modes view r)) is ∙ own in grind (arith, nat_tests)) in
-      let some : cell_over dimensions modes view (first ∷ rows_of dimensions modes view number rows) ≡ None =
+      let test : (key_as_number (key_of dimensions modes view first) == number) ≡ true =
+      (let same : key_as_number (key_of dimensions modes view first) ≡ number =
+      ap (λ (r : LineOrder). key_as_number (key_of dimensions modes view r)) is ∙ own in grind (arith, nat_tests)) in
+      let some : cell_over dimensions modes view (first ∷ rows_of_number dimensions modes view number rows) ≡ None =
       sym (ap (λ (b : Bool). cell_over dimensions modes view
-      (cond b (first ∷ rows_of dimensions modes view number rows) (rows_of dimensions modes view number rows)))
+      (cond b (first ∷ rows_of_number dimensions modes view number rows)
+      (rows_of_number dimensions modes view number rows)))
       test) ∙ none in
       absurd (cc some)
   row_found number (first ∷ rows) row (suc k, within, is) own none =
-      (elim (key_number (key_of dimensions modes view first) == number) as
+      (elim (key_as_number (key_of dimensions modes view first) == number) as
       (λ b. cell_over dimensions modes view
-      (cond b (first ∷ rows_of dimensions modes view number rows) (rows_of dimensions modes view number rows))
+      (cond b (first ∷ rows_of_number dimensions modes view number rows)
+      (rows_of_number dimensions modes view number rows))
       ≡ None → ⊥) [
         | true ↦ λ some. absurd (cc some)
         | false ↦ λ still. row_found number rows row (k, omega (arith, within), is) own still
@@ -97,11 +100,11 @@ module _ (dimensions : DimRows) (modes : List (List ℕ)) (view : View) (query :
       → HasSlot dimensions modes view query entries number (slot_by cells group_slots number)) (rows : List LineOrder)
       (represent : RepresentRows dimensions modes rows (record { view = view; cells = cells })) where
     abbrev pub slot_of_row : LineOrder → Option ℕ
-    slot_of_row row = slot_by cells group_slots (key_number (key_of dimensions modes view row))
+    slot_of_row row = slot_by cells group_slots (key_as_number (key_of dimensions modes view row))
 
     row_slot : (row : LineOrder) → Contains rows row → IsGroupSlot dimensions query entries row (slot_of_row row)
     row_slot row there =
-        let number = key_number (key_of dimensions modes view row) in
+        let number = key_as_number (key_of dimensions modes view row) in
         let members : HasMembers dimensions modes view row =
         subst (HasMembers dimensions modes view) there.2 (represent.known there.0 row there.1) in
         (elim (cell_at number cells) as (λ o. cell_at number cells ≡ o
@@ -111,7 +114,7 @@ module _ (dimensions : DimRows) (modes : List (List ℕ)) (view : View) (query :
         ]) refl
       where
         turned : (row : LineOrder) → HasMembers dimensions modes view row
-            → HasSlot dimensions modes view query entries (key_number (key_of dimensions modes view row))
+            → HasSlot dimensions modes view query entries (key_as_number (key_of dimensions modes view row))
             (slot_of_row row) → IsGroupSlot dimensions query entries row (slot_of_row row)
         turned row members has =
             (elim (slot_of_row row) as (λ o. IsGroupSlot dimensions query entries has.row o
@@ -156,10 +159,10 @@ module _ (dimensions : DimRows) (modes : List (List ℕ)) (view : View) (query :
 module _ (dimensions : DimRows) (modes : List (List ℕ)) (plain : PlainCells) (so_far rows : List LineOrder)
     (represent : RepresentRows dimensions modes rows plain) (foldable : AreFoldable dimensions (so_far ++ rows))
     (own : List LineOrder) (fewer : length own ≤ length so_far)
-    (smaller : (agg : Agg) → size_of agg own ≤ size_of agg so_far) where
-  room_for : (agg : Agg) → HasRoomFor agg plain.cells (tally_of (map (number_of agg) own))
+    (smaller : (agg : Agg) → aggregate_size agg own ≤ aggregate_size agg so_far) where
+  room_for : (agg : Agg) → HasRoomForCells agg plain.cells (tally_of (map (aggregated agg) own))
   room_for agg =
-      let number = number_of agg in
+      let number = aggregated agg in
       let up = apart plain.cells represent.ascending in
       let counts = counts-rows dimensions modes plain.view plain.cells rows represent.group up in
       let sizes = sizes-rows dimensions modes plain.view agg plain.cells rows represent.group up in
@@ -175,7 +178,7 @@ module _ (dimensions : DimRows) (modes : List (List ℕ)) (plain : PlainCells) (
   rooms_for (agg ∷ aggs) = (room_for agg, rooms_for aggs)
 
 -- ---- a fold
-module _ (dimensions : DimRows) (plan : GroupPlan) (over : IsPlanOver dimensions plan) (old : Slots)
+module _ (dimensions : DimRows) (plan : GroupPlan) (over : IsGroupPlanOver dimensions plan) (old : Slots)
     (columns : List (Vec Tally Global)) (kept : IsKept plan old columns) (new : Slots)
     (cover : Cover (group_count dimensions (query_of plan).columns) new)
     (grow : Grow (group_count dimensions (query_of plan).columns) (entries_of old) (entries_of new)) where
@@ -204,7 +207,7 @@ module _ (dimensions : DimRows) (plan : GroupPlan) (over : IsPlanOver dimensions
     module _ (merged : List (Vec Tally Global))
         (are : AreMergedIn (asked_of dimensions (query_of plan) plain.view modes) (query_of plan).aggregates
         (entries_of new) plain.cells columns merged) where
-      slots_below : AreBelow (length (entries_of new)) are.group_slots
+      slots_below : SlotsAreBelow (length (entries_of new)) are.group_slots
       slots_below place slot at =
           let found = AreGroupSlots-at dimensions (query_of plan) (entries_of new) are.slots.rows are.group_slots
           are.slots.slots place slot at in
@@ -278,9 +281,9 @@ module _ (dimensions : DimRows) (plan : GroupPlan) (over : IsPlanOver dimensions
         made.rising (kept_numbers dimensions plan over old columns kept) grow as_they_are
         (tallied_for dimensions plan over old columns kept so_far represents) in
         let p = is_selected dimensions query.conditions in
-        let key = key_at dimensions query.columns number in
+        let key = group_key_at dimensions query.columns number in
         let q = λ (row : LineOrder). list_any (eq_by_cmp key_cmp key) (keys_of dimensions query row) in
-        let size = λ (agg : Agg) (row : LineOrder). nat_abs (number_of agg row) in
+        let size = λ (agg : Agg) (row : LineOrder). nat_abs (aggregated agg row) in
         let own = rows_at dimensions query key so_far in
         subst (HaveRoomFor query.aggregates plain.cells) (sym (tallied.each number slot found))
         (rooms_for dimensions modes plain so_far rows represent foldable own

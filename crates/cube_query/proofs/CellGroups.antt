@@ -18,11 +18,11 @@ use Rattle.cube_model.specs.declared.rows.LineOrder.{LineOrder}
 use Rattle.cube_model.specs.Measures.{measure_of}
 use Rattle.lattice.specs.declared.view.View.{View}
 use Rattle.cuboid_cells.specs.declared.cell.Cell.{Cell}
-use Rattle.cuboid_cells.specs.Cells.{cell_at, number_of as key_number}
-use Rattle.cuboid_upkeep.specs.Grouping.{Group, cell_over, key_of, rows_of, summaries_over, summary_over}
+use Rattle.cuboid_cells.specs.Cells.{cell_at, key_as_number}
+use Rattle.cuboid_upkeep.specs.Grouping.{Group, cell_over, key_of, rows_of_number, summaries_over, summary_over}
 use Rattle.cube_query.specs.CellTallies.{after_cells, cell_tally, counted, summary_in}
-use Rattle.cube_query.specs.Columns.{size_of, slotted}
-use Rattle.cube_query.specs.Tallies.{merged, number_of, tally_of}
+use Rattle.cube_query.specs.Columns.{aggregate_size, slotted}
+use Rattle.cube_query.specs.Tallies.{merged_tally, aggregated, tally_of}
 use Rattle.cube_query.specs.declared.tally.Tally.{Tally}
 use Rattle.cube_query.proofs.MergeLaws.{SameRows, SameRows-after, SameRows-refl, SameRows-split, SameRows-trans}
 use Rattle.cube_query.proofs.MergeLaws.{tally_of-append}
@@ -30,7 +30,7 @@ use Rattle.cube_query.proofs.Sums.{nat_abs-total}
 
 -- the tally over fact rows
 abbrev pub tally_over : Agg → List LineOrder → Tally
-tally_over agg rows = tally_of (map (number_of agg) rows)
+tally_over agg rows = tally_of (map (aggregated agg) rows)
 
 -- ---- one cell
 noughts_sum : (rows : List LineOrder) → fold (λ so_far number. so_far +ℤ number) (pos 0) (map (λ _. pos 0) rows) ≡ pos 0
@@ -102,7 +102,7 @@ abbrev pub slot_by : List Cell → List (Option ℕ) → ℕ → Option ℕ
 slot_by [] group_slots number = None
 slot_by (cell ∷ cells) [] number = None
 slot_by (cell ∷ cells) (group_slot ∷ group_slots) number =
-    cond (key_number cell.key == number) group_slot (slot_by cells group_slots number)
+    cond (key_as_number cell.key == number) group_slot (slot_by cells group_slots number)
 
 -- a slot is that one
 abbrev pub is_slot : ℕ → Option ℕ → Bool
@@ -164,11 +164,11 @@ parted p rows =
 -- no two cells have one key
 abbrev pub AreApart : List Cell → Type 0
 AreApart [] = Unit {0}
-AreApart (cell ∷ cells) = (cell_at (key_number cell.key) cells ≡ None) × AreApart cells
+AreApart (cell ∷ cells) = (cell_at (key_as_number cell.key) cells ≡ None) × AreApart cells
 
 module _ (dimensions : DimRows) (modes : List (List ℕ)) (view : View) where
   abbrev pub number_in : LineOrder → ℕ
-  number_in row = key_number (key_of dimensions modes view row)
+  number_in row = key_as_number (key_of dimensions modes view row)
 
   -- the rows of the other keys
   abbrev pub others_of : ℕ → List LineOrder → List LineOrder
@@ -181,34 +181,36 @@ module _ (dimensions : DimRows) (modes : List (List ℕ)) (view : View) where
       let number = number_in row in
       let own : (number == number) ≡ true = grind (arith, nat_tests) in
       let is : cell_over dimensions modes view
-      (cond (number == number) (row ∷ rows_of dimensions modes view number rows)
-      (rows_of dimensions modes view number rows)) ≡ None = sym (group number) in
-      let some : cell_over dimensions modes view (row ∷ rows_of dimensions modes view number rows) ≡ None =
+      (cond (number == number) (row ∷ rows_of_number dimensions modes view number rows)
+      (rows_of_number dimensions modes view number rows)) ≡ None = sym (group number) in
+      let some : cell_over dimensions modes view (row ∷ rows_of_number dimensions modes view number rows) ≡ None =
       sym (ap (λ (b : Bool). cell_over dimensions modes view
-      (cond b (row ∷ rows_of dimensions modes view number rows) (rows_of dimensions modes view number rows))) own)
+      (cond b (row ∷ rows_of_number dimensions modes view number rows)
+      (rows_of_number dimensions modes view number rows))) own)
       ∙ is in
       absurd (cc some)
 
   module _ (rows : List LineOrder) (cell : Cell) (cells : List Cell)
       (group : Group dimensions modes view rows (cell ∷ cells)) (apart : AreApart (cell ∷ cells)) where
     abbrev pub own_rows : List LineOrder
-    own_rows = rows_of dimensions modes view (key_number cell.key) rows
+    own_rows = rows_of_number dimensions modes view (key_as_number cell.key) rows
 
     abbrev pub other_rows : List LineOrder
-    other_rows = others_of (key_number cell.key) rows
+    other_rows = others_of (key_as_number cell.key) rows
 
     pub own_cell : cell_over dimensions modes view own_rows ≡ Some cell
     own_cell =
-        let number = key_number cell.key in
+        let number = key_as_number cell.key in
         let own : (number == number) ≡ true = grind (arith, nat_tests) in
         sym (group number) ∙ ap (λ (b : Bool). cond b (Some cell) (cell_at number cells)) own
 
     pub others_group : Group dimensions modes view other_rows cells
     others_group number =
-        let mine = key_number cell.key in
+        let mine = key_as_number cell.key in
         (elim (mine == number) as
         (λ b. (mine == number) ≡ b
-        → cell_at number cells ≡ cell_over dimensions modes view (rows_of dimensions modes view number other_rows)) [
+        → cell_at number cells
+        ≡ cell_over dimensions modes view (rows_of_number dimensions modes view number other_rows)) [
           | true ↦ λ e.
               (let same : mine ≡ number = grind (arith, nat_tests) in
               ap (λ (n : ℕ). cell_at n cells) (sym same) ∙ apart.0
@@ -246,7 +248,7 @@ module _ (dimensions : DimRows) (modes : List (List ℕ)) (view : View) where
             ]) refl
 
     pub all_rows : SameRows rows (own_rows ++ other_rows)
-    all_rows = parted (λ row. number_in row == key_number cell.key) rows
+    all_rows = parted (λ row. number_in row == key_as_number cell.key) rows
 
   -- ---- the sums of all cells
   pub counts-rows : (cells : List Cell) (rows : List LineOrder) → Group dimensions modes view rows cells
@@ -267,10 +269,10 @@ module _ (dimensions : DimRows) (modes : List (List ℕ)) (view : View) where
       )
 
   pub sizes-rows : (agg : Agg) (cells : List Cell) (rows : List LineOrder) → Group dimensions modes view rows cells
-      → AreApart cells → sum_by (λ cell. nat_abs (cell_tally agg cell).sum) cells ≤ size_of agg rows
+      → AreApart cells → sum_by (λ cell. nat_abs (cell_tally agg cell).sum) cells ≤ aggregate_size agg rows
   sizes-rows agg [] rows group apart = omega arith
   sizes-rows agg (cell ∷ cells) rows group apart =
-      let size = λ (row : LineOrder). nat_abs (number_of agg row) in
+      let size = λ (row : LineOrder). nat_abs (aggregated agg row) in
       let own = own_rows rows cell cells group apart in
       let others = other_rows rows cell cells group apart in
       let rest = sizes-rows agg cells others (others_group rows cell cells group apart) apart.1 in
@@ -280,7 +282,7 @@ module _ (dimensions : DimRows) (modes : List (List ℕ)) (view : View) where
         arith,
         rest,
         ap (λ (t : Tally). nat_abs t.sum) is,
-        nat_abs-total (number_of agg) own,
+        nat_abs-total (aggregated agg) own,
         (all_rows rows cell cells group apart).sums size,
         sum_by-append size own others,
         sizes,
@@ -298,7 +300,7 @@ module _ (dimensions : DimRows) (modes : List (List ℕ)) (view : View) where
       own) (no_rows rows group) ∙ append-nil before))
   cells_are_rows agg slot (cell ∷ cells) [] rows before same group apart = absurd (omega (arith, same))
   cells_are_rows agg slot (cell ∷ cells) (group_slot ∷ group_slots) rows before same group apart =
-      let mine = key_number cell.key in
+      let mine = key_as_number cell.key in
       let own = own_rows rows cell cells group apart in
       let others = other_rows rows cell cells group apart in
       let wanted =
@@ -317,7 +319,7 @@ module _ (dimensions : DimRows) (modes : List (List ℕ)) (view : View) where
       let held : filter wanted own ≡ cond (is_slot slot group_slot) own [] = kept_whole mine group_slot rows in
       let tallies =
       (SameRows-after before (filter wanted rows) (filter wanted own ++ filter later others) parts).tallies
-      (number_of agg) in
+      (aggregated agg) in
       let mine_is = (cell_is dimensions modes view agg own cell (own_cell rows cell cells group apart)).0 in
       first group_slot own (filter later others) rest mine_is
       ∙ sym (tallies
@@ -337,7 +339,7 @@ module _ (dimensions : DimRows) (modes : List (List ℕ)) (view : View) where
 
       filter-parted : (p : LineOrder → Bool) (mine : ℕ) (rows : List LineOrder)
           → SameRows (filter p rows)
-          (filter p (rows_of dimensions modes view mine rows) ++ filter p (others_of mine rows))
+          (filter p (rows_of_number dimensions modes view mine rows) ++ filter p (others_of mine rows))
       filter-parted p mine rows =
           let q = λ (row : LineOrder). number_in row == mine in
           let parts = parted q (filter p rows) in
@@ -354,8 +356,8 @@ module _ (dimensions : DimRows) (modes : List (List ℕ)) (view : View) where
 
       kept_whole : (mine : ℕ) (g : Option ℕ) (rows : List LineOrder)
           → filter (λ row. is_slot slot (cond (mine == number_in row) g (slot_by cells group_slots (number_in row))))
-          (rows_of dimensions modes view mine rows)
-          ≡ cond (is_slot slot g) (rows_of dimensions modes view mine rows) []
+          (rows_of_number dimensions modes view mine rows)
+          ≡ cond (is_slot slot g) (rows_of_number dimensions modes view mine rows) []
       kept_whole mine g rows =
           both_tests (λ row. number_in row == mine)
           (λ row. is_slot slot (cond (mine == number_in row) g (slot_by cells group_slots (number_in row)))) rows
@@ -405,13 +407,13 @@ module _ (dimensions : DimRows) (modes : List (List ℕ)) (view : View) where
       first (Some other) own later rest is =
           elim (other == slot) as
           (λ b. after_cells agg slot cells group_slots
-          (cond b (merged (tally_over agg before) (cell_tally agg cell)) (tally_over agg before))
+          (cond b (merged_tally (tally_over agg before) (cell_tally agg cell)) (tally_over agg before))
           ≡ tally_over agg (before ++ (cond b own [] ++ later))) [
             | true ↦
                 ap (after_cells agg slot cells group_slots)
-                (ap (merged (tally_over agg before)) is
-                ∙ sym (tally_of-append (map (number_of agg) before) (map (number_of agg) own))
-                ∙ ap tally_of (sym (map-append (number_of agg) before own)))
+                (ap (merged_tally (tally_over agg before)) is
+                ∙ sym (tally_of-append (map (aggregated agg) before) (map (aggregated agg) own))
+                ∙ ap tally_of (sym (map-append (aggregated agg) before own)))
                 ∙ rest (before ++ own) ∙ ap (tally_over agg) (append_assoc before own later)
             | false ↦ rest before
           ]

@@ -15,10 +15,11 @@ use Rattle.cube_model.specs.declared.measure.Agg.TheVariants.{Count, Sum, Min, M
 use Rattle.cube_model.specs.declared.rows.LineOrder.{LineOrder}
 use Rattle.cuboid_cells.specs.declared.cell.Cell.{Cell}
 use Rattle.cuboid_cells.specs.declared.summary.Summary.{Summary}
-use Rattle.cube_query.specs.CellTallies.{AreBelow, HasRoomFor, HaveRoomFor, MergesCells, after_cells, cell_tally}
+use Rattle.cube_query.specs.CellTallies.{SlotsAreBelow, HasRoomForCells, HaveRoomFor, MergesCells, after_cells}
+use Rattle.cube_query.specs.CellTallies.{cell_tally}
 use Rattle.cube_query.specs.CellTallies.{with_cells}
 use Rattle.cube_query.specs.Columns.{tallies_at, tally_at}
-use Rattle.cube_query.specs.Tallies.{merged, number_of, tallies_of, tally_of}
+use Rattle.cube_query.specs.Tallies.{merged_tally, aggregated, tallies_of, tally_of}
 use Rattle.cube_query.specs.declared.tally.Tally.{Tally}
 use Rattle.cube_query.proofs.Sums.{nat_abs-+ℤ}
 
@@ -53,7 +54,7 @@ module _ (slot : ℕ) where
       after_cells-push agg cells group_slots cell group_slot tally (omega (arith, same))
   after_cells-push agg (first ∷ cells) (Some other ∷ group_slots) cell group_slot tally same =
       after_cells-push agg cells group_slots cell group_slot
-      (cond (other == slot) (merged tally (cell_tally agg first)) tally) (omega (arith, same))
+      (cond (other == slot) (merged_tally tally (cell_tally agg first)) tally) (omega (arith, same))
 
   pub with_cells-push : (cells : List Cell) (group_slots : List (Option ℕ)) (cell : Cell) (group_slot : Option ℕ)
       → length group_slots ≡ length cells → (aggs : List Agg) (tallies : List Tally)
@@ -169,7 +170,7 @@ joined left right = record {
   greatest = int_max left.greatest right.greatest;
 }
 
-merged-count : (a b : Tally) → (merged a b).count ≤ a.count + b.count
+merged-count : (a b : Tally) → (merged_tally a b).count ≤ a.count + b.count
 merged-count a b =
     elim (a.count == 0) as (λ t. (cond t b (cond (b.count == 0) a (joined a b))).count ≤ a.count + b.count) [
       | true ↦ omega arith
@@ -179,7 +180,7 @@ merged-count a b =
       ]
     ]
 
-merged-sum : (a b : Tally) → nat_abs (merged a b).sum ≤ nat_abs a.sum + nat_abs b.sum
+merged-sum : (a b : Tally) → nat_abs (merged_tally a b).sum ≤ nat_abs a.sum + nat_abs b.sum
 merged-sum a b =
     elim (a.count == 0) as
     (λ t. nat_abs (cond t b (cond (b.count == 0) a (joined a b))).sum ≤ nat_abs a.sum + nat_abs b.sum) [
@@ -205,7 +206,7 @@ after-count agg slot (cell ∷ cells) [] tally = omega arith
 after-count agg slot (cell ∷ cells) (None ∷ group_slots) tally =
     omega (arith, after-count agg slot cells group_slots tally, sum_by-cons (λ (own : Cell). own.count) cell cells)
 after-count agg slot (cell ∷ cells) (Some other ∷ group_slots) tally =
-    let new = merged tally (cell_tally agg cell) in
+    let new = merged_tally tally (cell_tally agg cell) in
     let sum = sum_by-cons (λ (own : Cell). own.count) cell cells in
     elim (other == slot) as
     (λ b. (after_cells agg slot cells group_slots (cond b new tally)).count ≤ tally.count
@@ -232,7 +233,7 @@ after-size agg slot (cell ∷ cells) (None ∷ group_slots) tally =
       sum_by-cons (λ (own : Cell). nat_abs (cell_tally agg own).sum) cell cells,
     )
 after-size agg slot (cell ∷ cells) (Some other ∷ group_slots) tally =
-    let new = merged tally (cell_tally agg cell) in
+    let new = merged_tally tally (cell_tally agg cell) in
     let sum = sum_by-cons (λ (own : Cell). nat_abs (cell_tally agg own).sum) cell cells in
     elim (other == slot) as
     (λ b. nat_abs (after_cells agg slot cells group_slots (cond b new tally)).sum ≤ nat_abs tally.sum
@@ -243,8 +244,9 @@ after-size agg slot (cell ∷ cells) (Some other ∷ group_slots) tally =
 
 -- tallies that have room for cells have it for each of them after those before
 module _ (cells : List Cell) (place : ℕ) (h : place < length cells) (slot : ℕ) (group_slots : List (Option ℕ)) where
-  one_next : (agg : Agg) (tally : Tally) → HasRoomFor agg cells tally
-      → HasRoomFor agg (get_or cells place no_cell ∷ []) (after_cells agg slot (take place cells) group_slots tally)
+  one_next : (agg : Agg) (tally : Tally) → HasRoomForCells agg cells tally
+      → HasRoomForCells agg (get_or cells place no_cell ∷ [])
+      (after_cells agg slot (take place cells) group_slots tally)
   one_next agg tally room =
       let count = λ (cell : Cell). cell.count in
       let size = λ (cell : Cell). nat_abs (cell_tally agg cell).sum in
@@ -275,7 +277,7 @@ module _ (cells : List Cell) (place : ℕ) (h : place < length cells) (slot : �
 pub room_in : (slot : ℕ) (cells : List Cell) (aggs : List Agg) (columns : List (Vec Tally Global))
     → length columns ≡ length aggs → HaveRoomFor aggs cells (tallies_at columns slot)
     → (k : ℕ) → k < length aggs → (agg : Agg) (column : Vec Tally Global)
-    → HasRoomFor (get_or aggs k agg) cells (tally_at (get_or columns k column).items slot)
+    → HasRoomForCells (get_or aggs k agg) cells (tally_at (get_or columns k column).items slot)
 room_in slot cells [] columns same room k h agg column = absurd (omega (arith, h))
 room_in slot cells (first ∷ aggs) [] same room k h agg column = absurd (omega (arith, same))
 room_in slot cells (first ∷ aggs) (one ∷ columns) same room zero h agg column = room.0
@@ -284,7 +286,7 @@ room_in slot cells (first ∷ aggs) (one ∷ columns) same room (suc k) h agg co
 
 -- ---- a slot of no cell
 untouched : (agg : Agg) (slot bound : ℕ) (cells : List Cell) (group_slots : List (Option ℕ)) (tally : Tally)
-    → AreBelow bound group_slots → bound ≤ slot
+    → SlotsAreBelow bound group_slots → bound ≤ slot
     → after_cells agg slot cells group_slots tally ≡ tally
 untouched agg slot bound [] group_slots tally below h = refl
 untouched agg slot bound (cell ∷ cells) [] tally below h = refl
@@ -294,13 +296,14 @@ untouched agg slot bound (cell ∷ cells) (Some other ∷ group_slots) tally bel
     let low = below 0 other refl in
     let apart : other ≢ slot = omega (arith, low, h) in
     let test : (other == slot) ≡ false = grind (arith, nat_tests) in
-    ap (λ (b : Bool). after_cells agg slot cells group_slots (cond b (merged tally (cell_tally agg cell)) tally)) test
+    ap (λ (b : Bool). after_cells agg slot cells group_slots (cond b (merged_tally tally (cell_tally agg cell)) tally))
+    test
     ∙ untouched agg slot bound cells group_slots tally (λ place own at. below (suc place) own at) h
 
 pub all_untouched : (aggs : List Agg) (slot bound : ℕ) (cells : List Cell) (group_slots : List (Option ℕ))
-    (rows : List LineOrder) → AreBelow bound group_slots → bound ≤ slot
+    (rows : List LineOrder) → SlotsAreBelow bound group_slots → bound ≤ slot
     → with_cells aggs slot cells group_slots (tallies_of aggs rows) ≡ tallies_of aggs rows
 all_untouched [] slot bound cells group_slots rows below h = refl
 all_untouched (agg ∷ aggs) slot bound cells group_slots rows below h =
-    λ i. untouched agg slot bound cells group_slots (tally_of (map (number_of agg) rows)) below h i
+    λ i. untouched agg slot bound cells group_slots (tally_of (map (aggregated agg) rows)) below h i
     ∷ all_untouched aggs slot bound cells group_slots rows below h i

@@ -15,12 +15,12 @@ use Rattle.cuboid_cells.specs.declared.cell.Cell.{Cell}
 use Rattle.cuboid_upkeep.specs.CellNumbers.{AskedOfCells}
 use Rattle.cuboid_upkeep.specs.Representatives.{AreRepresentatives}
 use Rattle.cube_query.specs.CellSlots.{AreCellSlots, AreMergedIn, HaveNoRepresentative}
-use Rattle.cube_query.specs.CellTallies.{GroupsHaveRoomFor, HasRoomFor, HaveRoomFor, after_cells, cell_tally}
+use Rattle.cube_query.specs.CellTallies.{GroupsHaveRoomFor, HasRoomForCells, HaveRoomFor, after_cells, cell_tally}
 use Rattle.cube_query.specs.CellTallies.{with_cells}
 use Rattle.cube_query.specs.Columns.{tallies_at, tally_at}
 use Rattle.cube_query.specs.FoldInvariant.{AreGroupSlots}
 use Rattle.cube_query.specs.Slots.{slot_of}
-use Rattle.cube_query.specs.Tallies.{merged}
+use Rattle.cube_query.specs.Tallies.{merged_tally}
 use Rattle.cube_query.specs.declared.tally.Tally.{Tally}
 use Rattle.cube_query.proofs.CellMerges.{after-count, after-size}
 use Rattle.cube_query.proofs.CellSlots.{cell_slots-length}
@@ -36,7 +36,7 @@ module _ (slot : ℕ) where
   after_cells-append agg (first ∷ a) b (None ∷ ga) gb tally same =
       after_cells-append agg a b ga gb tally (omega (arith, same))
   after_cells-append agg (first ∷ a) b (Some other ∷ ga) gb tally same =
-      after_cells-append agg a b ga gb (cond (other == slot) (merged tally (cell_tally agg first)) tally)
+      after_cells-append agg a b ga gb (cond (other == slot) (merged_tally tally (cell_tally agg first)) tally)
       (omega (arith, same))
 
   with_cells-append : (a b : List Cell) (ga gb : List (Option ℕ)) → length ga ≡ length a
@@ -112,8 +112,8 @@ module _ (a b rest all : List Cell) (is : all ≡ (a ++ b) ++ rest) (slot : ℕ)
   sums : (f : Cell → ℕ) → sum_by f all ≡ (sum_by f a + sum_by f b) + sum_by f rest
   sums f = ap (sum_by f) is ∙ (omega (arith, sum_by-append f (a ++ b) rest, sum_by-append f a b))
 
-  one_part : (agg : Agg) (tally : Tally) → HasRoomFor agg all tally
-      → HasRoomFor agg b (after_cells agg slot a group_slots tally)
+  one_part : (agg : Agg) (tally : Tally) → HasRoomForCells agg all tally
+      → HasRoomForCells agg b (after_cells agg slot a group_slots tally)
   one_part agg tally room = record {
     few = omega (arith, room.few, after-count agg slot a group_slots tally, sums (λ cell. cell.count));
     small = omega

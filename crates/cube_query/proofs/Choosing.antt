@@ -20,12 +20,12 @@ use Rattle.cube_model.specs.Admission.{unknown_axis, unknown_key}
 use Rattle.cube_model.specs.Answers.{rows_of_key}
 use Rattle.cube_model.specs.Causes.{first_cause, cause_if}
 use Rattle.cube_model.specs.Measures.{measure_of}
-use Rattle.cube_model.specs.Selection.{is_selected, selected as selected_by}
-use Rattle.column_kernels.specs.Masks.{selected}
+use Rattle.cube_model.specs.Selection.{is_selected, selected}
+use Rattle.column_kernels.specs.Masks.{selected_by}
 use Rattle.column_segment.specs.declared.columns.ByteColumn.TheVariants as figures
-use Rattle.column_segment.specs.Projected.{HaveFigures}
+use Rattle.column_segment.specs.Projected.{BytesHaveFigures}
 use Rattle.group_plan.specs.Kept.{ArePlaces, KeepPlaces}
-use Rattle.group_plan.specs.Numbers.{Asked, key_at}
+use Rattle.group_plan.specs.Numbers.{Asked, group_key_at}
 use Rattle.group_plan.specs.Plans.{AreBounds, is_within}
 use Rattle.group_plan.specs.Rows.{row_at}
 use Rattle.group_plan.specs.declared.bounds.Bounds.{Bounds}
@@ -49,7 +49,7 @@ next_rows f place row rows are k h =
 pub rows_at_places : (f : ℕ → LineOrder) (place : ℕ) (marks : List Bool) (rows : List LineOrder)
     → length marks ≡ length rows
     → ((k : ℕ) → k < length rows → f (place + k) ≡ row_at rows k)
-    → map f (places_from place marks) ≡ selected marks rows
+    → map f (places_from place marks) ≡ selected_by marks rows
 rows_at_places f place [] rows many are = refl
 rows_at_places f place (mark ∷ marks) [] many are = absurd (omega (arith, many))
 rows_at_places f place (true ∷ marks) (row ∷ rows) many are =
@@ -122,13 +122,13 @@ out_of dimensions conditions bounds are row quantity discount out =
 
 left_out : (p marks : LineOrder → Bool) (Fine : LineOrder → Type 0)
     → ((row : LineOrder) → Fine row → marks row ≡ false → p row ≡ false)
-    → (rows : List LineOrder) → All Fine rows → filter p (selected (map marks rows) rows) ≡ filter p rows
+    → (rows : List LineOrder) → All Fine rows → filter p (selected_by (map marks rows) rows) ≡ filter p rows
 left_out p marks Fine out [] fine = refl
 left_out p marks Fine out (row ∷ rows) fine =
-    let rest : filter p (selected (map marks rows) rows) ≡ filter p rows =
+    let rest : filter p (selected_by (map marks rows) rows) ≡ filter p rows =
     left_out p marks Fine out rows (λ k d h. fine (suc k) d (omega (arith, h))) in
     (elim (marks row) as
-    (λ b. marks row ≡ b → filter p (selected (b ∷ map marks rows) (row ∷ rows)) ≡ filter p (row ∷ rows)) [
+    (λ b. marks row ≡ b → filter p (selected_by (b ∷ map marks rows) (row ∷ rows)) ≡ filter p (row ∷ rows)) [
       | true ↦ λ is. ap (λ (l : List LineOrder). cond (p row) (row ∷ l) l) rest
       | false ↦ λ is. rest
           ∙ sym (ap (λ (b : Bool). cond b (row ∷ filter p rows) (filter p rows))
@@ -138,7 +138,7 @@ left_out p marks Fine out (row ∷ rows) fine =
 pub keeps : (bounds : Bounds) (rows : List LineOrder) → All (λ row. row.quantity < 256) rows
     → All (λ row. row.discount < 256) rows → (dimensions : DimRows) (conditions : List Cond)
     → AreBounds conditions bounds
-    → KeepSelected dimensions conditions (selected (map (lies_within bounds) rows) rows) rows
+    → KeepSelected dimensions conditions (selected_by (map (lies_within bounds) rows) rows) rows
 keeps bounds rows quantities discounts dimensions conditions are = record {
   part = (map (lies_within bounds) rows, refl);
   same = left_out (is_selected dimensions conditions) (lies_within bounds)
@@ -148,16 +148,16 @@ keeps bounds rows quantities discounts dimensions conditions are = record {
 }
 
 pub chosen_keep : (bounds : Bounds) (rows kept : List LineOrder) (marks : List Bool) (places : List ℕ)
-    → HaveFigures rows → kept ≡ rows → marks ≡ map (lies_within bounds) rows
+    → BytesHaveFigures rows → kept ≡ rows → marks ≡ map (lies_within bounds) rows
     → places ≡ places_from 0 marks → (dimensions : DimRows) (conditions : List Cond) → AreBounds conditions bounds
     → KeepSelected dimensions conditions (map (row_at kept) places) rows
 chosen_keep bounds rows kept marks places fit own tell are dimensions conditions bound =
     let many : length (map (lies_within bounds) rows) ≡ length rows = length-map rows (lies_within bounds) in
     let chosen : map (row_at rows) (places_from 0 (map (lies_within bounds) rows))
-    ≡ selected (map (lies_within bounds) rows) rows =
+    ≡ selected_by (map (lies_within bounds) rows) rows =
     rows_at_places (row_at rows) 0 (map (lies_within bounds) rows) rows many
     (λ k h. ap (row_at rows) (from_nought k)) in
-    let same : map (row_at kept) places ≡ selected (map (lies_within bounds) rows) rows =
+    let same : map (row_at kept) places ≡ selected_by (map (lies_within bounds) rows) rows =
     ap (λ (l : List LineOrder). map (row_at l) places) own ∙ ap (map (row_at rows)) (are ∙ ap (places_from 0) tell)
     ∙ chosen in
     subst (λ (l : List LineOrder). KeepSelected dimensions conditions l rows) (sym same)
@@ -206,7 +206,7 @@ pub all_places_below : (places : List ℕ) (count : ℕ) → places ≡ range_wi
 all_places_below places count are =
     subst (λ (l : List ℕ). All (λ place. place < count) l) (sym are) (λ k d h. omega (arith, range_below 0 count k d h))
 
-all_marked : (rows : List LineOrder) → rows ≡ selected (map (λ row. true) rows) rows
+all_marked : (rows : List LineOrder) → rows ≡ selected_by (map (λ row. true) rows) rows
 all_marked [] = refl
 all_marked (row ∷ rows) = ap (λ (l : List LineOrder). row ∷ l) (all_marked rows)
 
@@ -214,7 +214,7 @@ pub keep_whole : (dimensions : DimRows) (conditions : List Cond) (some all : Lis
     → KeepSelected dimensions conditions some all
 keep_whole dimensions conditions some all same = record {
   part = (map (λ row. true) all, same ∙ all_marked all);
-  same = ap (selected_by dimensions conditions) same;
+  same = ap (selected dimensions conditions) same;
 }
 
 pub whole_if_ok : (result : Result (List LineOrder) Fault) (bounds : Bounds) (rows : List LineOrder)
@@ -250,14 +250,14 @@ one_more marks places kept place one false all room within is counted before =
     ∙ one_left_out marks (take kept places) place all within is before
 
 rows_of_test : (test : LineOrder → Bool) (f : ℕ → LineOrder) (places : List ℕ)
-    → map f (filter (λ place. test (f place)) places) ≡ selected (map test (map f places)) (map f places)
+    → map f (filter (λ place. test (f place)) places) ≡ selected_by (map test (map f places)) (map f places)
 rows_of_test test f [] = refl
 rows_of_test test f (place ∷ places) =
-    let rest : map f (filter (λ p. test (f p)) places) ≡ selected (map test (map f places)) (map f places) =
+    let rest : map f (filter (λ p. test (f p)) places) ≡ selected_by (map test (map f places)) (map f places) =
     rows_of_test test f places in
     elim (test (f place)) as
     (λ b. map f (cond b (place ∷ filter (λ p. test (f p)) places) (filter (λ p. test (f p)) places))
-    ≡ selected (b ∷ map test (map f places)) (f place ∷ map f places)) [
+    ≡ selected_by (b ∷ map test (map f places)) (f place ∷ map f places)) [
       | true ↦ ap (λ (l : List LineOrder). f place ∷ l) rest
       | false ↦ rest
     ]
@@ -266,11 +266,11 @@ pub kept_places : (dimensions : DimRows) (conditions : List Cond) (rows : List L
     → KeepPlaces dimensions conditions rows all some
     → KeepSelected dimensions conditions (map (row_at rows) some) (map (row_at rows) all)
 kept_places dimensions conditions rows all some keep =
-    let is : map (row_at rows) some ≡ selected (map keep.test (map (row_at rows) all)) (map (row_at rows) all)
+    let is : map (row_at rows) some ≡ selected_by (map keep.test (map (row_at rows) all)) (map (row_at rows) all)
     = ap (map (row_at rows)) keep.kept ∙ rows_of_test keep.test (row_at rows) all in
     record {
       part = (map keep.test (map (row_at rows) all), is);
-      same = ap (selected_by dimensions conditions) is
+      same = ap (selected dimensions conditions) is
           ∙ left_out (is_selected dimensions conditions) keep.test (λ row. Unit {0}) (λ row fine. keep.fails row)
           (map (row_at rows) all) (λ k d h. tt);
     }
@@ -290,7 +290,7 @@ compose (mark ∷ inner) (true ∷ outer) = mark ∷ compose inner outer
 compose (mark ∷ inner) (false ∷ outer) = false ∷ compose (mark ∷ inner) outer
 
 composed : (inner outer : List Bool) (rows : List LineOrder)
-    → selected inner (selected outer rows) ≡ selected (compose inner outer) rows
+    → selected_by inner (selected_by outer rows) ≡ selected_by (compose inner outer) rows
 composed [] outer rows = refl
 composed (mark ∷ inner) [] rows = refl
 composed (mark ∷ inner) (true ∷ outer) [] = refl
@@ -305,7 +305,7 @@ pub keep_on : (dimensions : DimRows) (conditions : List Cond) (some more all : L
 keep_on dimensions conditions some more all inner outer = record {
   part = (
     compose inner.part.0 outer.part.0,
-    inner.part.1 ∙ ap (selected inner.part.0) outer.part.1
+    inner.part.1 ∙ ap (selected_by inner.part.0) outer.part.1
         ∙ composed inner.part.0 outer.part.0 all,
   );
   same = inner.same ∙ outer.same;
@@ -322,13 +322,13 @@ keep_over asked dimensions query old some all is same keep =
 
 -- ---- what a fold represents
 pub represents_for_all : (dimensions : DimRows) (fold : FoldState) (some all : List LineOrder)
-    → selected_by dimensions fold.query.conditions some ≡ selected_by dimensions fold.query.conditions all
+    → selected dimensions fold.query.conditions some ≡ selected dimensions fold.query.conditions all
     → RepresentsRows dimensions fold some → RepresentsRows dimensions fold all
 represents_for_all dimensions fold some all same represents = record {
   over = represents.over;
   each = λ number h. represents.each number h
       ∙ ap (λ (chosen : List LineOrder). tallies_of fold.query.aggregates
-      (rows_of_key dimensions (finest fold.query) (key_at dimensions fold.query.columns number) chosen)) same;
+      (rows_of_key dimensions (finest fold.query) (group_key_at dimensions fold.query.columns number) chosen)) same;
   others = λ key none. sym
       (ap (λ (chosen : List LineOrder). rows_of_key dimensions (finest fold.query) key chosen) same)
       ∙ represents.others key none;
@@ -342,7 +342,7 @@ takes dimensions old some all new keep taken = record {
   represents = λ so_far represents.
       let p = is_selected dimensions new.query.conditions in
       let same : filter p some ≡ filter p all =
-      subst (λ (q : Query). selected_by dimensions q.conditions some ≡ selected_by dimensions q.conditions all)
+      subst (λ (q : Query). selected dimensions q.conditions some ≡ selected dimensions q.conditions all)
       (sym taken.query) keep.same in
       represents_for_all dimensions new (so_far ++ some) (so_far ++ all)
       (filter-append p so_far some ∙ ap (λ (l : List LineOrder). filter p so_far ++ l) same
@@ -356,22 +356,22 @@ takes_all (Ok value) dimensions old some all new keep taken = takes dimensions o
 takes_all (Err fault) dimensions old some all new keep taken = tt
 
 -- ---- some of the rows may be folded where all may
-fewer : (marks : List Bool) (rows : List LineOrder) → length (selected marks rows) ≤ length rows
+fewer : (marks : List Bool) (rows : List LineOrder) → length (selected_by marks rows) ≤ length rows
 fewer [] rows = omega arith
 fewer (mark ∷ marks) [] = omega arith
 fewer (true ∷ marks) (row ∷ rows) = omega (arith, fewer marks rows)
 fewer (false ∷ marks) (row ∷ rows) = omega (arith, fewer marks rows)
 
 smaller : (size : LineOrder → ℕ) (marks : List Bool) (rows : List LineOrder)
-    → sum_by size (selected marks rows) ≤ sum_by size rows
+    → sum_by size (selected_by marks rows) ≤ sum_by size rows
 smaller size [] rows = omega arith
 smaller size (mark ∷ marks) [] = omega arith
 smaller size (true ∷ marks) (row ∷ rows) =
-    let with_row : sum_by size (row ∷ selected marks rows) ≤ sum_by size (row ∷ rows) =
-    omega (arith, smaller size marks rows, sum_by-cons size row rows, sum_by-cons size row (selected marks rows)) in
+    let with_row : sum_by size (row ∷ selected_by marks rows) ≤ sum_by size (row ∷ rows) =
+    omega (arith, smaller size marks rows, sum_by-cons size row rows, sum_by-cons size row (selected_by marks rows)) in
     with_row
 smaller size (false ∷ marks) (row ∷ rows) =
-    let without_row : sum_by size (selected marks rows) ≤ sum_by size (row ∷ rows) =
+    let without_row : sum_by size (selected_by marks rows) ≤ sum_by size (row ∷ rows) =
     omega (arith, smaller size marks rows, sum_by-cons size row rows) in without_row
 
 -- rows of another number have the same causes
@@ -401,12 +401,12 @@ still_known : (dimensions : DimRows) (row : LineOrder) (n m : ℕ) → unknown_a
 still_known dimensions row n m none = renumbered _ _ _ _ n m none
 
 known_among : (dimensions : DimRows) (n m : ℕ) (marks : List Bool) (rows : List LineOrder)
-    → unknown_key dimensions n rows ≡ None → unknown_key dimensions m (selected marks rows) ≡ None
+    → unknown_key dimensions n rows ≡ None → unknown_key dimensions m (selected_by marks rows) ≡ None
 known_among dimensions n m [] rows none = refl
 known_among dimensions n m (mark ∷ marks) [] none = refl
 known_among dimensions n m (true ∷ marks) (row ∷ rows) none =
     let parts = first_none (unknown_axis dimensions n row) (unknown_key dimensions (n + 1) rows) none in
-    both_none (unknown_axis dimensions m row) (unknown_key dimensions (m + 1) (selected marks rows))
+    both_none (unknown_axis dimensions m row) (unknown_key dimensions (m + 1) (selected_by marks rows))
     (still_known dimensions row n m parts.0) (known_among dimensions (n + 1) (m + 1) marks rows parts.1)
 known_among dimensions n m (false ∷ marks) (row ∷ rows) none =
     let parts = first_none (unknown_axis dimensions n row) (unknown_key dimensions (n + 1) rows) none in
@@ -414,21 +414,22 @@ known_among dimensions n m (false ∷ marks) (row ∷ rows) none =
 
 known_after : (dimensions : DimRows) (n : ℕ) (so_far : List LineOrder) (marks : List Bool) (rows : List LineOrder)
     → unknown_key dimensions n (so_far ++ rows) ≡ None
-    → unknown_key dimensions n (so_far ++ selected marks rows) ≡ None
+    → unknown_key dimensions n (so_far ++ selected_by marks rows) ≡ None
 known_after dimensions n [] marks rows none = known_among dimensions n n marks rows none
 known_after dimensions n (row ∷ so_far) marks rows none =
     let parts = first_none (unknown_axis dimensions n row) (unknown_key dimensions (n + 1) (so_far ++ rows)) none in
-    both_none (unknown_axis dimensions n row) (unknown_key dimensions (n + 1) (so_far ++ selected marks rows)) parts.0
+    both_none (unknown_axis dimensions n row) (unknown_key dimensions (n + 1) (so_far ++ selected_by marks rows))
+    parts.0
     (known_after dimensions (n + 1) so_far marks rows parts.1)
 
 foldable_some : (dimensions : DimRows) (so_far : List LineOrder) (marks : List Bool) (rows : List LineOrder)
-    → AreFoldable dimensions (so_far ++ rows) → AreFoldable dimensions (so_far ++ selected marks rows)
+    → AreFoldable dimensions (so_far ++ rows) → AreFoldable dimensions (so_far ++ selected_by marks rows)
 foldable_some dimensions so_far marks rows foldable = record {
   few = omega (
     arith,
     foldable.few,
     length-append so_far rows,
-    length-append so_far (selected marks rows),
+    length-append so_far (selected_by marks rows),
     fewer marks rows,
   );
   known = known_after dimensions 1 so_far marks rows foldable.known;
@@ -438,11 +439,11 @@ foldable_some dimensions so_far marks rows foldable = record {
         arith,
         foldable.in_range measure,
         sum_by-append size so_far rows,
-        sum_by-append size so_far (selected marks rows),
+        sum_by-append size so_far (selected_by marks rows),
         smaller size marks rows,
       );
 }
 
 pub can_take_marked : (dimensions : DimRows) (old : FoldState) (marks : List Bool) (all : List LineOrder)
-    → CanTake dimensions old all → CanTake dimensions old (selected marks all)
+    → CanTake dimensions old all → CanTake dimensions old (selected_by marks all)
 can_take_marked dimensions old marks all can = (can.0, (can.1.0, foldable_some dimensions can.0 marks all can.1.1))

@@ -19,7 +19,7 @@ use Rattle.cube_model.specs.declared.query.Query.{Query}
 use Rattle.cube_model.specs.declared.rows.DimRows.{DimRows}
 use Rattle.cube_model.specs.declared.rows.LineOrder.{LineOrder}
 use Rattle.group_plan.specs.Columns.{is_all, attr_at}
-use Rattle.group_plan.specs.Numbers.{group_count, key_at, KeysRise}
+use Rattle.group_plan.specs.Numbers.{group_count, group_key_at, KeysRise}
 use Rattle.cube_query.specs.Coarser.{keys_from, rows_from, leads, sources_of, AreTalliedFrom, IsTarget, AreTargets}
 use Rattle.cube_query.specs.Coarser.{gathered}
 use Rattle.cube_query.specs.Columns.{is_seen, tallies_at}
@@ -193,7 +193,7 @@ module _ (dimensions : DimRows) (query : Query) (i : ℕ) (within : i < length q
   columns_of = query.columns
 
   abbrev key_of : ℕ → List Member
-  key_of number = key_at dimensions query.columns number
+  key_of number = group_key_at dimensions query.columns number
 
   -- a row has a key, from a column on
   abbrev pub has : ℕ → List Member → LineOrder → Bool

@@ -13,7 +13,7 @@ use Rattle.cube_model.specs.declared.rows.LineOrder.{LineOrder}
 use Rattle.cube_query.specs.Columns.{no_tally, tally_at, tallies_at, slotted, HasRoom}
 use Rattle.cube_query.specs.FoldInvariant.{HaveRoom}
 use Rattle.cube_query.specs.Coarser.{AddsIn, AddIn}
-use Rattle.cube_query.specs.Tallies.{number_of, tally_of, tallies_of}
+use Rattle.cube_query.specs.Tallies.{aggregated, tally_of, tallies_of}
 use Rattle.cube_query.specs.declared.tally.Tally.{Tally}
 
 -- in the columns below a place rows are counted in, some at each slot, and the others are as they were
@@ -52,12 +52,12 @@ pub tallies-length : (aggs : List Agg) (columns : List (Vec Tally Global)) (slot
     → tallies_at columns slot ≡ tallies_of aggs rows → length columns ≡ length aggs
 tallies-length aggs columns slot rows same =
     sym (length-map columns (λ (column : Vec Tally Global). tally_at column.items slot)) ∙ ap length same
-    ∙ length-map aggs (λ agg. tally_of (map (number_of agg) rows))
+    ∙ length-map aggs (λ agg. tally_of (map (aggregated agg) rows))
 
 pub tallies-one : (aggs : List Agg) (columns : List (Vec Tally Global)) (slot : ℕ) (rows : List LineOrder)
     → tallies_at columns slot ≡ tallies_of aggs rows
     → (k : ℕ) → k < length aggs → (agg : Agg) (column : Vec Tally Global)
-    → tally_at (get_or columns k column).items slot ≡ tally_of (map (number_of (get_or aggs k agg)) rows)
+    → tally_at (get_or columns k column).items slot ≡ tally_of (map (aggregated (get_or aggs k agg)) rows)
 tallies-one [] columns slot rows same k h agg column = absurd (omega (arith, h))
 tallies-one (first ∷ aggs) [] slot rows same k h agg column = absurd (cc same)
 tallies-one (first ∷ aggs) (one ∷ columns) slot rows same zero h agg column = cc same
@@ -68,7 +68,7 @@ tallies-one (first ∷ aggs) (one ∷ columns) slot rows same (suc k) h agg colu
 tallies-each : (aggs : List Agg) (columns : List (Vec Tally Global)) (slot : ℕ) (rows : List LineOrder)
     → length columns ≡ length aggs
     → ((k : ℕ) → k < length aggs → (agg : Agg) (column : Vec Tally Global)
-    → tally_at (get_or columns k column).items slot ≡ tally_of (map (number_of (get_or aggs k agg)) rows))
+    → tally_at (get_or columns k column).items slot ≡ tally_of (map (aggregated (get_or aggs k agg)) rows))
     → tallies_at columns slot ≡ tallies_of aggs rows
 tallies-each [] [] slot rows same each = refl
 tallies-each [] (one ∷ columns) slot rows same each = absurd (omega (arith, same))
@@ -127,5 +127,5 @@ no_columns-next aggs columns column n slot h none before =
     map-append (λ (column : Vec Tally Global). tally_at column.items slot) columns (column ∷ [])
     ∙ ap (λ items. tallies_at columns slot ++ tally_at items slot ∷ []) none
     ∙ ap (λ tallies. tallies ++ no_tally ∷ []) before
-    ∙ sym (map-append (λ agg. tally_of (map (number_of agg) [])) (take n aggs) (get_or aggs n Count ∷ []))
+    ∙ sym (map-append (λ agg. tally_of (map (aggregated agg) [])) (take n aggs) (get_or aggs n Count ∷ []))
     ∙ ap (λ more. tallies_of more []) (sym (take_more aggs n Count h))

@@ -12,7 +12,7 @@ use Rattle.cube_model.specs.declared.query.Kind.TheVariants.{Plain}
 use Rattle.cube_model.specs.declared.query.Query.{Query}
 use Rattle.cube_model.specs.declared.rows.DimRows.{DimRows}
 use Rattle.cube_model.specs.declared.rows.LineOrder.{LineOrder}
-use Rattle.group_plan.specs.Numbers.{key_at}
+use Rattle.group_plan.specs.Numbers.{group_key_at}
 use Rattle.cube_query.specs.Coarser.{rows_from, AreTalliedFrom}
 use Rattle.cube_query.specs.Columns.{tallies_at}
 use Rattle.cube_query.specs.Groups.{finest, groups_of, rows_at}
@@ -37,7 +37,7 @@ module _ (dimensions : DimRows) (query : Query) where
       → AreTalliedFrom dimensions query (length query.columns) entries copy rows
   start entries columns copy rows same tallied = record {
     each = λ number slot found. same slot ∙ tallied.each number slot found
-        ∙ ap (tallies_of query.aggregates) (start_rows (key_at dimensions query.columns number) rows);
+        ∙ ap (tallies_of query.aggregates) (start_rows (group_key_at dimensions query.columns number) rows);
     others = λ key absent. sym (start_rows key rows) ∙ tallied.others key absent;
     fresh = λ slot h. same slot ∙ tallied.fresh slot h;
   }

@@ -24,8 +24,8 @@ use Rattle.cube_query.specs.Slots.{entries_of, slot_of, AreSlots, Cover, Grow}
 use Rattle.cube_query.specs.Tallies.{tallies_of}
 use Rattle.cube_query.specs.declared.slots.Slots.{Slots}
 use Rattle.cube_query.specs.declared.tally.Tally.{Tally}
-use Rattle.group_plan.specs.Numbers.{group_count, key_at}
-use Rattle.group_plan.specs.Plans.{IsPlanOf, IsPlanOver, count_of, query_of}
+use Rattle.group_plan.specs.Numbers.{group_count, group_key_at}
+use Rattle.group_plan.specs.Plans.{IsGroupPlanOf, IsGroupPlanOver, count_of, query_of}
 use Rattle.group_plan.specs.declared.plan.GroupPlan.{GroupPlan}
 use Rattle.group_plan.proofs.Extending.{plan_of_over}
 use Rattle.cube_query.proofs.Columnwise.{tallies-length}
@@ -56,26 +56,26 @@ no_rows (agg ∷ aggs) (row ∷ rows) some same =
 
 -- whether a key is that of a number below a bound
 which_number : (dimensions : DimRows) (columns : List Attr) (key : List Member) (bound : ℕ)
-    → ((number : ℕ) × (number < bound) × (key_at dimensions columns number ≡ key))
-    ⊎ ((number : ℕ) → number < bound → key_at dimensions columns number ≡ key → ⊥)
+    → ((number : ℕ) × (number < bound) × (group_key_at dimensions columns number ≡ key))
+    ⊎ ((number : ℕ) → number < bound → group_key_at dimensions columns number ≡ key → ⊥)
 which_number dimensions columns key zero = inr (λ number h same. absurd (omega (arith, h)))
 which_number dimensions columns key (suc bound) =
     elim (which_number dimensions columns key bound) [
       | inl found ↦ inl (found.0, omega (arith, found.1), found.2)
       | inr absent ↦
-          (elim (eq_by_cmp key_cmp (key_at dimensions columns bound) key) as
-          (λ b. eq_by_cmp key_cmp (key_at dimensions columns bound) key ≡ b
-          → ((number : ℕ) × (number < suc bound) × (key_at dimensions columns number ≡ key))
-          ⊎ ((number : ℕ) → number < suc bound → key_at dimensions columns number ≡ key → ⊥)) [
-            | true ↦ λ equal. inl (bound, omega arith, key_eq-true (key_at dimensions columns bound) key equal)
+          (elim (eq_by_cmp key_cmp (group_key_at dimensions columns bound) key) as
+          (λ b. eq_by_cmp key_cmp (group_key_at dimensions columns bound) key ≡ b
+          → ((number : ℕ) × (number < suc bound) × (group_key_at dimensions columns number ≡ key))
+          ⊎ ((number : ℕ) → number < suc bound → group_key_at dimensions columns number ≡ key → ⊥)) [
+            | true ↦ λ equal. inl (bound, omega arith, key_eq-true (group_key_at dimensions columns bound) key equal)
             | false ↦ λ unequal. inr (λ number h same. elim (cases_lt number bound) [
               | inl below ↦ absent number below same
               | inr above ↦
                   let here : number ≡ bound = omega (arith, h, above) in
-                  let equal : eq_by_cmp key_cmp (key_at dimensions columns bound) key ≡ true =
-                  ap (eq_by_cmp key_cmp (key_at dimensions columns bound))
-                  (sym same ∙ ap (key_at dimensions columns) here)
-                  ∙ key_eq-same (key_at dimensions columns bound) in
+                  let equal : eq_by_cmp key_cmp (group_key_at dimensions columns bound) key ≡ true =
+                  ap (eq_by_cmp key_cmp (group_key_at dimensions columns bound))
+                  (sym same ∙ ap (group_key_at dimensions columns) here)
+                  ∙ key_eq-same (group_key_at dimensions columns bound) in
                   cc (equal, unequal)
             ])
           ]) refl
@@ -85,8 +85,8 @@ which_number dimensions columns key (suc bound) =
 abbrev pub shown : GroupPlan → Slots → List (Vec Tally Global) → FoldState
 shown plan slots columns = record { query = query_of plan; plan = plan; tallies = all_tallies plan slots columns }
 
-module _ (dimensions : DimRows) (plan : GroupPlan) (over : IsPlanOver dimensions plan) where
-  made : IsPlanOf dimensions plan
+module _ (dimensions : DimRows) (plan : GroupPlan) (over : IsGroupPlanOver dimensions plan) where
+  made : IsGroupPlanOf dimensions plan
   made = plan_of_over dimensions plan over
 
   -- what it shows at a number
@@ -125,11 +125,12 @@ module _ (dimensions : DimRows) (plan : GroupPlan) (over : IsPlanOver dimensions
                   | None ↦ λ e.
                       let same : tallies_of aggs []
                       ≡ tallies_of aggs
-                      (rows_at dimensions (finest query) (key_at dimensions query.columns found.0) rows) =
+                      (rows_at dimensions (finest query) (group_key_at dimensions query.columns found.0) rows) =
                       sym (shown_at slots columns found.0 found.1 ∙ ap (tallies_or_none query columns) e)
                       ∙ represents.each found.0 found.1 in
                       ap (λ k. rows_at dimensions (finest query) k rows) (sym found.2)
-                      ∙ no_rows aggs (rows_at dimensions (finest query) (key_at dimensions query.columns found.0) rows)
+                      ∙ no_rows aggs
+                      (rows_at dimensions (finest query) (group_key_at dimensions query.columns found.0) rows)
                       kept.proper.some_aggregate same
                   | Some slot ↦ λ e. absurd (absent found.0 slot e found.2)
                 ]) refl
@@ -146,7 +147,7 @@ module _ (dimensions : DimRows) (plan : GroupPlan) (over : IsPlanOver dimensions
       let query = query_of plan in
       let aggs = query.aggregates in
       let entries = entries_of slots in
-      let key_of = key_at dimensions query.columns in
+      let key_of = group_key_at dimensions query.columns in
       record {
         over = over;
         each = λ number h. shown_at slots columns number h ∙

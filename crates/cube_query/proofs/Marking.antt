@@ -17,7 +17,7 @@ use Rattle.cube_model.specs.declared.rows.LineOrder.{LineOrder}
 use Rattle.cube_model.specs.Keys.{key_cmp}
 use Rattle.cube_model.specs.Order.{key_cmp_total, key_cmp-IsAntisymmetric}
 use Rattle.cube_query.specs.Columns.{slotted}
-use Rattle.group_plan.specs.Numbers.{group_count, key_at, KeysRise}
+use Rattle.group_plan.specs.Numbers.{group_count, group_key_at, KeysRise}
 use Rattle.cube_query.specs.Slots.{slot_of, AreSlots}
 use Rattle.cube_query.specs.Groups.{rows_at}
 use Rattle.cube_query.specs.FoldInvariant.{IsGroupSlot, AreGroupSlots}
@@ -46,7 +46,7 @@ not_less left right same less =
 -- numbers of groups that have one key are one
 pub keys_apart : (dimensions : DimRows) (columns : List Attr) → KeysRise dimensions columns → (c d : ℕ)
     → c < group_count dimensions columns → d < group_count dimensions columns
-    → key_at dimensions columns c ≡ key_at dimensions columns d → c ≡ d
+    → group_key_at dimensions columns c ≡ group_key_at dimensions columns d → c ≡ d
 keys_apart dimensions columns rising c d in_c in_d same =
     elim (c == d) as (λ b. (c == d) ≡ b → c ≡ d) [
       | true ↦ λ e. grind (arith, nat_tests)
@@ -54,10 +54,10 @@ keys_apart dimensions columns rising c d in_c in_d same =
           let apart : c ≢ d = grind (arith, nat_tests) in
           elim (cases_lt c d) [
             | inl below ↦
-                absurd (not_less (key_at dimensions columns c) (key_at dimensions columns d) same
+                absurd (not_less (group_key_at dimensions columns c) (group_key_at dimensions columns d) same
                 (rising c d below in_d))
             | inr above ↦
-                absurd (not_less (key_at dimensions columns d) (key_at dimensions columns c) (sym same)
+                absurd (not_less (group_key_at dimensions columns d) (group_key_at dimensions columns c) (sym same)
                 (rising d c (omega (arith, above, apart)) in_c))
           ]
     ] refl
@@ -131,7 +131,8 @@ module _ (dimensions : DimRows) (query : Query) where
 
   -- no row has a key that is not that of a number with a slot
   pub rows_at-none : query.kind ≡ Plain → (entries : List (ℕ × ℕ)) (key : List Member)
-      → ((number slot : ℕ) → slot_of entries number ≡ Some slot → key_at dimensions query.columns number ≡ key → ⊥)
+      → ((number slot : ℕ) → slot_of entries number ≡ Some slot → group_key_at dimensions query.columns number ≡ key
+      → ⊥)
       → (rows : List LineOrder) (group_slots : List (Option ℕ))
       → AreGroupSlots dimensions query entries rows group_slots → rows_at dimensions query key rows ≡ []
   rows_at-none plain entries key absent [] group_slots are = refl
@@ -151,15 +152,15 @@ module _ (dimensions : DimRows) (query : Query) where
       → AreSlots (group_count dimensions query.columns) entries → (number slot : ℕ) → slot_of entries number ≡ Some slot
       → (rows : List LineOrder) (group_slots : List (Option ℕ))
       → AreGroupSlots dimensions query entries rows group_slots
-      → rows_at dimensions query (key_at dimensions query.columns number) rows ≡ slotted slot rows group_slots
+      → rows_at dimensions query (group_key_at dimensions query.columns number) rows ≡ slotted slot rows group_slots
   rows_at-slotted plain rising entries slots number slot found [] group_slots are = refl
   rows_at-slotted plain rising entries slots number slot found (row ∷ rows) [] are = absurd are
   rows_at-slotted plain rising entries slots number slot found (row ∷ rows) (None ∷ group_slots) are =
-      rows_at-skip dimensions query (key_at dimensions query.columns number) row rows are.0
+      rows_at-skip dimensions query (group_key_at dimensions query.columns number) row rows are.0
       ∙ rows_at-slotted plain rising entries slots number slot found rows group_slots are.1
   rows_at-slotted plain rising entries slots number slot found (row ∷ rows) (Some other ∷ group_slots) are =
       let group_slot = are.0 in
-      let key = key_at dimensions query.columns number in
+      let key = group_key_at dimensions query.columns number in
       let rest = rows_at-slotted plain rising entries slots number slot found rows group_slots are.1 in
       rows_at-take dimensions query plain key row rows group_slot.1.0
       ∙ elim (other == slot) as
@@ -172,7 +173,7 @@ module _ (dimensions : DimRows) (query : Query) where
             let one : group_slot.0 ≡ number =
             slots.apart group_slot.0 number slot (group_slot.2 ∙ ap Some same) found in
             let equal : eq_by_cmp key_cmp key (plain_key dimensions query row) ≡ true =
-            ap (eq_by_cmp key_cmp key) (sym group_slot.1.2 ∙ ap (key_at dimensions query.columns) one)
+            ap (eq_by_cmp key_cmp key) (sym group_slot.1.2 ∙ ap (group_key_at dimensions query.columns) one)
             ∙ key_eq-same key in
             ap (λ b. cond b (row ∷ rows_at dimensions query key rows) (rows_at dimensions query key rows)) equal
             ∙ ap (λ more. row ∷ more) rest

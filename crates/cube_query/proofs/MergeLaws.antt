@@ -10,7 +10,7 @@ use Rattle.std.proofs.lemmas.List.{map-append}
 use Rattle.std.proofs.lemmas.List.Sums.{fold-append, sum_by-append}
 use Rattle.cube_model.specs.Aggregates.{total}
 use Rattle.cube_model.specs.declared.rows.LineOrder.{LineOrder}
-use Rattle.cube_query.specs.Tallies.{tally_of, merged}
+use Rattle.cube_query.specs.Tallies.{tally_of, merged_tally}
 use Rattle.cube_query.specs.declared.tally.Tally.{Tally}
 
 sum_from : (a : ℤ) (xs : List ℤ) → fold (λ so_far number. so_far +ℤ number) a xs ≡ a +ℤ total xs
@@ -47,7 +47,7 @@ both left right = record {
 }
 
 both-some : (x : ℤ) (xs : List ℤ) (y : ℤ) (ys : List ℤ)
-    → merged (tally_of (x ∷ xs)) (tally_of (y ∷ ys)) ≡ both (tally_of (x ∷ xs)) (tally_of (y ∷ ys))
+    → merged_tally (tally_of (x ∷ xs)) (tally_of (y ∷ ys)) ≡ both (tally_of (x ∷ xs)) (tally_of (y ∷ ys))
 both-some x xs y ys =
     ap (λ b. cond b (tally_of (y ∷ ys))
     (cond (length (y ∷ ys) == 0) (tally_of (x ∷ xs)) (both (tally_of (x ∷ xs)) (tally_of (y ∷ ys)))))
@@ -55,7 +55,7 @@ both-some x xs y ys =
     ∙ ap (λ b. cond b (tally_of (x ∷ xs)) (both (tally_of (x ∷ xs)) (tally_of (y ∷ ys)))) (some_count y ys)
 
 -- numbers put end to end
-pub tally_of-append : (xs ys : List ℤ) → tally_of (xs ++ ys) ≡ merged (tally_of xs) (tally_of ys)
+pub tally_of-append : (xs ys : List ℤ) → tally_of (xs ++ ys) ≡ merged_tally (tally_of xs) (tally_of ys)
 tally_of-append [] ys = refl
 tally_of-append (x ∷ xs) [] =
     ap tally_of (append-nil (x ∷ xs)) ∙ sym (ap (λ b. cond b (tally_of []) (tally_of (x ∷ xs))) (some_count x xs))
@@ -115,7 +115,7 @@ pub SameRows-after : (front rows others : List LineOrder) → SameRows rows othe
 SameRows-after front rows others same = record {
   tallies = λ number.
       ap tally_of (map-append number front rows) ∙ tally_of-append (map number front) (map number rows)
-      ∙ ap (merged (tally_of (map number front))) (same.tallies number)
+      ∙ ap (merged_tally (tally_of (map number front))) (same.tallies number)
       ∙ sym (ap tally_of (map-append number front others) ∙ tally_of-append (map number front) (map number others));
   sums = λ size. omega (arith, sum_by-append size front rows, sum_by-append size front others, same.sums size);
   lengths = omega (arith, length-append front rows, length-append front others, same.lengths);

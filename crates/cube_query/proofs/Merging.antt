@@ -10,9 +10,10 @@ use Rattle.std.proofs.lemmas.Option.{slice_get-get_or}
 use Rattle.cube_model.specs.Aggregates.{total}
 use Rattle.cube_model.specs.declared.measure.Agg.{Agg}
 use Rattle.cube_model.specs.declared.rows.LineOrder.{LineOrder}
-use Rattle.cube_query.specs.Coarser.{gathered, AddsIn, CanMerge, CanMergeAll, HasMergeRoom, HaveMergeRoom, LieWithin}
+use Rattle.cube_query.specs.Coarser.{gathered, AddsIn, CanMergeTallies, CanMergeAll, HasMergeRoom, HaveMergeRoom}
+use Rattle.cube_query.specs.Coarser.{LieWithin}
 use Rattle.cube_query.specs.Columns.{no_tally, tally_at, IsCountable}
-use Rattle.cube_query.specs.Tallies.{merged, number_of, tally_of}
+use Rattle.cube_query.specs.Tallies.{merged_tally, aggregated, tally_of}
 use Rattle.cube_query.specs.declared.tally.Tally.{Tally}
 use Rattle.std.specs.declared.alloc.Global.{Global}
 use Rattle.std.specs.declared.vec.Vec.{Vec}
@@ -83,7 +84,7 @@ target_in_column sources targets len lie n h = lie.to n (get_or targets n 0) (sl
 
 module _ (agg : Agg) (part : ℕ × ℕ → List LineOrder) (sources : List (ℕ × ℕ)) (targets : List ℕ)
     (same : length targets ≡ length sources) (old now : List Tally) (long : length now ≡ length old)
-    (can : CanMerge agg old sources targets part) (n : ℕ) (h : n < length sources)
+    (can : CanMergeTallies agg old sources targets part) (n : ℕ) (h : n < length sources)
     (added : AddsIn agg (λ slot. gathered slot part (take n sources) (take n targets)) old now) where
   abbrev source : ℕ × ℕ
   source = get_or sources n (0, 0)
@@ -92,7 +93,7 @@ module _ (agg : Agg) (part : ℕ × ℕ → List LineOrder) (sources : List (ℕ
   target = get_or targets n 0
 
   abbrev tally_rows : List LineOrder → Tally
-  tally_rows rows = tally_of (map (number_of agg) rows)
+  tally_rows rows = tally_of (map (aggregated agg) rows)
 
   here : slice_get sources n ≡ Some source
   here = slice_get-get_or sources n (0, 0) h
@@ -149,24 +150,24 @@ module _ (agg : Agg) (part : ℕ × ℕ → List LineOrder) (sources : List (ℕ
           arith,
           countable.few,
           length-append before (part source),
-          length-map before (number_of agg),
-          length-map (part source) (number_of agg),
+          length-map before (aggregated agg),
+          length-map (part source) (aggregated agg),
         ))
 
     pub sum_room : FitsSigned w64 ((tally_at now target).sum +ℤ (tally_at now source.1).sum)
     sum_room = rw (target_tally, source_tally) (FitsSigned-small _ (omega (
       arith,
-      nat_abs-+ℤ (total (map (number_of agg) before)) (total (map (number_of agg) (part source))),
-      nat_abs-total (number_of agg) before,
-      nat_abs-total (number_of agg) (part source),
-      sum_by-append (λ row. nat_abs (number_of agg row)) before (part source),
+      nat_abs-+ℤ (total (map (aggregated agg) before)) (total (map (aggregated agg) (part source))),
+      nat_abs-total (aggregated agg) before,
+      nat_abs-total (aggregated agg) (part source),
+      sum_by-append (λ row. nat_abs (aggregated agg row)) before (part source),
       countable.small,
     )))
 
   pub added-next : AddsIn agg (λ slot. gathered slot part (take (n + 1) sources) (take (n + 1) targets)) old
-      (slice_set now target (merged (tally_at now target) (tally_at now source.1)))
+      (slice_set now target (merged_tally (tally_at now target) (tally_at now source.1)))
   added-next slot rows reads =
-      let new = merged (tally_at now target) (tally_at now source.1) in
+      let new = merged_tally (tally_at now target) (tally_at now source.1) in
       let so_far = gathered slot part (take n sources) (take n targets) in
       let next = gathered-next slot part sources targets same n h in
       elim (target == slot) as
@@ -176,9 +177,9 @@ module _ (agg : Agg) (part : ℕ × ℕ → List LineOrder) (sources : List (ℕ
         | true ↦ λ e.
             let same_slot : slot ≡ target = grind (arith, nat_tests) in
             ap (tally_at (slice_set now target new)) same_slot ∙ get_or-set_same now target new no_tally target_in
-            ∙ (λ i. merged ((ap (tally_at now) (sym same_slot) ∙ added slot rows reads) i) (source_tally i))
-            ∙ sym (tally_of-append (map (number_of agg) (rows ++ so_far)) (map (number_of agg) (part source)))
-            ∙ ap tally_of (sym (map-append (number_of agg) (rows ++ so_far) (part source)))
+            ∙ (λ i. merged_tally ((ap (tally_at now) (sym same_slot) ∙ added slot rows reads) i) (source_tally i))
+            ∙ sym (tally_of-append (map (aggregated agg) (rows ++ so_far)) (map (aggregated agg) (part source)))
+            ∙ ap tally_of (sym (map-append (aggregated agg) (rows ++ so_far) (part source)))
             ∙ ap tally_rows
             (append_assoc rows so_far (part source)
             ∙ ap (λ more. rows ++ more) (sym (next ∙ ap (λ more. so_far ++ more) (one_here slot e))))
@@ -197,9 +198,9 @@ pub CanMerge-at : (aggs : List Agg) (sources : List (ℕ × ℕ)) (targets : Lis
     → CanMergeAll aggs old sources targets part
     → AreAddedBelow n aggs (λ slot. gathered slot part sources targets) old now
     → (agg : Agg) (column : Vec Tally Global)
-    → CanMerge (get_or aggs n agg) (get_or now n column).items sources targets part
+    → CanMergeTallies (get_or aggs n agg) (get_or now n column).items sources targets part
 CanMerge-at aggs sources targets part old now n h can below agg column =
-    subst (λ (c : Vec Tally Global). CanMerge (get_or aggs n agg) c.items sources targets part)
+    subst (λ (c : Vec Tally Global). CanMergeTallies (get_or aggs n agg) c.items sources targets part)
     (sym (below.kept n (omega arith) column)) (record {
       parts = λ place source at. let given = can.parts place source at in (
         All-at (λ (column : Vec Tally Global). source.1 < length column.items) old given.0 n

@@ -22,7 +22,7 @@ use Rattle.cube_model.specs.declared.attr.Attr.{Attr}
 use Rattle.cube_model.specs.declared.query.Order.{Order}
 use Rattle.cube_model.specs.declared.rows.DimRows.{DimRows}
 use Rattle.group_plan.specs.Columns.{attr_at}
-use Rattle.group_plan.specs.Numbers.{key_at, member_at, KeysRise}
+use Rattle.group_plan.specs.Numbers.{group_key_at, digit_member, KeysRise}
 use Rattle.group_plan.proofs.Numbers.{member_rises}
 use Rattle.cube_query.specs.Ranks.{Rank, rank_cmp, IsRank}
 use Rattle.cube_query.proofs.Lists.{ascending_from, get_or-map, IsAscending-map, length_same, map-twice, numbers_apart}
@@ -52,7 +52,7 @@ not_less Equal e h = cc
 not_less Greater e h = cc
 
 module _ (dimensions : DimRows) (columns : List Attr) (rising : KeysRise dimensions columns) (order : Order)
-    (line : ℕ × ℕ → Line) (key_is : (e : ℕ × ℕ) → (line e).key ≡ key_at dimensions columns e.0) where
+    (line : ℕ × ℕ → Line) (key_is : (e : ℕ × ℕ) → (line e).key ≡ group_key_at dimensions columns e.0) where
   -- a rank that is not before another one has its line after it
   ranked_less : (x y : Rank) → IsRank dimensions columns order line x → IsRank dimensions columns order line y
       → is_lt (rank_cmp y x) ≡ false → x.2.0 ≢ y.2.0
@@ -60,24 +60,24 @@ module _ (dimensions : DimRows) (columns : List Attr) (rising : KeysRise dimensi
   ranked_less x y rx ry last apart =
       let attr = attr_at columns order.column in
       let members : member_cmp (get_or (line x.2).key order.column Any) (get_or (line y.2).key order.column Any)
-      ≡ member_cmp (member_at dimensions attr x.0) (member_at dimensions attr y.0) =
+      ≡ member_cmp (digit_member dimensions attr x.0) (digit_member dimensions attr y.0) =
       λ i. member_cmp (rx.member i) (ry.member i) in
       let values : value_cmp (get_or (line y.2).values order.aggregate (Whole (pos 0)))
       (get_or (line x.2).values order.aggregate (Whole (pos 0))) ≡ int_cmp y.1.0 x.1.0 =
       λ i. value_cmp (ry.value i) (rx.value i) in
-      let keys : key_cmp (line x.2).key (line y.2).key ≡ key_cmp (key_at dimensions columns x.2.0)
-      (key_at dimensions columns y.2.0) = λ i. key_cmp (key_is x.2 i) (key_is y.2 i) in
+      let keys : key_cmp (line x.2).key (line y.2).key ≡ key_cmp (group_key_at dimensions columns x.2.0)
+      (group_key_at dimensions columns y.2.0) = λ i. key_cmp (key_is x.2 i) (key_is y.2 i) in
       let whole : line_cmp order (line x.2) (line y.2)
-      ≡ ordering_then (member_cmp (member_at dimensions attr x.0) (member_at dimensions attr y.0))
+      ≡ ordering_then (member_cmp (digit_member dimensions attr x.0) (digit_member dimensions attr y.0))
       (ordering_then (int_cmp y.1.0 x.1.0)
-      (key_cmp (key_at dimensions columns x.2.0) (key_at dimensions columns y.2.0))) =
+      (key_cmp (group_key_at dimensions columns x.2.0) (group_key_at dimensions columns y.2.0))) =
       λ i. ordering_then (members i) (ordering_then (values i) (keys i)) in
       let turned : int_cmp x.1.0 y.1.0 ≡ ordering_reverse (int_cmp y.1.0 x.1.0) = int_cmp_total.antisymm x.1.0 y.1.0 in
       whole ∙ elim (cases_order x.0 y.0) [
         | inr (inl below) ↦
             ap (λ r. ordering_then r
             (ordering_then (int_cmp y.1.0 x.1.0)
-            (key_cmp (key_at dimensions columns x.2.0) (key_at dimensions columns y.2.0))))
+            (key_cmp (group_key_at dimensions columns x.2.0) (group_key_at dimensions columns y.2.0))))
             (member_rises dimensions attr x.0 y.0 below ry.digit)
         | inr (inr above) ↦
             let less : rank_cmp y x ≡ Less =
@@ -85,15 +85,16 @@ module _ (dimensions : DimRows) (columns : List Attr) (rising : KeysRise dimensi
             (ordering_then (nat_cmp y.2.0 x.2.0) (nat_cmp y.2.1 x.2.1))) (below_less y.0 x.0 above) in
             absurd (not_less (rank_cmp y x) last less)
         | inl same ↦
-            let tie : member_cmp (member_at dimensions attr x.0) (member_at dimensions attr y.0) ≡ Equal =
-            ap (λ d. member_cmp (member_at dimensions attr x.0) (member_at dimensions attr d)) (sym same)
-            ∙ member_tie (member_at dimensions attr x.0) in
+            let tie : member_cmp (digit_member dimensions attr x.0) (digit_member dimensions attr y.0) ≡ Equal =
+            ap (λ d. member_cmp (digit_member dimensions attr x.0) (digit_member dimensions attr d)) (sym same)
+            ∙ member_tie (digit_member dimensions attr x.0) in
             let back : nat_cmp y.0 x.0 ≡ Equal = ap (nat_cmp y.0) same ∙ nat_tie y.0 in
             ap (λ r. ordering_then r
             (ordering_then (int_cmp y.1.0 x.1.0)
-            (key_cmp (key_at dimensions columns x.2.0) (key_at dimensions columns y.2.0)))) tie
+            (key_cmp (group_key_at dimensions columns x.2.0) (group_key_at dimensions columns y.2.0)))) tie
             ∙ (elim (int_cmp y.1.0 x.1.0) as (λ r. int_cmp x.1.0 y.1.0 ≡ ordering_reverse r
-            → ordering_then r (key_cmp (key_at dimensions columns x.2.0) (key_at dimensions columns y.2.0)) ≡ Less) [
+            → ordering_then r (key_cmp (group_key_at dimensions columns x.2.0) (group_key_at dimensions columns y.2.0))
+            ≡ Less) [
               | Less ↦ λ e. refl
               | Greater ↦ λ e.
                   let less : rank_cmp y x ≡ Less =

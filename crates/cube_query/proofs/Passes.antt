@@ -19,13 +19,13 @@ use Rattle.cube_model.specs.declared.query.Query.{Query}
 use Rattle.cube_model.specs.declared.rows.DimRows.{DimRows}
 use Rattle.cube_model.specs.declared.rows.LineOrder.{LineOrder}
 use Rattle.group_plan.specs.Columns.{is_all}
-use Rattle.group_plan.specs.Numbers.{group_count, key_at, KeysRise}
+use Rattle.group_plan.specs.Numbers.{group_count, group_key_at, KeysRise}
 use Rattle.cube_query.specs.Coarser.{keys_from, rows_from, leads, sources_of, AreTalliedFrom, IsTarget, AreTargets}
 use Rattle.cube_query.specs.Coarser.{gathered, AddIn, CanMergeAll, HaveMergeRoom, LieWithin, MayMerge}
 use Rattle.cube_query.specs.Columns.{is_seen, tallies_at, IsCountable}
 use Rattle.cube_query.specs.Limits.{AreFoldable}
 use Rattle.cube_query.specs.Slots.{slot_of, AreSlots, Grow}
-use Rattle.cube_query.specs.Tallies.{tallies_of, number_of}
+use Rattle.cube_query.specs.Tallies.{tallies_of, aggregated}
 use Rattle.cube_query.specs.declared.tally.Tally.{Tally}
 use Rattle.cube_query.proofs.Coarsening.{each, in-filter, filter-none, witness, passing, and_left, all_there, Apart}
 use Rattle.cube_query.proofs.Coarsening.{has, no_all, still_text, from_sources, came, comes}
@@ -130,8 +130,8 @@ module _ (dimensions : DimRows) (query : Query) (rising : KeysRise dimensions qu
     each = λ number slot found. same slot ∙ elim (grow.fresh number slot found) [
       | inl kept ↦ tallied.each number slot kept
       | inr fresh ↦
-          let none : rows_from dimensions query j (key_at dimensions query.columns number) rows ≡ [] =
-          tallied.others (key_at dimensions query.columns number) (λ other place there is.
+          let none : rows_from dimensions query j (group_key_at dimensions query.columns number) rows ≡ [] =
+          tallied.others (group_key_at dimensions query.columns number) (λ other place there is.
           let one : other ≡ number =
           keys_apart dimensions query.columns rising other number (slots.below other place there)
           (grow.slots.below number slot found) is in
@@ -147,7 +147,7 @@ module _ (dimensions : DimRows) (query : Query) (rising : KeysRise dimensions qu
 tallies_alike : (aggs : List Agg) (rows others : List LineOrder) → SameRows rows others
     → tallies_of aggs rows ≡ tallies_of aggs others
 tallies_alike [] rows others same = refl
-tallies_alike (agg ∷ aggs) rows others same = λ i. same.tallies (number_of agg) i
+tallies_alike (agg ∷ aggs) rows others same = λ i. same.tallies (aggregated agg) i
     ∷ tallies_alike aggs rows others same i
 
 -- rows of a key from a column on can be counted where all rows may be folded
@@ -157,7 +157,7 @@ countable_from dimensions query j key rows foldable agg =
     let p = is_selected dimensions query.conditions in
     let q = λ (row : LineOrder). list_any (eq_by_cmp key_cmp key)
     (keys_from dimensions query.kind j query.columns row) in
-    let size = λ (row : LineOrder). nat_abs (number_of agg row) in
+    let size = λ (row : LineOrder). nat_abs (aggregated agg row) in
     record {
       few = omega (arith, length-filter-le q (filter p rows), length-filter-le p rows, foldable.few);
       small = omega (
@@ -172,7 +172,7 @@ countable_alike : (agg : Agg) (rows others : List LineOrder) → SameRows rows o
     → IsCountable agg rows
 countable_alike agg rows others same countable = record {
   few = omega (arith, same.lengths, countable.few);
-  small = omega (arith, same.sums (λ row. nat_abs (number_of agg row)), countable.small);
+  small = omega (arith, same.sums (λ row. nat_abs (aggregated agg row)), countable.small);
 }
 
 -- the sources that are found among entries have their slots in columns that are long enough, and so have the targets
@@ -187,7 +187,7 @@ may_merge dimensions query i old new columns longer slots differ grow targets ar
     let bound = group_count dimensions query.columns in
     let sources = sources_of dimensions query i (tallies_at columns) old in
     let test = λ (entry : ℕ × ℕ). is_seen (tallies_at columns entry.1) && leads query.kind i
-    (key_at dimensions query.columns entry.0) in
+    (group_key_at dimensions query.columns entry.0) in
     let sources_found : AllByRecursion (λ e. slot_of old e.0 ≡ Some e.1) sources =
     all-filter (λ (e : ℕ × ℕ). slot_of old e.0 ≡ Some e.1) test old (all-found bound old differ) in
     all-weaker (λ (column : Vec Tally Global). length new ≤ length column.items)
@@ -221,7 +221,7 @@ module _ (dimensions : DimRows) (query : Query) (i : ℕ) (within : i < length q
   bound = group_count dimensions query.columns
 
   abbrev key_of : ℕ → List Member
-  key_of number = key_at dimensions query.columns number
+  key_of number = group_key_at dimensions query.columns number
 
   abbrev chosen_rows : List LineOrder
   chosen_rows = selected dimensions query.conditions rows

@@ -11,7 +11,7 @@ use Rattle.std.specs.Ordering.{nat_cmp}
 use Rattle.std.specs.declared.cmp.Ordering.TheVariants.{Less}
 use Rattle.std.proofs.lemmas.Cmp.{nat_cmp_total, eq_by_cmp_equiv}
 use Rattle.std.proofs.lemmas.Bool.Decides.{nat_tests}
-use Rattle.cube_query.specs.Slots.{numbers_from, slot_of, AreSlots, Adds, Places, Grow}
+use Rattle.cube_query.specs.Slots.{numbers_from, slot_of, AreSlots, AddsSlot, Places, Grow}
 
 -- ---- tests of numbers
 pub at_same : (number : ℕ) → is_at (nat_cmp number) number ≡ true
@@ -114,7 +114,7 @@ Grow-same bound entries are = record {
 
 -- what a number has after one was added
 module _ (old : List (ℕ × ℕ)) (number slot : ℕ) (new : List (ℕ × ℕ)) (absent : slot_of old number ≡ None)
-    (adds : Adds old number slot new) where
+    (adds : AddsSlot old number slot new) where
   Adds-keep : (other place : ℕ) → slot_of old other ≡ Some place → slot_of new other ≡ Some place
   Adds-keep other place found =
       adds.slots other
@@ -183,7 +183,7 @@ pub Grow-place : (bound : ℕ) (first old : List (ℕ × ℕ)) (number slot : �
     → Places old number slot new → Grow bound first old → Grow bound first new
 Grow-place bound first old number slot new h places grown =
     (elim (slot_of old number) as
-    (λ o. slot_of old number ≡ o → MatchOption o (Adds old number slot new) (λ kept. (slot ≡ kept) × (new ≡ old))
+    (λ o. slot_of old number ≡ o → MatchOption o (AddsSlot old number slot new) (λ kept. (slot ≡ kept) × (new ≡ old))
     → Grow bound first new) [
       | None ↦ λ e adds. Grow-add old number slot new e adds bound h first grown
       | Some kept ↦ λ e is. subst (Grow bound first) (sym is.1) grown
@@ -193,7 +193,7 @@ pub Places-found : (old : List (ℕ × ℕ)) (number slot : ℕ) (new : List (�
     → slot_of new number ≡ Some slot
 Places-found old number slot new places =
     (elim (slot_of old number) as
-    (λ o. slot_of old number ≡ o → MatchOption o (Adds old number slot new) (λ kept. (slot ≡ kept) × (new ≡ old))
+    (λ o. slot_of old number ≡ o → MatchOption o (AddsSlot old number slot new) (λ kept. (slot ≡ kept) × (new ≡ old))
     → slot_of new number ≡ Some slot) [
       | None ↦ λ e adds. adds.slots number ∙ ap (λ b. cond b (Some slot) (slot_of old number)) (at_same number)
       | Some kept ↦ λ e is. ap (λ entries. slot_of entries number) is.1 ∙ e ∙ ap Some (sym is.0)
@@ -204,7 +204,7 @@ pub Places-keep : (old : List (ℕ × ℕ)) (number slot : ℕ) (new : List (ℕ
     → (other place : ℕ) → slot_of old other ≡ Some place → slot_of new other ≡ Some place
 Places-keep old number slot new places other place found =
     (elim (slot_of old number) as
-    (λ o. slot_of old number ≡ o → MatchOption o (Adds old number slot new) (λ kept. (slot ≡ kept) × (new ≡ old))
+    (λ o. slot_of old number ≡ o → MatchOption o (AddsSlot old number slot new) (λ kept. (slot ≡ kept) × (new ≡ old))
     → slot_of new other ≡ Some place) [
       | None ↦ λ e adds. Adds-keep old number slot new e adds other place found
       | Some kept ↦ λ e is. ap (λ entries. slot_of entries other) is.1 ∙ found

@@ -6,11 +6,11 @@ use Rattle.cube_model.specs.declared.measure.Agg.{Agg}
 use Rattle.cube_model.specs.declared.measure.Agg.TheVariants.{Count, Sum, Min, Max, Avg}
 use Rattle.cube_model.specs.declared.rows.LineOrder.{LineOrder}
 use Rattle.cube_model.specs.Admission.{AreInRange}
-use Rattle.cube_query.specs.Tallies.{number_of}
+use Rattle.cube_query.specs.Tallies.{aggregated}
 use Rattle.cube_query.proofs.Sums.{sum_by-zero}
 
 pub range_of_agg : (rows : List LineOrder) → AreInRange rows → (agg : Agg)
-    → sum_by (λ row. nat_abs (number_of agg row)) rows < 2 ^ 63
+    → sum_by (λ row. nat_abs (aggregated agg row)) rows < 2 ^ 63
 range_of_agg rows fits Count = omega (arith, sum_by-zero rows)
 range_of_agg rows fits (Sum measure) = fits measure
 range_of_agg rows fits (Min measure) = fits measure

@@ -6,7 +6,7 @@ use Rattle.std.specs.List.{list_all}
 use Rattle.std.proofs.lemmas.Bool.Decides.{nat_tests}
 use Rattle.cube_model.specs.declared.measure.Agg.{Agg}
 use Rattle.cube_model.specs.declared.rows.LineOrder.{LineOrder}
-use Rattle.cube_query.specs.Columns.{can_add, chosen, size_of, tally_at, HasRoom}
+use Rattle.cube_query.specs.Columns.{can_add, rows_with_slots, aggregate_size, tally_at, HasRoom}
 use Rattle.cube_query.specs.Room.{can_take}
 use Rattle.cube_query.specs.declared.tally.Tally.{Tally}
 
@@ -51,7 +51,8 @@ module _ (column : List Tally) (count size : ℕ) where
 
 -- what the tests say together
 module _ (agg : Agg) (column : List Tally) (rows : List LineOrder) (group_slots : List (Option ℕ))
-    (same : length group_slots ≡ length rows) (size : ℕ) (is : size ≡ size_of agg (chosen rows group_slots)) where
+    (same : length group_slots ≡ length rows) (size : ℕ)
+    (is : size ≡ aggregate_size agg (rows_with_slots rows group_slots)) where
   pub room_there : size < 2 ^ 63
       → list_all (λ group_slot. can_take column group_slot (length group_slots) size) group_slots ≡ true
       → HasRoom agg column rows group_slots

@@ -4,7 +4,7 @@ use Rattle.cube_model.specs.declared.query.Query.{Query}
 use Rattle.cube_model.specs.declared.rows.DimRows.{DimRows}
 use Rattle.cube_model.specs.declared.rows.LineOrder.{LineOrder}
 use Rattle.lattice.specs.declared.view.View.{View}
-use Rattle.cuboid_cells.specs.Cells.{number_of as key_number}
+use Rattle.cuboid_cells.specs.Cells.{key_as_number}
 use Rattle.cuboid_upkeep.specs.Grouping.{HasMembers, key_of}
 use Rattle.cube_query.specs.FoldInvariant.{IsGroupSlot}
 
@@ -13,5 +13,5 @@ pub record HasSlot (dimensions : DimRows) (modes : List (List ℕ)) (view : View
     (number : ℕ) (group_slot : Option ℕ) : Type 0 where
   pub row : LineOrder
   pub members : HasMembers dimensions modes view row
-  pub number_is : key_number (key_of dimensions modes view row) ≡ number
+  pub number_is : key_as_number (key_of dimensions modes view row) ≡ number
   pub slot : IsGroupSlot dimensions query entries row group_slot

@@ -15,7 +15,7 @@ use Rattle.wire.proofs.CallerLemmas.{HasRead-then, IsRefused-later}
 use Rattle.wire.proofs.Stopped.{Ran}
 use Rattle.lattice.specs.declared.view.View.{View}
 use Rattle.cuboid_cells.specs.declared.cell.Cell.{Cell}
-use Rattle.cuboid_cells.specs.Cells.{IsCellOf, number_of}
+use Rattle.cuboid_cells.specs.Cells.{IsCellOf, key_as_number}
 use Rattle.cuboid_cells.specs.Pieces.{AreLeft, PassesOver, ReadsOn, RunPlace}
 use Rattle.cuboid_cells.proofs.Continuing.{cells_left, none_left}
 use Rattle.cuboid_upkeep.specs.CellNumbers.{AreUnwanted, AskedOfCells, IsUnwanted}
@@ -105,7 +105,7 @@ run_done asked aggs entries text cells run first now all are =
 pub passed_unwanted : (asked : AskedOfCells) (text : Option (List ℕ)) (run : RunPlace) (left passed rest : List Cell)
     (to : Option ℕ) → asked.view ≡ run.head.view → AreUnwanted asked run.least to → AreLeft text run left
     → left ≡ passed ++ rest
-    → All (λ cell. IfSome to (λ end. number_of cell.key < end)) passed → All (IsUnwanted asked) passed
+    → All (λ cell. IfSome to (λ end. key_as_number cell.key < end)) passed → All (IsUnwanted asked) passed
 passed_unwanted asked text run left passed rest to view none at parts below = λ k d within.
     let there : k < length left = omega (arith, within, ap length parts, length-append passed rest) in
     let is : get_or left k d ≡ get_or passed k d = ap (λ (cells : List Cell). get_or cells k d) parts
@@ -113,7 +113,7 @@ passed_unwanted asked text run left passed rest to view none at parts below = λ
     let own = cells_left text run left at k d there in
     subst (IsUnwanted asked) is
     (none (get_or left k d) (subst (λ (v : View). IsCellOf v (get_or left k d)) (sym view) own.0) own.1 own.2
-    (subst (λ (cell : Cell). IfSome to (λ end. number_of cell.key < end)) (sym is) (below k d within)))
+    (subst (λ (cell : Cell). IfSome to (λ end. key_as_number cell.key < end)) (sym is) (below k d within)))
 
 pub read_none : (asked : AskedOfCells) (text : Option (List ℕ)) (run next : RunPlace) (left : List Cell)
     → asked.view ≡ run.head.view → AreUnwanted asked run.least None → AreLeft text run left → AreLeft text next []

@@ -24,10 +24,10 @@ use Rattle.cube_model.specs.declared.rows.LineOrder.{LineOrder}
 use Rattle.cube_model.specs.Keys.{key_cmp}
 use Rattle.cube_query.specs.Columns.{tallies_at, is_seen, seen_groups, line_with}
 use Rattle.cube_query.specs.Groups.{groups_of, rows_at}
-use Rattle.group_plan.specs.Numbers.{group_count, key_at, KeysRise}
+use Rattle.group_plan.specs.Numbers.{group_count, group_key_at, KeysRise}
 use Rattle.cube_query.specs.Slots.{slot_of, AreSlots}
 use Rattle.cube_query.specs.FoldInvariant.{AreTallied}
-use Rattle.cube_query.specs.Tallies.{number_of, tallies_of, tallies_if_any}
+use Rattle.cube_query.specs.Tallies.{aggregated, tallies_of, tallies_if_any}
 use Rattle.cube_query.specs.declared.tally.Tally.{Tally}
 use Rattle.cube_query.proofs.Answered.{groups_are}
 use Rattle.cube_query.proofs.Marking.{key_eq-same, key_eq-true, key_eq-apart, keys_apart}
@@ -91,21 +91,21 @@ seen_at tallies (Some slot) = cond (is_seen (tallies slot)) (Some (tallies slot)
 module _ (dimensions : DimRows) (columns : List Attr) (rising : KeysRise dimensions columns) (tallies : ℕ → List Tally)
   where
     abbrev seen_of : List (ℕ × ℕ) → List (List Member × List Tally)
-    seen_of entries = seen_groups (key_at dimensions columns) tallies entries
+    seen_of entries = seen_groups (group_key_at dimensions columns) tallies entries
 
     seen-above : (low : ℕ) (entries : List (ℕ × ℕ))
         → AllByRecursion (λ other. nat_cmp low other ≡ Less) (map (λ e. e.0) entries)
         → AllByRecursion (λ number. number < group_count dimensions columns) (map (λ e. e.0) entries)
-        → AllByRecursion (λ other. key_cmp (key_at dimensions columns low) other ≡ Less)
+        → AllByRecursion (λ other. key_cmp (group_key_at dimensions columns low) other ≡ Less)
         (map (λ e. e.0) (seen_of entries))
     seen-above low [] above below = tt
     seen-above low (entry ∷ entries) above below =
         let rest = seen-above low entries above.1 below.1 in
         let less : low < entry.0 = ranked low entry.0 Less (sym above.0) in
         elim (is_seen (tallies entry.1)) as
-        (λ b. AllByRecursion (λ other. key_cmp (key_at dimensions columns low) other ≡ Less)
+        (λ b. AllByRecursion (λ other. key_cmp (group_key_at dimensions columns low) other ≡ Less)
         (map (λ e. e.0)
-        (cond b ((key_at dimensions columns entry.0, tallies entry.1) ∷ seen_of entries) (seen_of entries)))) [
+        (cond b ((group_key_at dimensions columns entry.0, tallies entry.1) ∷ seen_of entries) (seen_of entries)))) [
           | true ↦ (rising low entry.0 less below.0, rest)
           | false ↦ rest
         ]
@@ -120,54 +120,55 @@ module _ (dimensions : DimRows) (columns : List Attr) (rising : KeysRise dimensi
         elim (is_seen (tallies entry.1)) as
         (λ b. IsStrictlySortedBy key_cmp
         (map (λ e. e.0)
-        (cond b ((key_at dimensions columns entry.0, tallies entry.1) ∷ seen_of entries) (seen_of entries)))) [
+        (cond b ((group_key_at dimensions columns entry.0, tallies entry.1) ∷ seen_of entries) (seen_of entries)))) [
           | true ↦ (seen-above entry.0 entries sorted.0 below.1, rest)
           | false ↦ rest
         ]
 
     -- a key that no number in the list has
     seen-absent : (key : List Member) (entries : List (ℕ × ℕ))
-        → AllByRecursion (λ number. key_at dimensions columns number ≡ key → ⊥) (map (λ e. e.0) entries)
+        → AllByRecursion (λ number. group_key_at dimensions columns number ≡ key → ⊥) (map (λ e. e.0) entries)
         → lookup (is_at (key_cmp key)) (seen_of entries) ≡ None
     seen-absent key [] absent = refl
     seen-absent key (entry ∷ entries) absent =
         let rest = seen-absent key entries absent.1 in
         elim (is_seen (tallies entry.1)) as
         (λ b. lookup (is_at (key_cmp key))
-        (cond b ((key_at dimensions columns entry.0, tallies entry.1) ∷ seen_of entries) (seen_of entries)) ≡ None) [
+        (cond b ((group_key_at dimensions columns entry.0, tallies entry.1) ∷ seen_of entries) (seen_of entries))
+        ≡ None) [
           | true ↦ ap (λ b. cond b (Some (tallies entry.1)) (lookup (is_at (key_cmp key)) (seen_of entries)))
-              (key_eq-apart key (key_at dimensions columns entry.0) (λ same. absent.0 (sym same))) ∙ rest
+              (key_eq-apart key (group_key_at dimensions columns entry.0) (λ same. absent.0 (sym same))) ∙ rest
           | false ↦ rest
         ]
 
     seen-lookup : (number : ℕ) → number < group_count dimensions columns → (entries : List (ℕ × ℕ))
         → IsStrictlySortedBy nat_cmp (map (λ e. e.0) entries)
         → AllByRecursion (λ number. number < group_count dimensions columns) (map (λ e. e.0) entries)
-        → lookup (is_at (key_cmp (key_at dimensions columns number))) (seen_of entries)
+        → lookup (is_at (key_cmp (group_key_at dimensions columns number))) (seen_of entries)
         ≡ seen_at tallies (slot_of entries number)
     unfolding IsStrictlySortedBy
     seen-lookup number h [] sorted below = refl
     seen-lookup number h (entry ∷ entries) sorted below =
-        let key = key_at dimensions columns number in
+        let key = group_key_at dimensions columns number in
         let rest = seen-lookup number h entries sorted.1 below.1 in
         elim (is_at (nat_cmp number) entry.0) as (λ b. is_at (nat_cmp number) entry.0 ≡ b
         → lookup (is_at (key_cmp key)) (seen_of (entry ∷ entries))
         ≡ seen_at tallies (cond b (Some entry.1) (slot_of entries number))) [
           | true ↦ λ e.
               let same : number ≡ entry.0 = at_true number entry.0 e in
-              let here : eq_by_cmp key_cmp key (key_at dimensions columns entry.0) ≡ true =
-              ap (λ n. eq_by_cmp key_cmp key (key_at dimensions columns n)) (sym same) ∙ key_eq-same key in
+              let here : eq_by_cmp key_cmp key (group_key_at dimensions columns entry.0) ≡ true =
+              ap (λ n. eq_by_cmp key_cmp key (group_key_at dimensions columns n)) (sym same) ∙ key_eq-same key in
               let none : slot_of entries number ≡ None = ap (slot_of entries) same
               ∙ slot_of-above entry.0 entries sorted.0 in
               elim (is_seen (tallies entry.1)) as
               (λ b. lookup (is_at (key_cmp key))
-              (cond b ((key_at dimensions columns entry.0, tallies entry.1) ∷ seen_of entries) (seen_of entries))
+              (cond b ((group_key_at dimensions columns entry.0, tallies entry.1) ∷ seen_of entries) (seen_of entries))
               ≡ cond b (Some (tallies entry.1)) None) [
                 | true ↦ ap (λ b. cond b (Some (tallies entry.1)) (lookup (is_at (key_cmp key)) (seen_of entries))) here
                 | false ↦ rest ∙ ap (seen_at tallies) none
               ]
           | false ↦ λ e.
-              let apart : key ≡ key_at dimensions columns entry.0 → ⊥ =
+              let apart : key ≡ group_key_at dimensions columns entry.0 → ⊥ =
               (λ same. let one : number ≡ entry.0 = keys_apart dimensions columns rising number entry.0 h below.0
               same in
               let test : is_at (nat_cmp number) entry.0 ≡ true = ap (is_at (nat_cmp number)) (sym one)
@@ -175,10 +176,10 @@ module _ (dimensions : DimRows) (columns : List Attr) (rising : KeysRise dimensi
               cc (test, e)) in
               elim (is_seen (tallies entry.1)) as
               (λ b. lookup (is_at (key_cmp key))
-              (cond b ((key_at dimensions columns entry.0, tallies entry.1) ∷ seen_of entries) (seen_of entries))
+              (cond b ((group_key_at dimensions columns entry.0, tallies entry.1) ∷ seen_of entries) (seen_of entries))
               ≡ seen_at tallies (slot_of entries number)) [
                 | true ↦ ap (λ b. cond b (Some (tallies entry.1)) (lookup (is_at (key_cmp key)) (seen_of entries)))
-                    (key_eq-apart key (key_at dimensions columns entry.0) apart) ∙ rest
+                    (key_eq-apart key (group_key_at dimensions columns entry.0) apart) ∙ rest
                 | false ↦ rest
               ]
         ] refl
@@ -186,9 +187,9 @@ module _ (dimensions : DimRows) (columns : List Attr) (rising : KeysRise dimensi
 -- whether a key is that of a number below a bound with a slot
 pub which : (dimensions : DimRows) (columns : List Attr) (entries : List (ℕ × ℕ)) (key : List Member) (bound : ℕ)
     → ((number : ℕ) × (slot : ℕ) × (number < bound) × (slot_of entries number ≡ Some slot)
-    × (key_at dimensions columns number ≡ key))
+    × (group_key_at dimensions columns number ≡ key))
     ⊎ ((number slot : ℕ) → number < bound → slot_of entries number ≡ Some slot
-    → key_at dimensions columns number ≡ key → ⊥)
+    → group_key_at dimensions columns number ≡ key → ⊥)
 which dimensions columns entries key zero = inr (λ number slot h found same. absurd (omega (arith, h)))
 which dimensions columns entries key (suc bound) =
     elim (which dimensions columns entries key bound) [
@@ -196,9 +197,9 @@ which dimensions columns entries key (suc bound) =
       | inr absent ↦
           (elim (slot_of entries bound) as (λ o. slot_of entries bound ≡ o
           → ((number : ℕ) × (slot : ℕ) × (number < suc bound) × (slot_of entries number ≡ Some slot)
-          × (key_at dimensions columns number ≡ key))
+          × (group_key_at dimensions columns number ≡ key))
           ⊎ ((number slot : ℕ) → number < suc bound → slot_of entries number ≡ Some slot
-          → key_at dimensions columns number ≡ key → ⊥)) [
+          → group_key_at dimensions columns number ≡ key → ⊥)) [
             | None ↦ λ e. inr (λ number slot h found same. elim (cases_lt number bound) [
               | inl below ↦ absent number slot below found same
               | inr above ↦
@@ -207,22 +208,22 @@ which dimensions columns entries key (suc bound) =
                   cc (none, found)
             ])
             | Some slot ↦ λ e.
-                elim (eq_by_cmp key_cmp (key_at dimensions columns bound) key) as
-                (λ b. eq_by_cmp key_cmp (key_at dimensions columns bound) key ≡ b
+                elim (eq_by_cmp key_cmp (group_key_at dimensions columns bound) key) as
+                (λ b. eq_by_cmp key_cmp (group_key_at dimensions columns bound) key ≡ b
                 → ((number : ℕ) × (slot : ℕ) × (number < suc bound) × (slot_of entries number ≡ Some slot)
-                × (key_at dimensions columns number ≡ key))
+                × (group_key_at dimensions columns number ≡ key))
                 ⊎ ((number slot : ℕ) → number < suc bound → slot_of entries number ≡ Some slot
-                → key_at dimensions columns number ≡ key → ⊥)) [
+                → group_key_at dimensions columns number ≡ key → ⊥)) [
                   | true ↦ λ equal. inl
-                      (bound, slot, omega arith, e, key_eq-true (key_at dimensions columns bound) key equal)
+                      (bound, slot, omega arith, e, key_eq-true (group_key_at dimensions columns bound) key equal)
                   | false ↦ λ unequal. inr (λ number other h found same. elim (cases_lt number bound) [
                     | inl below ↦ absent number other below found same
                     | inr above ↦
                         let here : number ≡ bound = omega (arith, h, above) in
-                        let equal : eq_by_cmp key_cmp (key_at dimensions columns bound) key ≡ true =
-                        ap (eq_by_cmp key_cmp (key_at dimensions columns bound))
-                        (sym same ∙ ap (key_at dimensions columns) here)
-                        ∙ key_eq-same (key_at dimensions columns bound) in
+                        let equal : eq_by_cmp key_cmp (group_key_at dimensions columns bound) key ≡ true =
+                        ap (eq_by_cmp key_cmp (group_key_at dimensions columns bound))
+                        (sym same ∙ ap (group_key_at dimensions columns) here)
+                        ∙ key_eq-same (group_key_at dimensions columns bound) in
                         cc (equal, unequal)
                   ])
                 ] refl
@@ -233,7 +234,7 @@ pub some_seen : (aggs : List Agg) (row : LineOrder) (rows : List LineOrder)
     → list_all (λ (tally : Tally). nat_lt 0 tally.count) (tallies_of aggs (row ∷ rows)) ≡ true
 some_seen [] row rows = refl
 some_seen (agg ∷ aggs) row rows =
-    let here : nat_lt 0 (length (map (number_of agg) (row ∷ rows))) ≡ true = grind (arith, nat_tests) in
+    let here : nat_lt 0 (length (map (aggregated agg) (row ∷ rows))) ≡ true = grind (arith, nat_tests) in
     ap (λ b. b && list_all (λ (tally : Tally). nat_lt 0 tally.count) (tallies_of aggs (row ∷ rows))) here
     ∙ some_seen aggs row rows
 
@@ -248,28 +249,28 @@ seen-tallies_of (agg ∷ aggs) (row ∷ rows) some =
 pub seen_are : (dimensions : DimRows) (query : Query) (entries : List (ℕ × ℕ)) (columns : List (Vec Tally Global))
     (rows : List LineOrder) → 1 ≤ length query.aggregates → KeysRise dimensions query.columns
     → AreSlots (group_count dimensions query.columns) entries → AreTallied dimensions query entries columns rows
-    → seen_groups (key_at dimensions query.columns) (tallies_at columns) entries ≡ groups_of dimensions query rows
+    → seen_groups (group_key_at dimensions query.columns) (tallies_at columns) entries ≡ groups_of dimensions query rows
 seen_are dimensions query entries columns rows some rising slots tallied =
     let aggs = query.aggregates in
     let tallies = tallies_at columns in
     let below = each_number (λ number. number < group_count dimensions query.columns) entries slots.sorted
     slots.below in
-    groups_are dimensions query rows (seen_groups (key_at dimensions query.columns) tallies entries)
+    groups_are dimensions query rows (seen_groups (group_key_at dimensions query.columns) tallies entries)
     (seen-sorted dimensions query.columns rising tallies entries slots.sorted below)
     (λ key. elim (which dimensions query.columns entries key (group_count dimensions query.columns)) [
       | inl found ↦
-          ap (λ k. lookup (is_at (key_cmp k)) (seen_groups (key_at dimensions query.columns) tallies entries))
+          ap (λ k. lookup (is_at (key_cmp k)) (seen_groups (group_key_at dimensions query.columns) tallies entries))
           (sym found.4)
           ∙ seen-lookup dimensions query.columns rising tallies found.0 found.2 entries slots.sorted below
           ∙ ap (seen_at tallies) found.3
           ∙ ap (λ t. cond (is_seen t) (Some t) None) (tallied.each found.0 found.1 found.3)
-          ∙ seen-tallies_of aggs (rows_at dimensions query (key_at dimensions query.columns found.0) rows) some
+          ∙ seen-tallies_of aggs (rows_at dimensions query (group_key_at dimensions query.columns found.0) rows) some
           ∙ ap (λ k. tallies_if_any aggs (rows_at dimensions query k rows)) found.4
       | inr absent ↦
           let none = λ (number slot : ℕ) (found : slot_of entries number ≡ Some slot). absent number slot
           (slots.below number slot found) found in
           seen-absent dimensions query.columns rising tallies key entries
-          (each_number (λ number. key_at dimensions query.columns number ≡ key → ⊥) entries slots.sorted none)
+          (each_number (λ number. group_key_at dimensions query.columns number ≡ key → ⊥) entries slots.sorted none)
           ∙ ap (tallies_if_any aggs) (sym (tallied.others key none))
     ])
 

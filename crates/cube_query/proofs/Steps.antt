@@ -16,13 +16,13 @@ use Rattle.std.proofs.lemmas.List.{length-map}
 use Rattle.std.proofs.lemmas.List.Sums.{sum_by-append, sum_by-cons}
 use Rattle.cube_model.specs.Keys.{key_cmp, keys_of}
 use Rattle.cube_model.specs.Selection.{is_selected}
-use Rattle.cube_query.specs.Columns.{tallies_at, tally_at, can_add, chosen, size_of}
+use Rattle.cube_query.specs.Columns.{tallies_at, tally_at, can_add, rows_with_slots, aggregate_size}
 use Rattle.cube_query.specs.Groups.{rows_at}
 use Rattle.cube_query.specs.Limits.{AreFoldable}
-use Rattle.group_plan.specs.Numbers.{group_count, key_at, KeysRise}
+use Rattle.group_plan.specs.Numbers.{group_count, group_key_at, KeysRise}
 use Rattle.cube_query.specs.Slots.{slot_of, AreSlots, Grow}
 use Rattle.cube_query.specs.FoldInvariant.{AreGroupSlots, HaveRoom, CountIn, AreTallied}
-use Rattle.cube_query.specs.Tallies.{number_of, tally_of, tallies_of}
+use Rattle.cube_query.specs.Tallies.{aggregated, tally_of, tallies_of}
 use Rattle.cube_query.specs.declared.tally.Tally.{Tally}
 use Rattle.cube_query.proofs.Marking.{keys_apart, slotted-none, rows_at-none, rows_at-slotted, AreGroupSlots-at}
 use Rattle.cube_query.proofs.OneRow.{rows_at-append}
@@ -39,7 +39,7 @@ pub AreTallied-grow : (dimensions : DimRows) (query : Query) (old new : List (�
     → AreTallied dimensions query old columns rows → AreTallied dimensions query new longer rows
 AreTallied-grow dimensions query old new columns longer rows rising slots grow same tallied =
     let aggs = query.aggregates in
-    let key_of = key_at dimensions query.columns in
+    let key_of = group_key_at dimensions query.columns in
     record {
       each = λ number slot found. same slot ∙ elim (grow.fresh number slot found) [
         | inl kept ↦ tallied.each number slot kept
@@ -67,7 +67,7 @@ pub AreTallied-count : (dimensions : DimRows) (query : Query) (entries : List (�
 AreTallied-count dimensions query entries old new so_far rows group_slots plain rising slots group_slots_are counted
     tallied =
     let aggs = query.aggregates in
-    let key_of = key_at dimensions query.columns in
+    let key_of = group_key_at dimensions query.columns in
     record {
       each = λ number slot found.
           counted slot (rows_at dimensions query (key_of number) so_far) (tallied.each number slot found)
@@ -88,18 +88,18 @@ AreTallied-count dimensions query entries old new so_far rows group_slots plain 
 
 -- ---- room for them
 size-chosen : (agg : Agg) (rows : List LineOrder) (group_slots : List (Option ℕ))
-    → size_of agg (chosen rows group_slots) ≤ size_of agg rows
+    → aggregate_size agg (rows_with_slots rows group_slots) ≤ aggregate_size agg rows
 size-chosen agg [] group_slots = omega arith
 size-chosen agg (row ∷ rows) [] = omega arith
 size-chosen agg (row ∷ rows) (None ∷ group_slots) =
-    omega (arith, size-chosen agg rows group_slots, sum_by-cons (λ row. nat_abs (number_of agg row)) row rows)
+    omega (arith, size-chosen agg rows group_slots, sum_by-cons (λ row. nat_abs (aggregated agg row)) row rows)
 size-chosen agg (row ∷ rows) (Some slot ∷ group_slots) =
-    let size = λ (row : LineOrder). nat_abs (number_of agg row) in
+    let size = λ (row : LineOrder). nat_abs (aggregated agg row) in
     omega (
       arith,
       size-chosen agg rows group_slots,
       sum_by-cons size row rows,
-      sum_by-cons size row (chosen rows group_slots),
+      sum_by-cons size row (rows_with_slots rows group_slots),
     )
 
 -- rows that may be folded have room
@@ -113,8 +113,8 @@ HaveRoom-foldable dimensions query entries columns so_far rows group_slots slots
     h default column =
     let aggs = query.aggregates in
     let agg = get_or aggs k default in
-    let size = λ (row : LineOrder). nat_abs (number_of agg row) in
-    let number = number_of agg in
+    let size = λ (row : LineOrder). nat_abs (aggregated agg row) in
+    let number = aggregated agg in
     let p = is_selected dimensions query.conditions in
     let total = range_of_agg (so_far ++ rows) foldable.in_range agg in
     let both = sum_by-append size so_far rows in
@@ -124,7 +124,7 @@ HaveRoom-foldable dimensions query entries columns so_far rows group_slots slots
       small = omega (arith, total, both, front);
       each = λ place slot at.
           let found = AreGroupSlots-at dimensions query entries rows group_slots group_slots_are place slot at in
-          let key = key_at dimensions query.columns found.0 in
+          let key = group_key_at dimensions query.columns found.0 in
           let q = λ (row : LineOrder). list_any (eq_by_cmp key_cmp key) (keys_of dimensions query row) in
           let own = rows_at dimensions query key so_far in
           let within = slots.within found.0 slot found.1 in
@@ -136,8 +136,9 @@ HaveRoom-foldable dimensions query entries columns so_far rows group_slots slots
               All-at (λ (column : Vec Tally Global). length entries ≤ length column.items) columns
                   long k (omega (arith, h, count)) column,
             ),
-            ap (λ tally. can_add tally (length rows) (size_of agg (chosen rows group_slots))) tally
-                ∙ fits-can_add (tally_of (map number own)) (length rows) (size_of agg (chosen rows group_slots))
+            ap (λ tally. can_add tally (length rows) (aggregate_size agg (rows_with_slots rows group_slots))) tally
+                ∙ fits-can_add (tally_of (map number own)) (length rows)
+                (aggregate_size agg (rows_with_slots rows group_slots))
                 (omega (
                   arith,
                   foldable.few,

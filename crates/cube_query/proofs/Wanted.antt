@@ -12,16 +12,16 @@ use Rattle.cube_model.specs.declared.measure.Agg.{Agg}
 use Rattle.cube_model.specs.declared.rows.LineOrder.{LineOrder}
 use Rattle.cuboid_cells.specs.declared.cell.Cell.{Cell}
 use Rattle.cuboid_cells.specs.declared.key.Key.{Key}
-use Rattle.cuboid_cells.specs.Cells.{cell_at, number_of as key_number}
+use Rattle.cuboid_cells.specs.Cells.{cell_at, key_as_number}
 use Rattle.cuboid_upkeep.specs.CellNumbers.{AskedOfCells, IsUnwanted}
 use Rattle.cuboid_upkeep.specs.Grouping.{HasMembers, key_of}
 use Rattle.cuboid_upkeep.specs.Representatives.{AreRepresentatives}
 use Rattle.cube_query.specs.CellRuns.{LeavesOut}
-use Rattle.cube_query.specs.CellTallies.{GroupsHaveRoomFor, HasRoomFor, HaveRoomFor, after_cells, cell_tally}
+use Rattle.cube_query.specs.CellTallies.{GroupsHaveRoomFor, HasRoomForCells, HaveRoomFor, after_cells, cell_tally}
 use Rattle.cube_query.specs.CellTallies.{with_cells}
 use Rattle.cube_query.specs.Columns.{tallies_at}
 use Rattle.cube_query.specs.FoldInvariant.{AreGroupSlots}
-use Rattle.cube_query.specs.Tallies.{merged}
+use Rattle.cube_query.specs.Tallies.{merged_tally}
 use Rattle.cube_query.specs.declared.tally.Tally.{Tally}
 use Rattle.cube_query.proofs.CellGroups.{slot_by}
 use Rattle.cube_query.proofs.RowSlots.{HasSlot}
@@ -68,7 +68,7 @@ module _ (asked : AskedOfCells) where
     less : (f : Cell → ℕ) → sum_by f wanted ≤ sum_by f all
     less f = omega (arith, fewer f cells wanted out, ap (sum_by f) is, sum_by-append f cells rest)
 
-    one_room : (agg : Agg) (tally : Tally) → HasRoomFor agg all tally → HasRoomFor agg wanted tally
+    one_room : (agg : Agg) (tally : Tally) → HasRoomForCells agg all tally → HasRoomForCells agg wanted tally
     one_room agg tally room = record {
       few = omega (arith, room.few, less (λ cell. cell.count));
       small = omega (arith, room.small, less (λ cell. nat_abs (cell_tally agg cell).sum));
@@ -117,7 +117,7 @@ module _ (asked : AskedOfCells) where
       ∙ sym (ap (λ (all : List Cell). after_cells agg slot all (None ∷ group_slots) tally) kept.1)
   after_wanted agg slot (cell ∷ cells) wanted (inr kept) (Some other ∷ group_slots) tally same =
       after_wanted agg slot cells kept.0 kept.2 group_slots
-      (cond (other == slot) (merged tally (cell_tally agg cell)) tally) (omega (arith, same, ap length kept.1))
+      (cond (other == slot) (merged_tally tally (cell_tally agg cell)) tally) (omega (arith, same, ap length kept.1))
       ∙ sym (ap (λ (all : List Cell). after_cells agg slot all (Some other ∷ group_slots) tally) kept.1)
 
   pub with_wanted : (slot : ℕ) (cells wanted : List Cell) (out : LeavesOut asked cells wanted)
@@ -147,18 +147,18 @@ module _ (asked : AskedOfCells) where
       (slot_by cells (slots_for cells wanted out group_slots) number)
   wanted_slot entries [] wanted out rows group_slots number found have_cells are have is = absurd (cc is)
   wanted_slot entries (cell ∷ cells) wanted (inl none) rows group_slots number found have_cells are have is =
-      (elim (key_number cell.key == number) as
-      (λ b. (key_number cell.key == number) ≡ b → cond b (Some cell) (cell_at number cells) ≡ Some found
+      (elim (key_as_number cell.key == number) as
+      (λ b. (key_as_number cell.key == number) ≡ b → cond b (Some cell) (cell_at number cells) ≡ Some found
       → HasSlot asked.dimensions asked.modes asked.view asked.query entries number
       (cond b None (slot_by cells (slots_for cells wanted none.1 group_slots) number))) [
         | true ↦ λ e there.
-            (let own : key_number cell.key ≡ number = grind (arith, nat_tests) in
+            (let own : key_as_number cell.key ≡ number = grind (arith, nat_tests) in
             let row = have cell (zero, omega arith, refl) in
             let other = none.0 row.0 row.1 row.2 in
             record {
               row = other.row;
               members = other.members;
-              number_is = ap (λ (k : Key). key_number k) other.key_is
+              number_is = ap (λ (k : Key). key_as_number k) other.key_is
                   ∙ own;
               slot = other.number_is;
             })
@@ -186,16 +186,16 @@ module _ (asked : AskedOfCells) where
       kept_slot [] group_slots have_cells are next = absurd have_cells
       kept_slot (row ∷ rows) [] have_cells are next = absurd are
       kept_slot (row ∷ rows) (group_slot ∷ group_slots) have_cells are next =
-          (elim (key_number cell.key == number) as
-          (λ b. (key_number cell.key == number) ≡ b → cond b (Some cell) (cell_at number cells) ≡ Some found
+          (elim (key_as_number cell.key == number) as
+          (λ b. (key_as_number cell.key == number) ≡ b → cond b (Some cell) (cell_at number cells) ≡ Some found
           → HasSlot asked.dimensions asked.modes asked.view asked.query entries number
           (cond b group_slot (slot_by cells (slots_for cells kept.0 kept.2 group_slots) number))) [
             | true ↦ λ e there.
-                (let own : key_number cell.key ≡ number = grind (arith, nat_tests) in
+                (let own : key_as_number cell.key ≡ number = grind (arith, nat_tests) in
                 record {
                   row = row;
                   members = record { axes = λ axis apart. have_cells.0.known axis; ship_mode = have_cells.0.ship_mode };
-                  number_is = ap (λ (k : Key). key_number k) have_cells.0.key_is ∙ own;
+                  number_is = ap (λ (k : Key). key_as_number k) have_cells.0.key_is ∙ own;
                   slot = are.0;
                 })
             | false ↦ λ e there. next rows group_slots have_cells.1 are.1 there

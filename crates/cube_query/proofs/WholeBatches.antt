@@ -17,20 +17,20 @@ use Rattle.cube_model.specs.declared.query.Cond.TheVariants.{OneOf, Between, Qua
 use Rattle.cube_model.specs.declared.query.Query.{Query}
 use Rattle.cube_model.specs.declared.rows.DimRows.{DimRows}
 use Rattle.cube_model.specs.declared.rows.LineOrder.{LineOrder}
-use Rattle.column_kernels.specs.Masks.{selected}
+use Rattle.column_kernels.specs.Masks.{selected_by}
 use Rattle.column_kernels.proofs.CallerLemmas.{count_selected}
 use Rattle.column_segment.specs.declared.columns.ByteColumn.TheVariants as figures
-use Rattle.column_segment.specs.Projected.{HaveFigures}
-use Rattle.group_plan.specs.Numbers.{group_count, key_at}
+use Rattle.column_segment.specs.Projected.{BytesHaveFigures}
+use Rattle.group_plan.specs.Numbers.{group_count, group_key_at}
 use Rattle.group_plan.specs.Parts.{holds_in}
 use Rattle.group_plan.specs.Plans.{AreBounds}
 use Rattle.group_plan.specs.declared.bounds.Bounds.{Bounds}
 use Rattle.cube_query.specs.Chosen.{KeepSelected, lies_within}
-use Rattle.cube_query.specs.Columns.{can_add, chosen, no_tally, size_of, slotted, tallies_at, tally_at}
+use Rattle.cube_query.specs.Columns.{can_add, rows_with_slots, no_tally, aggregate_size, slotted, tallies_at, tally_at}
 use Rattle.cube_query.specs.FoldInvariant.{AreGroupSlots, CountIn, HaveRoom, IsGroupSlot}
 use Rattle.cube_query.specs.Slots.{slot_of}
-use Rattle.cube_query.specs.Tallies.{merged, number_of, tallies_of, tally_of}
-use Rattle.cube_query.specs.WholeBatch.{HaveRoomAt, all_at, has_one_group, is_on_row, with_rows}
+use Rattle.cube_query.specs.Tallies.{merged_tally, aggregated, tallies_of, tally_of}
+use Rattle.cube_query.specs.WholeBatch.{HaveRoomAt, all_at, has_one_group, is_on_row, tallies_with_rows}
 use Rattle.cube_query.specs.declared.tally.Tally.{Tally}
 use Rattle.cube_query.proofs.MergeLaws.{tally_of-append}
 
@@ -82,7 +82,7 @@ same_marks p q (row ∷ rows) same quantities discounts =
 
 -- the bounds tell the selected rows
 pub bounds_tell : (dimensions : DimRows) (conditions : List Cond) (bounds : Bounds) (rows : List LineOrder)
-    → list_all is_on_row conditions ≡ true → AreBounds conditions bounds → HaveFigures rows
+    → list_all is_on_row conditions ≡ true → AreBounds conditions bounds → BytesHaveFigures rows
     → map (lies_within bounds) rows ≡ map (is_selected dimensions conditions) rows
 bounds_tell dimensions conditions bounds rows all are fit =
     same_marks (lies_within bounds) (is_selected dimensions conditions) rows
@@ -92,31 +92,33 @@ bounds_tell dimensions conditions bounds rows all are fit =
     (fit figures.Quantity) (fit figures.Discount)
 
 -- ---- the selected rows
-selected_twice : (p : LineOrder → Bool) (rows : List LineOrder) → filter p (selected (map p rows) rows) ≡ filter p rows
+selected_twice : (p : LineOrder → Bool) (rows : List LineOrder)
+    → filter p (selected_by (map p rows) rows) ≡ filter p rows
 selected_twice p [] = refl
 selected_twice p (row ∷ rows) =
     (elim (p row) as
-    (λ b. p row ≡ b → filter p (selected (b ∷ map p rows) (row ∷ rows))
+    (λ b. p row ≡ b → filter p (selected_by (b ∷ map p rows) (row ∷ rows))
     ≡ cond b (row ∷ filter p rows) (filter p rows)) [
       | true ↦ λ is. ap
-          (λ (b : Bool). cond b (row ∷ filter p (selected (map p rows) rows)) (filter p (selected (map p rows) rows)))
+          (λ (b : Bool). cond b (row ∷ filter p (selected_by (map p rows) rows))
+          (filter p (selected_by (map p rows) rows)))
           is ∙ ap (λ (l : List LineOrder). row ∷ l) (selected_twice p rows)
       | false ↦ λ is. selected_twice p rows
     ]) refl
 
 pub mask_keeps : (dimensions : DimRows) (conditions : List Cond) (marks : List Bool) (rows : List LineOrder)
     → marks ≡ map (is_selected dimensions conditions) rows
-    → KeepSelected dimensions conditions (selected marks rows) rows
+    → KeepSelected dimensions conditions (selected_by marks rows) rows
 mask_keeps dimensions conditions marks rows is = record {
   part = (marks, refl);
-  same = ap (λ (l : List Bool). filter (is_selected dimensions conditions) (selected l rows)) is
+  same = ap (λ (l : List Bool). filter (is_selected dimensions conditions) (selected_by l rows)) is
       ∙ selected_twice (is_selected dimensions conditions) rows;
 }
 
 -- ---- they have one slot
 first_key : (dimensions : DimRows) (row : LineOrder) (columns : List Attr) → columns ≡ []
     → (0 < group_count dimensions columns)
-    × (key_at dimensions columns 0 ≡ key_under dimensions row columns (map (λ _. true) columns))
+    × (group_key_at dimensions columns 0 ≡ key_under dimensions row columns (map (λ _. true) columns))
 first_key dimensions row [] none = (omega arith, refl)
 first_key dimensions row (column ∷ columns) none = absurd (cc none)
 
@@ -136,22 +138,23 @@ module _ (dimensions : DimRows) (query : Query) (entries : List (ℕ × ℕ)) (s
       (0, (is, key.0, key.1), there)
 
   slots_of : (rows : List LineOrder)
-      → AreGroupSlots dimensions query entries (selected (map p rows) rows) (all_at slot (selected (map p rows) rows))
+      → AreGroupSlots dimensions query entries (selected_by (map p rows) rows)
+      (all_at slot (selected_by (map p rows) rows))
   slots_of [] = tt
   slots_of (row ∷ rows) =
       (elim (p row) as
       (λ b. p row ≡ b
-      → AreGroupSlots dimensions query entries (selected (b ∷ map p rows) (row ∷ rows))
-      (all_at slot (selected (b ∷ map p rows) (row ∷ rows)))) [
+      → AreGroupSlots dimensions query entries (selected_by (b ∷ map p rows) (row ∷ rows))
+      (all_at slot (selected_by (b ∷ map p rows) (row ∷ rows)))) [
         | true ↦ λ is. (row_slot row is, slots_of rows)
         | false ↦ λ is. slots_of rows
       ]) refl
 
   pub slots_are : (marks : List Bool) (rows : List LineOrder) → marks ≡ map p rows
-      → AreGroupSlots dimensions query entries (selected marks rows) (all_at slot (selected marks rows))
+      → AreGroupSlots dimensions query entries (selected_by marks rows) (all_at slot (selected_by marks rows))
   slots_are marks rows is =
-      subst (λ (l : List Bool). AreGroupSlots dimensions query entries (selected l rows)
-      (all_at slot (selected l rows))) (sym is) (slots_of rows)
+      subst (λ (l : List Bool). AreGroupSlots dimensions query entries (selected_by l rows)
+      (all_at slot (selected_by l rows))) (sym is) (slots_of rows)
 
 -- ---- the tallies with them
 slotted_own : (own slot : ℕ) (rows : List LineOrder) → (own == slot) ≡ true → slotted slot rows (all_at own rows) ≡ rows
@@ -168,32 +171,34 @@ slotted_other own slot (row ∷ rows) is =
     ∙ slotted_other own slot rows is
 
 with_own : (aggs : List Agg) (before rows : List LineOrder) (own slot : ℕ) → (own == slot) ≡ true
-    → with_rows aggs rows own slot (tallies_of aggs before) ≡ tallies_of aggs (before ++ rows)
+    → tallies_with_rows aggs rows own slot (tallies_of aggs before) ≡ tallies_of aggs (before ++ rows)
 with_own [] before rows own slot is = refl
 with_own (agg ∷ aggs) before rows own slot is =
     let first =
-    ap (λ (b : Bool). cond b (merged (tally_of (map (number_of agg) before)) (tally_of (map (number_of agg) rows)))
-    (tally_of (map (number_of agg) before))) is
-    ∙ sym (tally_of-append (map (number_of agg) before) (map (number_of agg) rows))
-    ∙ ap tally_of (sym (map-append (number_of agg) before rows)) in
+    ap (λ (b : Bool). cond b
+    (merged_tally (tally_of (map (aggregated agg) before)) (tally_of (map (aggregated agg) rows)))
+    (tally_of (map (aggregated agg) before))) is
+    ∙ sym (tally_of-append (map (aggregated agg) before) (map (aggregated agg) rows))
+    ∙ ap tally_of (sym (map-append (aggregated agg) before rows)) in
     λ i. first i ∷ with_own aggs before rows own slot is i
 
 with_other : (aggs : List Agg) (before rows : List LineOrder) (own slot : ℕ) → (own == slot) ≡ false
-    → with_rows aggs rows own slot (tallies_of aggs before) ≡ tallies_of aggs before
+    → tallies_with_rows aggs rows own slot (tallies_of aggs before) ≡ tallies_of aggs before
 with_other [] before rows own slot is = refl
 with_other (agg ∷ aggs) before rows own slot is =
     let first =
-    ap (λ (b : Bool). cond b (merged (tally_of (map (number_of agg) before)) (tally_of (map (number_of agg) rows)))
-    (tally_of (map (number_of agg) before))) is in
+    ap (λ (b : Bool). cond b
+    (merged_tally (tally_of (map (aggregated agg) before)) (tally_of (map (aggregated agg) rows)))
+    (tally_of (map (aggregated agg) before))) is in
     λ i. first i ∷ with_other aggs before rows own slot is i
 
 pub batch_counted : (aggs : List Agg) (rows : List LineOrder) (own : ℕ) (columns new : List (Vec Tally Global))
-    → ((slot : ℕ) → tallies_at new slot ≡ with_rows aggs rows own slot (tallies_at columns slot))
+    → ((slot : ℕ) → tallies_at new slot ≡ tallies_with_rows aggs rows own slot (tallies_at columns slot))
     → CountIn aggs rows (all_at own rows) columns new
 batch_counted aggs rows own columns new is slot before reads =
-    is slot ∙ ap (with_rows aggs rows own slot) reads
+    is slot ∙ ap (tallies_with_rows aggs rows own slot) reads
     ∙ (elim (own == slot) as
-    (λ b. (own == slot) ≡ b → with_rows aggs rows own slot (tallies_of aggs before)
+    (λ b. (own == slot) ≡ b → tallies_with_rows aggs rows own slot (tallies_of aggs before)
     ≡ tallies_of aggs (before ++ slotted slot rows (all_at own rows))) [
       | true ↦ λ e. with_own aggs before rows own slot e
           ∙ ap (λ (more : List LineOrder). tallies_of aggs (before ++ more)) (sym (slotted_own own slot rows e))
@@ -204,13 +209,15 @@ batch_counted aggs rows own columns new is slot before reads =
 -- ---- one column more
 with_rows-append : (rows : List LineOrder) (own slot : ℕ) (aggs : List Agg) (agg : Agg) (tallies : List Tally)
     (tally : Tally) → length tallies ≡ length aggs
-    → with_rows (aggs ++ agg ∷ []) rows own slot (tallies ++ tally ∷ []) ≡ with_rows aggs rows own slot tallies
-    ++ cond (own == slot) (merged tally (tally_of (map (number_of agg) rows))) tally ∷ []
+    → tallies_with_rows (aggs ++ agg ∷ []) rows own slot (tallies ++ tally ∷ [])
+    ≡ tallies_with_rows aggs rows own slot tallies
+    ++ cond (own == slot) (merged_tally tally (tally_of (map (aggregated agg) rows))) tally ∷ []
 with_rows-append rows own slot [] agg [] tally same = refl
 with_rows-append rows own slot [] agg (first ∷ tallies) tally same = absurd (omega (arith, same))
 with_rows-append rows own slot (one ∷ aggs) agg [] tally same = absurd (omega (arith, same))
 with_rows-append rows own slot (one ∷ aggs) agg (first ∷ tallies) tally same =
-    ap (λ (more : List Tally). cond (own == slot) (merged first (tally_of (map (number_of one) rows))) first ∷ more)
+    ap (λ (more : List Tally). cond (own == slot) (merged_tally first (tally_of (map (aggregated one) rows))) first
+    ∷ more)
     (with_rows-append rows own slot aggs agg tallies tally (omega (arith, same)))
 
 length-take-below : {X : Type 0} (xs : List X) (n : ℕ) → n ≤ length xs → length (take n xs) ≡ n
@@ -221,12 +228,13 @@ length-take-below (x ∷ xs) (suc n) h = ap suc (length-take-below xs n (omega (
 pub one_column : (rows : List LineOrder) (own slot : ℕ) (aggs : List Agg)
     (columns merged_so_far : List (Vec Tally Global)) (count : ℕ) (agg : Agg) (column new : Vec Tally Global)
     → length columns ≡ length aggs → count < length columns
-    → tallies_at merged_so_far slot ≡ with_rows (take count aggs) rows own slot (tallies_at (take count columns) slot)
+    → tallies_at merged_so_far slot ≡ tallies_with_rows (take count aggs) rows own slot
+    (tallies_at (take count columns) slot)
     → tally_at new.items slot
     ≡ cond (own == slot)
-    (merged (tally_at (get_or columns count column).items slot)
-    (tally_of (map (number_of (get_or aggs count agg)) rows))) (tally_at (get_or columns count column).items slot)
-    → tallies_at (merged_so_far ++ new ∷ []) slot ≡ with_rows (take (count + 1) aggs) rows own slot
+    (merged_tally (tally_at (get_or columns count column).items slot)
+    (tally_of (map (aggregated (get_or aggs count agg)) rows))) (tally_at (get_or columns count column).items slot)
+    → tallies_at (merged_so_far ++ new ∷ []) slot ≡ tallies_with_rows (take (count + 1) aggs) rows own slot
     (tallies_at (take (count + 1) columns) slot)
 one_column rows own slot aggs columns merged_so_far count agg column new same h so_far is =
     let read = λ (v : Vec Tally Global). tally_at v.items slot in
@@ -236,7 +244,7 @@ one_column rows own slot aggs columns merged_so_far count agg column new same h 
     (tallies_at (take count columns) slot) (read (get_or columns count column))
     (length-map (take count columns) read ∙ length-take-below columns count (omega (arith, h))
     ∙ sym (length-take-below aggs count (omega (arith, h, same)))))
-    ∙ (λ i. with_rows (sym (take_more aggs count agg (omega (arith, h, same))) i) rows own slot
+    ∙ (λ i. tallies_with_rows (sym (take_more aggs count agg (omega (arith, h, same))) i) rows own slot
     (sym (ap (map read) (take_more columns count column h)
     ∙ map-append read (take count columns) (get_or columns count column ∷ [])) i))
 
@@ -248,24 +256,24 @@ same_at (x ∷ xs) (suc i) d e h = same_at xs i d e (omega (arith, h))
 
 -- a tally that is set at a slot is read there alone
 pub set_at : (column : List Tally) (own slot : ℕ) (tally : Tally) → own < length column
-    → tally_at (slice_set column own (merged (tally_at column own) tally)) slot
-    ≡ cond (own == slot) (merged (tally_at column slot) tally) (tally_at column slot)
+    → tally_at (slice_set column own (merged_tally (tally_at column own) tally)) slot
+    ≡ cond (own == slot) (merged_tally (tally_at column slot) tally) (tally_at column slot)
 set_at column own slot tally within =
-    let new : Tally = merged (tally_at column own) tally in
+    let new : Tally = merged_tally (tally_at column own) tally in
     (elim (own == slot) as
     (λ b. (own == slot) ≡ b
-    → tally_at (slice_set column own new) slot ≡ cond b (merged (tally_at column slot) tally)
+    → tally_at (slice_set column own new) slot ≡ cond b (merged_tally (tally_at column slot) tally)
     (tally_at column slot)) [
       | true ↦ λ e.
           (let same : slot ≡ own = grind (arith, nat_tests) in
           ap (tally_at (slice_set column own new)) same ∙ get_or-set_same column own new no_tally within
-          ∙ ap (λ (s : ℕ). merged (tally_at column s) tally) (sym same))
+          ∙ ap (λ (s : ℕ). merged_tally (tally_at column s) tally) (sym same))
       | false ↦ λ e.
           (let apart : slot ≢ own = grind (arith, nat_tests) in get_or-set_other column own slot new no_tally apart)
     ]) refl
 
 -- ---- room for them
-chosen_all : (slot : ℕ) (rows : List LineOrder) → chosen rows (all_at slot rows) ≡ rows
+chosen_all : (slot : ℕ) (rows : List LineOrder) → rows_with_slots rows (all_at slot rows) ≡ rows
 chosen_all slot [] = refl
 chosen_all slot (row ∷ rows) = ap (λ (l : List LineOrder). row ∷ l) (chosen_all slot rows)
 
@@ -276,7 +284,7 @@ room_at aggs columns slot (row ∷ rows) some room k h agg column =
     let own = get_or aggs k agg in
     let there = (room k h agg column).each 0 slot refl in
     ap (λ (l : List LineOrder). can_add (tally_at (get_or columns k column).items slot) (length (row ∷ rows))
-    (size_of own l)) (sym (chosen_all slot (row ∷ rows))) ∙ there.1
+    (aggregate_size own l)) (sym (chosen_all slot (row ∷ rows))) ∙ there.1
 
 pub can_add_parts : (tally : Tally) (count size : ℕ) → can_add tally count size ≡ true → (tally.count + count < 2 ^ 63)
     × (nat_abs tally.sum + size < 2 ^ 63)
@@ -287,17 +295,17 @@ can_add_parts tally count size can =
 
 -- ---- whether any row is selected
 pub none_selected : (marks : List Bool) (rows : List LineOrder) → length marks ≡ length rows
-    → count_by (λ (chosen : Bool). chosen) marks ≡ 0 → selected marks rows ≡ []
-none_selected marks rows long none = empty (selected marks rows) (sym (count_selected marks rows long) ∙ none)
+    → count_by (λ (chosen : Bool). chosen) marks ≡ 0 → selected_by marks rows ≡ []
+none_selected marks rows long none = empty (selected_by marks rows) (sym (count_selected marks rows long) ∙ none)
   where
     empty : (list : List LineOrder) → length list ≡ 0 → list ≡ []
     empty [] is = refl
     empty (row ∷ list) is = absurd (omega (arith, is))
 
 pub some_selected : (marks : List Bool) (rows : List LineOrder) → length marks ≡ length rows
-    → (count_by (λ (chosen : Bool). chosen) marks ≡ 0 → ⊥) → 0 < length (selected marks rows)
+    → (count_by (λ (chosen : Bool). chosen) marks ≡ 0 → ⊥) → 0 < length (selected_by marks rows)
 some_selected marks rows long some =
-    positive (length (selected marks rows)) (λ is. some (count_selected marks rows long ∙ is))
+    positive (length (selected_by marks rows)) (λ is. some (count_selected marks rows long ∙ is))
   where
     positive : (n : ℕ) → (n ≡ 0 → ⊥) → 0 < n
     positive zero not = absurd (not refl)

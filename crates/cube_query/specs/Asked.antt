@@ -19,7 +19,7 @@ use Rattle.column_segment.specs.declared.columns.FactColumn.{FactColumn}
 use Rattle.column_segment.specs.declared.columns.FactColumn.TheVariants.{Amount, Number, Figure}
 use Rattle.column_segment.specs.declared.columns.NumberColumn.TheVariants.{LineNumber, CustKey, PartKey, SuppKey}
 use Rattle.column_segment.specs.declared.columns.NumberColumn.TheVariants.{OrderDate}
-use Rattle.column_segment.specs.Projected.{value_of}
+use Rattle.column_segment.specs.Projected.{fact_value}
 
 -- a column has the keys of a dimension
 abbrev pub has_keys_of : Axis → FactColumn → Bool
@@ -75,7 +75,7 @@ asked_columns query = filter (is_asked query) fact_columns
 
 -- rows have the same in the columns that pass a test
 abbrev pub SameIn : (FactColumn → Bool) → LineOrder → LineOrder → Type 0
-SameIn asks row other = (column : FactColumn) → asks column ≡ true → value_of column row ≡ value_of column other
+SameIn asks row other = (column : FactColumn) → asks column ≡ true → fact_value column row ≡ fact_value column other
 
 -- so have those of two lists, one by one
 abbrev pub AreSame : (FactColumn → Bool) → List LineOrder → List LineOrder → Type 0

@@ -14,7 +14,7 @@ use Rattle.cuboid_cells.specs.declared.summary.Summaries.{Summaries}
 use Rattle.cuboid_cells.specs.declared.summary.Summary.{Summary}
 use Rattle.cube_query.specs.Columns.{tallies_at, tally_at}
 use Rattle.cube_query.specs.Slots.{slot_of}
-use Rattle.cube_query.specs.Tallies.{merged}
+use Rattle.cube_query.specs.Tallies.{merged_tally}
 use Rattle.cube_query.specs.declared.tally.Tally.{Tally}
 
 -- what is kept of a measure
@@ -48,11 +48,11 @@ after_cells agg slot [] group_slots tally = tally
 after_cells agg slot (cell ∷ cells) [] tally = tally
 after_cells agg slot (cell ∷ cells) (None ∷ group_slots) tally = after_cells agg slot cells group_slots tally
 after_cells agg slot (cell ∷ cells) (Some other ∷ group_slots) tally =
-    after_cells agg slot cells group_slots (cond (other == slot) (merged tally (cell_tally agg cell)) tally)
+    after_cells agg slot cells group_slots (cond (other == slot) (merged_tally tally (cell_tally agg cell)) tally)
 
 -- slots lie below a bound
-abbrev pub AreBelow : ℕ → List (Option ℕ) → Type 0
-AreBelow bound group_slots = (place slot : ℕ) → slice_get group_slots place ≡ Some (Some slot) → slot < bound
+abbrev pub SlotsAreBelow : ℕ → List (Option ℕ) → Type 0
+SlotsAreBelow bound group_slots = (place slot : ℕ) → slice_get group_slots place ≡ Some (Some slot) → slot < bound
 
 -- cells are merged in, each at its slot
 abbrev pub MergesCells : Agg → List Cell → List (Option ℕ) → List Tally → List Tally → Type 0
@@ -67,7 +67,7 @@ with_cells (agg ∷ aggs) slot cells group_slots (tally ∷ tallies) =
     after_cells agg slot cells group_slots tally ∷ with_cells aggs slot cells group_slots tallies
 
 -- a tally has room for cells: for their rows, and for the absolute values of their sums
-pub record HasRoomFor (agg : Agg) (cells : List Cell) (tally : Tally) : Type 0 where
+pub record HasRoomForCells (agg : Agg) (cells : List Cell) (tally : Tally) : Type 0 where
   pub few : tally.count + sum_by (λ cell. cell.count) cells < 2 ^ 63
   pub small : nat_abs tally.sum + sum_by (λ cell. nat_abs (cell_tally agg cell).sum) cells < 2 ^ 63
 
@@ -75,7 +75,7 @@ pub record HasRoomFor (agg : Agg) (cells : List Cell) (tally : Tally) : Type 0 w
 abbrev pub HaveRoomFor : List Agg → List Cell → List Tally → Type 0
 HaveRoomFor [] cells tallies = Unit {0}
 HaveRoomFor (agg ∷ aggs) cells [] = Unit {0}
-HaveRoomFor (agg ∷ aggs) cells (tally ∷ tallies) = HasRoomFor agg cells tally × HaveRoomFor aggs cells tallies
+HaveRoomFor (agg ∷ aggs) cells (tally ∷ tallies) = HasRoomForCells agg cells tally × HaveRoomFor aggs cells tallies
 
 -- the tallies of each group that has a slot have room for cells
 abbrev pub GroupsHaveRoomFor : List (ℕ × ℕ) → List Agg → List Cell → List (Vec Tally Global) → Type 0

@@ -4,7 +4,7 @@ use Rattle.cube_model.specs.declared.query.Cond.{Cond}
 use Rattle.cube_model.specs.declared.rows.DimRows.{DimRows}
 use Rattle.cube_model.specs.declared.rows.LineOrder.{LineOrder}
 use Rattle.cube_model.specs.Selection.{selected}
-use Rattle.column_kernels.specs.Masks.{lies_in, selected as masked}
+use Rattle.column_kernels.specs.Masks.{lies_in, selected_by}
 use Rattle.group_plan.specs.declared.bounds.Bounds.{Bounds}
 
 -- the quantity and the discount of a row lie within bounds
@@ -21,5 +21,5 @@ places_from place (false ∷ marks) = places_from (place + 1) marks
 
 -- some of the rows, in their order, and among them all that conditions select
 pub record KeepSelected (dimensions : DimRows) (conditions : List Cond) (some all : List LineOrder) : Type 0 where
-  pub part : (marks : List Bool) × (some ≡ masked marks all)
+  pub part : (marks : List Bool) × (some ≡ selected_by marks all)
   pub same : selected dimensions conditions some ≡ selected dimensions conditions all

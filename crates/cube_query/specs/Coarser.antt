@@ -20,10 +20,10 @@ use Rattle.cube_model.specs.declared.rows.LineOrder.{LineOrder}
 use Rattle.group_plan.specs.Columns.{is_all}
 use Rattle.cube_model.specs.Proper.{IsProper}
 use Rattle.cube_query.specs.declared.slots.Slots.{Slots}
-use Rattle.group_plan.specs.Numbers.{group_count, key_at, KeysRise}
+use Rattle.group_plan.specs.Numbers.{group_count, group_key_at, KeysRise}
 use Rattle.cube_query.specs.Columns.{is_seen, tallies_at, tally_at, IsCountable}
 use Rattle.cube_query.specs.Slots.{entries_of, slot_of, AreSlots, Cover}
-use Rattle.cube_query.specs.Tallies.{number_of, tally_of, tallies_of}
+use Rattle.cube_query.specs.Tallies.{aggregated, tally_of, tallies_of}
 use Rattle.cube_query.specs.declared.tally.Tally.{Tally}
 
 -- the grouping sets in which all columns before a place are grouped, and those from there on as the query asks
@@ -54,21 +54,23 @@ pub record AreTalliedFrom (dimensions : DimRows) (query : Query) (i : ℕ) (entr
     (rows : List LineOrder) : Type 0 where
   pub each : (number slot : ℕ) → slot_of entries number ≡ Some slot
       → tallies_at columns slot
-      ≡ tallies_of query.aggregates (rows_from dimensions query i (key_at dimensions query.columns number) rows)
+      ≡ tallies_of query.aggregates (rows_from dimensions query i (group_key_at dimensions query.columns number) rows)
   pub others : (key : List Member)
-      → ((number slot : ℕ) → slot_of entries number ≡ Some slot → key_at dimensions query.columns number ≡ key → ⊥)
+      → ((number slot : ℕ) → slot_of entries number ≡ Some slot → group_key_at dimensions query.columns number ≡ key
+      → ⊥)
       → rows_from dimensions query i key rows ≡ []
   pub fresh : (slot : ℕ) → length entries ≤ slot → tallies_at columns slot ≡ tallies_of query.aggregates []
 
 -- the groups that have rows and lead to coarser ones
 abbrev pub sources_of : DimRows → Query → ℕ → (ℕ → List Tally) → List (ℕ × ℕ) → List (ℕ × ℕ)
 sources_of dimensions query i tallies entries =
-    filter (λ entry. is_seen (tallies entry.1) && leads query.kind i (key_at dimensions query.columns entry.0)) entries
+    filter (λ entry. is_seen (tallies entry.1) && leads query.kind i (group_key_at dimensions query.columns entry.0))
+    entries
 
 -- the slot of the group with ALL at a column
 abbrev pub IsTarget : DimRows → List Attr → ℕ → List (ℕ × ℕ) → ℕ × ℕ → ℕ → Type 0
 IsTarget dimensions columns i entries source target = (number : ℕ) × (slot_of entries number ≡ Some target)
-    × (key_at dimensions columns number ≡ slice_set (key_at dimensions columns source.0) i All)
+    × (group_key_at dimensions columns number ≡ slice_set (group_key_at dimensions columns source.0) i All)
 
 abbrev pub AreTargets : DimRows → List Attr → ℕ → List (ℕ × ℕ) → List (ℕ × ℕ) → List ℕ → Type 0
 AreTargets dimensions columns i entries [] [] = Unit {0}
@@ -87,8 +89,8 @@ gathered slot part (source ∷ sources) (target ∷ targets) =
 -- rows are counted in, some at each slot
 abbrev pub AddsIn : Agg → (ℕ → List LineOrder) → List Tally → List Tally → Type 0
 AddsIn agg added old new = (slot : ℕ) (before : List LineOrder)
-    → tally_at old slot ≡ tally_of (map (number_of agg) before)
-    → tally_at new slot ≡ tally_of (map (number_of agg) (before ++ added slot))
+    → tally_at old slot ≡ tally_of (map (aggregated agg) before)
+    → tally_at new slot ≡ tally_of (map (aggregated agg) (before ++ added slot))
 
 abbrev pub AddIn : List Agg → (ℕ → List LineOrder) → List (Vec Tally Global) → List (Vec Tally Global) → Type 0
 AddIn aggs added old new = (slot : ℕ) (before : List LineOrder)
@@ -96,10 +98,10 @@ AddIn aggs added old new = (slot : ℕ) (before : List LineOrder)
     → tallies_at new slot ≡ tallies_of aggs (before ++ added slot)
 
 -- the sources' tallies are those of some rows, and no source is a target
-pub record CanMerge (agg : Agg) (column : List Tally) (sources : List (ℕ × ℕ)) (targets : List ℕ)
+pub record CanMergeTallies (agg : Agg) (column : List Tally) (sources : List (ℕ × ℕ)) (targets : List ℕ)
     (part : ℕ × ℕ → List LineOrder) : Type 0 where
   pub parts : (place : ℕ) (source : ℕ × ℕ) → slice_get sources place ≡ Some source
-      → (source.1 < length column) × (tally_at column source.1 ≡ tally_of (map (number_of agg) (part source)))
+      → (source.1 < length column) × (tally_at column source.1 ≡ tally_of (map (aggregated agg) (part source)))
   pub apart : (place other : ℕ) (source : ℕ × ℕ) (target : ℕ) → slice_get sources place ≡ Some source
       → slice_get targets other ≡ Some target → (target == source.1) ≡ false
   pub within : (place target : ℕ) → slice_get targets place ≡ Some target → target < length column
@@ -107,7 +109,7 @@ pub record CanMerge (agg : Agg) (column : List Tally) (sources : List (ℕ × �
 -- each target has room for what comes to it
 abbrev pub HasMergeRoom : Agg → List Tally → List (ℕ × ℕ) → List ℕ → (ℕ × ℕ → List LineOrder) → Type 0
 HasMergeRoom agg column sources targets part = (place target : ℕ) → slice_get targets place ≡ Some target
-    → (before : List LineOrder) × (tally_at column target ≡ tally_of (map (number_of agg) before))
+    → (before : List LineOrder) × (tally_at column target ≡ tally_of (map (aggregated agg) before))
     × IsCountable agg (before ++ gathered target part sources targets)
 
 -- the same for all columns

@@ -2,7 +2,7 @@
 use Rattle.std.specs.Prelude.{◌≡◌, ℕ, ◌<◌, List, length, map, All}
 use Rattle.std.specs.Int.{from_le_bytes, w16, w32, w64}
 use Rattle.cube_model.specs.declared.rows.LineOrder.{LineOrder}
-use Rattle.dictionary.specs.Columns.{text_at}
+use Rattle.dictionary.specs.Columns.{text_of_code}
 
 -- the columns of rows that a query can ask for
 pub record HaveColumns (rows : List LineOrder) (customers suppliers parts dates : List (List ℕ))
@@ -25,5 +25,5 @@ pub record ModedRows : Type 0 where
 
 -- the code of each row's ship mode among the texts
 pub record HaveModes (moded : ModedRows) (codes : List (List ℕ)) : Type 0 where
-  pub texts : map (text_at moded.modes) (map (from_le_bytes w16) codes) ≡ map (λ row. row.shipmode) moded.rows
+  pub texts : map (text_of_code moded.modes) (map (from_le_bytes w16) codes) ≡ map (λ row. row.shipmode) moded.rows
   pub below : All (λ code. code < length moded.modes) (map (from_le_bytes w16) codes)

@@ -9,7 +9,7 @@ use Rattle.cube_model.specs.declared.answer.Member.{Member}
 use Rattle.cube_model.specs.declared.measure.Agg.{Agg}
 use Rattle.cube_model.specs.declared.rows.LineOrder.{LineOrder}
 use Rattle.cube_query.specs.declared.tally.Tally.{Tally}
-use Rattle.cube_query.specs.Tallies.{number_of, tally_of, tally_with, values_of}
+use Rattle.cube_query.specs.Tallies.{aggregated, tally_of, tally_with, values_of}
 
 -- the tally of no number
 abbrev pub no_tally : Tally
@@ -54,18 +54,18 @@ slotted slot (row ∷ rows) (Some other ∷ group_slots) =
 -- rows whose count and whose sum fit a tally
 pub record IsCountable (agg : Agg) (rows : List LineOrder) : Type 0 where
   pub few : length rows < 2 ^ 63
-  pub small : sum_by (λ row. nat_abs (number_of agg row)) rows < 2 ^ 63
+  pub small : sum_by (λ row. nat_abs (aggregated agg row)) rows < 2 ^ 63
 
 -- the rows whose group has a slot
-abbrev pub chosen : List LineOrder → List (Option ℕ) → List LineOrder
-chosen [] group_slots = []
-chosen (row ∷ rows) [] = []
-chosen (row ∷ rows) (None ∷ group_slots) = chosen rows group_slots
-chosen (row ∷ rows) (Some slot ∷ group_slots) = row ∷ chosen rows group_slots
+abbrev pub rows_with_slots : List LineOrder → List (Option ℕ) → List LineOrder
+rows_with_slots [] group_slots = []
+rows_with_slots (row ∷ rows) [] = []
+rows_with_slots (row ∷ rows) (None ∷ group_slots) = rows_with_slots rows group_slots
+rows_with_slots (row ∷ rows) (Some slot ∷ group_slots) = row ∷ rows_with_slots rows group_slots
 
 -- the sum of the absolute values of what an aggregate is taken of
-abbrev pub size_of : Agg → List LineOrder → ℕ
-size_of agg rows = sum_by (λ row. nat_abs (number_of agg row)) rows
+abbrev pub aggregate_size : Agg → List LineOrder → ℕ
+aggregate_size agg rows = sum_by (λ row. nat_abs (aggregated agg row)) rows
 
 -- a tally can take so many numbers more, whose absolute values have a sum
 abbrev pub can_add : Tally → ℕ → ℕ → Bool
@@ -74,22 +74,23 @@ can_add tally count size = nat_lt (tally.count + count) (2 ^ 63) && nat_lt (nat_
 -- the slot of each row lies in the column, and its tally can take all rows that have a slot
 pub record HasRoom (agg : Agg) (column : List Tally) (rows : List LineOrder) (group_slots : List (Option ℕ)) : Type 0
   where
-    pub small : size_of agg (chosen rows group_slots) < 2 ^ 63
+    pub small : aggregate_size agg (rows_with_slots rows group_slots) < 2 ^ 63
     pub each : (place slot : ℕ) → slice_get group_slots place ≡ Some (Some slot)
         → (slot < length column)
-        × (can_add (tally_at column slot) (length rows) (size_of agg (chosen rows group_slots)) ≡ true)
+        × (can_add (tally_at column slot) (length rows) (aggregate_size agg (rows_with_slots rows group_slots)) ≡ true)
 
 -- no tally counts more than the rows more, nor has its sum gone further than by theirs
 abbrev pub IsBounded : Agg → List LineOrder → List (Option ℕ) → List Tally → List Tally → Type 0
 IsBounded agg rows group_slots old new = (slot : ℕ)
     → ((tally_at new slot).count ≤ (tally_at old slot).count + length rows)
-    × (nat_abs (tally_at new slot).sum ≤ nat_abs (tally_at old slot).sum + size_of agg (chosen rows group_slots))
+    × (nat_abs (tally_at new slot).sum ≤ nat_abs (tally_at old slot).sum
+    + aggregate_size agg (rows_with_slots rows group_slots))
 
 -- the rows are counted in, each at its slot
 abbrev pub CountsIn : Agg → List LineOrder → List (Option ℕ) → List Tally → List Tally → Type 0
 CountsIn agg rows group_slots old new = (slot : ℕ) (before : List LineOrder)
-    → tally_at old slot ≡ tally_of (map (number_of agg) before)
-    → tally_at new slot ≡ tally_of (map (number_of agg) (before ++ slotted slot rows group_slots))
+    → tally_at old slot ≡ tally_of (map (aggregated agg) before)
+    → tally_at new slot ≡ tally_of (map (aggregated agg) (before ++ slotted slot rows group_slots))
 
 -- the line of a key and its tallies
 abbrev pub line_with : List Agg → List Member × List Tally → Line

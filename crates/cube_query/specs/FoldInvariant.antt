@@ -13,7 +13,7 @@ use Rattle.cube_model.specs.Proper.{IsProper}
 use Rattle.cube_model.specs.Selection.{is_selected}
 use Rattle.cube_query.specs.Columns.{tallies_at, slotted, HasRoom}
 use Rattle.cube_query.specs.Groups.{rows_at}
-use Rattle.group_plan.specs.Numbers.{group_count, key_at, KeysRise, IsNumber}
+use Rattle.group_plan.specs.Numbers.{group_count, group_key_at, KeysRise, IsGroupNumber}
 use Rattle.group_plan.specs.Plans.{count_of, query_of}
 use Rattle.group_plan.specs.declared.plan.GroupPlan.{GroupPlan}
 use Rattle.cube_query.specs.Slots.{slot_of, entries_of, AreSlots, Cover}
@@ -25,7 +25,7 @@ use Rattle.cube_query.specs.declared.tally.Tally.{Tally}
 abbrev pub IsGroupSlot : DimRows → Query → List (ℕ × ℕ) → LineOrder → Option ℕ → Type 0
 IsGroupSlot dimensions query entries row None = is_selected dimensions query.conditions row ≡ false
 IsGroupSlot dimensions query entries row (Some slot) =
-    (number : ℕ) × IsNumber dimensions query row (Some number) × (slot_of entries number ≡ Some slot)
+    (number : ℕ) × IsGroupNumber dimensions query row (Some number) × (slot_of entries number ≡ Some slot)
 
 -- the slots of the groups of fact rows
 abbrev pub AreGroupSlots : DimRows → Query → List (ℕ × ℕ) → List LineOrder → List (Option ℕ) → Type 0
@@ -53,9 +53,10 @@ pub record AreTallied (dimensions : DimRows) (query : Query) (entries : List (�
     (rows : List LineOrder) : Type 0 where
   pub each : (number slot : ℕ) → slot_of entries number ≡ Some slot
       → tallies_at columns slot
-      ≡ tallies_of query.aggregates (rows_at dimensions query (key_at dimensions query.columns number) rows)
+      ≡ tallies_of query.aggregates (rows_at dimensions query (group_key_at dimensions query.columns number) rows)
   pub others : (key : List Member)
-      → ((number slot : ℕ) → slot_of entries number ≡ Some slot → key_at dimensions query.columns number ≡ key → ⊥)
+      → ((number slot : ℕ) → slot_of entries number ≡ Some slot → group_key_at dimensions query.columns number ≡ key
+      → ⊥)
       → rows_at dimensions query key rows ≡ []
   pub fresh : (slot : ℕ) → length entries ≤ slot → tallies_at columns slot ≡ tallies_of query.aggregates []
 

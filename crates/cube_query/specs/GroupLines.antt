@@ -10,12 +10,13 @@ use Rattle.cube_model.specs.declared.rows.DimRows.{DimRows}
 use Rattle.cube_query.specs.Columns.{entry_line, is_seen, tallies_at}
 use Rattle.cube_query.specs.declared.finished.Groups.{Groups}
 use Rattle.cube_query.specs.declared.tally.Tally.{Tally}
-use Rattle.group_plan.specs.Numbers.{group_count, key_at}
-use Rattle.group_plan.specs.Plans.{IsPlanOver, query_of}
+use Rattle.group_plan.specs.Numbers.{group_count, group_key_at}
+use Rattle.group_plan.specs.Plans.{IsGroupPlanOver, query_of}
 
 -- the line of a group, by its number and its slot
 abbrev pub line_by : DimRows → Query → List (Vec Tally Global) → ℕ × ℕ → Line
-line_by dimensions query columns group = entry_line (key_at dimensions query.columns) query.aggregates columns group
+line_by dimensions query columns group =
+    entry_line (group_key_at dimensions query.columns) query.aggregates columns group
 
 -- the lines of groups
 abbrev pub lines_by : DimRows → Query → List (Vec Tally Global) → List (ℕ × ℕ) → List Line
@@ -36,7 +37,7 @@ line_at lines place = slice_index_or lines place (record { key = []; values = []
 
 -- groups of a fold over dimensions
 pub record AreGroupsOver (dimensions : DimRows) (groups : Groups) : Type 0 where
-  pub over : IsPlanOver dimensions groups.plan
+  pub over : IsGroupPlanOver dimensions groups.plan
   pub count : length groups.columns.items ≡ length (query_of groups.plan).aggregates
   pub lines : HaveLines dimensions (query_of groups.plan) groups.columns.items groups.order.items
 

@@ -10,8 +10,8 @@ use Rattle.cube_model.specs.Selection.{selected}
 use Rattle.cube_query.specs.declared.tally.Tally.{Tally}
 use Rattle.cube_query.specs.Limits.{AreFoldable}
 use Rattle.cube_query.specs.Tallies.{tallies_of}
-use Rattle.group_plan.specs.Numbers.{group_count, key_at}
-use Rattle.group_plan.specs.Plans.{IsPlanOver}
+use Rattle.group_plan.specs.Numbers.{group_count, group_key_at}
+use Rattle.group_plan.specs.Plans.{IsGroupPlanOver}
 use Rattle.group_plan.specs.declared.plan.GroupPlan.{GroupPlan}
 
 -- the groups of fact rows: each key that a selected row has, ascending, with the tallies over the rows of that key
@@ -45,14 +45,14 @@ pub record FoldState : Type 0 where
 -- A fold represents fact rows over dimensions: its plan is over these, at the number of each group it has the tallies
 -- over the selected rows of that group's key, and no selected row has another key.
 pub record RepresentsRows (dimensions : DimRows) (fold : FoldState) (rows : List LineOrder) : Type 0 where
-  pub over : IsPlanOver dimensions fold.plan
+  pub over : IsGroupPlanOver dimensions fold.plan
   pub each : (number : ℕ) → number < group_count dimensions fold.query.columns
       → slice_index_or fold.tallies number []
       ≡ tallies_of fold.query.aggregates
-      (rows_at dimensions (finest fold.query) (key_at dimensions fold.query.columns number) rows)
+      (rows_at dimensions (finest fold.query) (group_key_at dimensions fold.query.columns number) rows)
   pub others : (key : List Member)
       → ((number : ℕ) → number < group_count dimensions fold.query.columns
-      → key_at dimensions fold.query.columns number ≡ key → ⊥)
+      → group_key_at dimensions fold.query.columns number ≡ key → ⊥)
       → rows_at dimensions (finest fold.query) key rows ≡ []
 
 -- a fold that begins: it represents no fact row
@@ -62,7 +62,7 @@ pub record Begins (dimensions : DimRows) (query : Query) (fold : FoldState) : Ty
 
 -- the dimensions are those of a fold's beginning
 abbrev pub IsOver : DimRows → FoldState → Type 0
-IsOver dimensions fold = IsPlanOver dimensions fold.plan
+IsOver dimensions fold = IsGroupPlanOver dimensions fold.plan
 
 -- a fold over the dimensions of its beginning: it represents some fact rows
 abbrev pub IsFoldOver : DimRows → FoldState → Type 0

@@ -10,7 +10,7 @@ use Rattle.cube_model.specs.declared.attr.Attr.{Attr}
 use Rattle.cube_model.specs.declared.query.Order.{Order}
 use Rattle.cube_model.specs.declared.rows.DimRows.{DimRows}
 use Rattle.group_plan.specs.Columns.{attr_at}
-use Rattle.group_plan.specs.Numbers.{digit_count, group_count, member_at}
+use Rattle.group_plan.specs.Numbers.{digit_count, group_count, digit_member}
 
 -- a group with the digit of the order's column and the order's value
 abbrev pub Rank : Type 0
@@ -27,6 +27,6 @@ pub record IsRank (dimensions : DimRows) (columns : List Attr) (order : Order) (
     (rank : Rank) : Type 0 where
   pub digit : rank.0 < digit_count dimensions (attr_at columns order.column)
   pub member : slice_index_or (line rank.2).key order.column All
-      ≡ member_at dimensions (attr_at columns order.column) rank.0
+      ≡ digit_member dimensions (attr_at columns order.column) rank.0
   pub value : slice_index_or (line rank.2).values order.aggregate (Whole (pos 0)) ≡ Whole rank.1.0
   pub below : rank.2.0 < group_count dimensions columns

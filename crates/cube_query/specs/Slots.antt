@@ -45,7 +45,7 @@ Cover bound (Below table) = table.bound ≡ bound
 Cover bound (Seen numbers) = Unit {0}
 
 -- a new number with the next slot
-pub record Adds (old : List (ℕ × ℕ)) (number slot : ℕ) (new : List (ℕ × ℕ)) : Type 0 where
+pub record AddsSlot (old : List (ℕ × ℕ)) (number slot : ℕ) (new : List (ℕ × ℕ)) : Type 0 where
   pub sorted : IsStrictlySortedBy nat_cmp (map (λ e. e.0) new)
   pub longer : length new ≡ length old + 1
   pub slot_is : slot ≡ length old
@@ -53,7 +53,7 @@ pub record Adds (old : List (ℕ × ℕ)) (number slot : ℕ) (new : List (ℕ �
 
 -- a number that has a slot keeps it, and a new one gets the next
 abbrev pub Places : List (ℕ × ℕ) → ℕ → ℕ → List (ℕ × ℕ) → Type 0
-Places old number slot new = MatchOption (slot_of old number) (Adds old number slot new) (λ kept. (slot ≡ kept)
+Places old number slot new = MatchOption (slot_of old number) (AddsSlot old number slot new) (λ kept. (slot ≡ kept)
     × (new ≡ old))
 
 -- more numbers may have a slot, and those that had one keep it

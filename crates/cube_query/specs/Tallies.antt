@@ -26,8 +26,8 @@ tally_with tally number = record {
 }
 
 -- two tallies as one, where either may be that of none
-abbrev pub merged : Tally → Tally → Tally
-merged left right = cond (left.count == 0) right (cond (right.count == 0) left (record {
+abbrev pub merged_tally : Tally → Tally → Tally
+merged_tally left right = cond (left.count == 0) right (cond (right.count == 0) left (record {
   count = left.count + right.count;
   sum = left.sum +ℤ right.sum;
   least = int_min left.least right.least;
@@ -35,16 +35,16 @@ merged left right = cond (left.count == 0) right (cond (right.count == 0) left (
 }))
 
 -- what an aggregate is taken of: its measure, and nothing for a count
-abbrev pub number_of : Agg → LineOrder → ℤ
-number_of Count row = pos 0
-number_of (Sum measure) row = measure_of measure row
-number_of (Min measure) row = measure_of measure row
-number_of (Max measure) row = measure_of measure row
-number_of (Avg measure) row = measure_of measure row
+abbrev pub aggregated : Agg → LineOrder → ℤ
+aggregated Count row = pos 0
+aggregated (Sum measure) row = measure_of measure row
+aggregated (Min measure) row = measure_of measure row
+aggregated (Max measure) row = measure_of measure row
+aggregated (Avg measure) row = measure_of measure row
 
 -- the tallies over fact rows, one for each aggregate
 abbrev pub tallies_of : List Agg → List LineOrder → List Tally
-tallies_of aggs rows = map (λ agg. tally_of (map (number_of agg) rows)) aggs
+tallies_of aggs rows = map (λ agg. tally_of (map (aggregated agg) rows)) aggs
 
 -- what an aggregate takes of its tally
 abbrev pub value_of : Agg → Tally → Value
@@ -63,7 +63,7 @@ tallies_if_any aggs (row ∷ rows) = Some (tallies_of aggs (row ∷ rows))
 abbrev pub tallies_with : List Agg → List Tally → LineOrder → List Tally
 tallies_with [] tallies row = []
 tallies_with (agg ∷ aggs) [] row = []
-tallies_with (agg ∷ aggs) (tally ∷ tallies) row = tally_with tally (number_of agg row) ∷ tallies_with aggs tallies row
+tallies_with (agg ∷ aggs) (tally ∷ tallies) row = tally_with tally (aggregated agg row) ∷ tallies_with aggs tallies row
 
 -- the same, where there may be none yet
 abbrev pub tallies_after : List Agg → Option (List Tally) → LineOrder → List Tally

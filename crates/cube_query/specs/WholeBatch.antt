@@ -9,8 +9,8 @@ use Rattle.cube_model.specs.declared.query.Cond.{Cond}
 use Rattle.cube_model.specs.declared.query.Cond.TheVariants.{OneOf, Between, Quantity, Discount}
 use Rattle.cube_model.specs.declared.query.Query.{Query}
 use Rattle.cube_model.specs.declared.rows.LineOrder.{LineOrder}
-use Rattle.cube_query.specs.Columns.{can_add, size_of, tally_at}
-use Rattle.cube_query.specs.Tallies.{merged, number_of, tally_of}
+use Rattle.cube_query.specs.Columns.{can_add, aggregate_size, tally_at}
+use Rattle.cube_query.specs.Tallies.{merged_tally, aggregated, tally_of}
 use Rattle.cube_query.specs.declared.tally.Tally.{Tally}
 
 -- a condition is on a number of a fact row, and on no dimension
@@ -29,14 +29,15 @@ abbrev pub all_at : ℕ → List LineOrder → List (Option ℕ)
 all_at slot rows = map (λ row. Some slot) rows
 
 -- tallies at a slot, one for each aggregate, with rows merged in if the slot is theirs
-abbrev pub with_rows : List Agg → List LineOrder → ℕ → ℕ → List Tally → List Tally
-with_rows [] rows own slot tallies = []
-with_rows (agg ∷ aggs) rows own slot [] = []
-with_rows (agg ∷ aggs) rows own slot (tally ∷ tallies) =
-    cond (own == slot) (merged tally (tally_of (map (number_of agg) rows))) tally ∷ with_rows aggs rows own slot tallies
+abbrev pub tallies_with_rows : List Agg → List LineOrder → ℕ → ℕ → List Tally → List Tally
+tallies_with_rows [] rows own slot tallies = []
+tallies_with_rows (agg ∷ aggs) rows own slot [] = []
+tallies_with_rows (agg ∷ aggs) rows own slot (tally ∷ tallies) =
+    cond (own == slot) (merged_tally tally (tally_of (map (aggregated agg) rows))) tally
+    ∷ tallies_with_rows aggs rows own slot tallies
 
 -- each column can take the rows at a slot
 abbrev pub HaveRoomAt : List Agg → List (Vec Tally Global) → ℕ → List LineOrder → Type 0
 HaveRoomAt aggs columns slot rows = (k : ℕ) → k < length aggs → (agg : Agg) (column : Vec Tally Global)
     → can_add (tally_at (slice_index_or columns k column).items slot) (length rows)
-    (size_of (slice_index_or aggs k agg) rows) ≡ true
+    (aggregate_size (slice_index_or aggs k agg) rows) ≡ true

@@ -1,10 +1,11 @@
 //! A cell of a cuboid, merged into the tallies at the slot of its group.
 ghost use Rattle.std.specs.Prelude.{◌≡◌, ◌≢◌, ◌⊎◌, ◌≤◌, ◌<◌, ◌^◌, ℕ, [], ◌∷◌, length, slice_set, Some, Err, IfErr};
 ghost use Rattle.std.specs.Prelude.{IfOk, OnErr, OnOk};
-ghost use Rattle.cube_query.specs.CellTallies.{cell_tally, counted, summary_in, with_cells, HasRoomFor, HaveRoomFor};
+ghost use Rattle.cube_query.specs.CellTallies.{cell_tally, counted, summary_in, with_cells, HasRoomForCells};
+ghost use Rattle.cube_query.specs.CellTallies.{HaveRoomFor};
 ghost use Rattle.cube_query.specs.CellTallies.{MergesCells};
 ghost use Rattle.cube_query.specs.Columns.{tallies_at, tally_at};
-ghost use Rattle.cube_query.specs.Tallies.{merged};
+ghost use Rattle.cube_query.specs.Tallies.{merged_tally};
 
 use crate::columns::lengthen;
 use crate::tally::{LIMIT, Tally, TooLarge};
@@ -39,7 +40,8 @@ pub fn merge_cell(
 #[inline]
 fn merge_in_column(column: &mut Vec<Tally>, agg: Agg, cell: &Cell, slot: u32) -> Result<(), Fault>
     ensures merged { OnOk result (MergesCells agg (cell.now ∷ []) (Some slot ∷ []) column.old.items column.new.items) }
-    ensures refused { result ≡ Err Fault.BadLayout → HasRoomFor agg (cell.now ∷ []) (tally_at column.old.items slot)
+    ensures refused { result ≡ Err Fault.BadLayout
+        → HasRoomForCells agg (cell.now ∷ []) (tally_at column.old.items slot)
         → ⊥ }
     ensures others { (other : ℕ) → other ≢ slot → tally_at column.new.items other ≡ tally_at column.old.items other }
     ensures only { IfErr result (λ fault. (fault ≡ Fault.Memory) ⊎ (fault ≡ Fault.BadLayout)) }
@@ -56,8 +58,8 @@ fn merge_in_column(column: &mut Vec<Tally>, agg: Agg, cell: &Cell, slot: u32) ->
 fn merge_at(column: &mut [Tally], agg: Agg, cell: &Cell, slot: u32) -> Result<(), TooLarge>
     requires { slot < length column.old }
     ensures ok { OnOk result (column.new
-        ≡ slice_set column.old slot (merged (tally_at column.old slot) (cell_tally agg cell.now))) }
-    ensures err { OnErr result (HasRoomFor agg (cell.now ∷ []) (tally_at column.old slot) → ⊥) }
+        ≡ slice_set column.old slot (merged_tally (tally_at column.old slot) (cell_tally agg cell.now))) }
+    ensures err { OnErr result (HasRoomForCells agg (cell.now ∷ []) (tally_at column.old slot) → ⊥) }
     ensures same { OnErr result (column.new ≡ column.old) }
 {
     let tally = cell_tally(agg, cell)?;

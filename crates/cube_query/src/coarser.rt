@@ -8,7 +8,7 @@ ghost use Rattle.cube_query.specs.Coarser.{IsTarget, MayMerge, MergesIn};
 ghost use Rattle.cube_query.specs.Columns.{tallies_at};
 ghost use Rattle.cube_query.specs.Limits.{AreFoldable};
 ghost use Rattle.cube_query.specs.Slots.{entries_of, slot_of, AreSlots, Cover, Grow};
-ghost use Rattle.group_plan.specs.Numbers.{group_count, key_at};
+ghost use Rattle.group_plan.specs.Numbers.{group_count, group_key_at};
 
 use crate::columns::{is_seen, make_room, merge_in_all};
 use crate::slots::Slots;
@@ -23,7 +23,7 @@ fn leads(plan: &GroupPlanOver, kind: Kind, column: usize, number: u128) -> bool
     requires column { column < length plan.now.query.columns }
     requires few { length plan.now.query.columns ≤ 6 }
     requires below { number < group_count plan.now.dimensions plan.now.query.columns }
-    ensures { result ≡ leads kind column (key_at plan.now.dimensions plan.now.query.columns number) }
+    ensures { result ≡ leads kind column (group_key_at plan.now.dimensions plan.now.query.columns number) }
 {
     match kind {
         Kind::Plain => false,

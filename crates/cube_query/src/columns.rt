@@ -6,13 +6,14 @@ ghost use Rattle.std.specs.Int.{w64};
 ghost use Rattle.cube_model.specs.declared.answer.Value.TheVariants.{Whole};
 ghost use Rattle.cube_model.specs.declared.measure.Agg.{Agg};
 ghost use Rattle.cube_model.specs.declared.rows.LineOrder.{LineOrder};
-ghost use Rattle.cube_query.specs.Coarser.{gathered, AddsIn, CanMerge, FitMerged, HasMergeRoom, LieWithin, MayMerge};
+ghost use Rattle.cube_query.specs.Coarser.{gathered, AddsIn, CanMergeTallies, FitMerged, HasMergeRoom, LieWithin};
+ghost use Rattle.cube_query.specs.Coarser.{MayMerge};
 ghost use Rattle.cube_query.specs.Coarser.{MergesIn};
 ghost use Rattle.cube_query.specs.Columns.{tally_at, tallies_at, is_seen, CountsIn, HasRoom, IsBounded};
 ghost use Rattle.cube_query.specs.FoldInvariant.{CountIn, HaveRoom};
 ghost use Rattle.cube_query.specs.Slots.{entries_of};
 ghost use Rattle.group_plan.specs.Rows.{row_at};
-ghost use Rattle.cube_query.specs.Tallies.{merged, number_of, tallies_of, values_of};
+ghost use Rattle.cube_query.specs.Tallies.{merged_tally, aggregated, tallies_of, values_of};
 
 use crate::slots::Slots;
 use crate::tally::{Tally, TooLarge};
@@ -23,7 +24,7 @@ use std::alloc::{AllocError, Global};
 /// What an aggregate is taken of, at the row at a place.
 pub fn number_at<F: FactRows>(agg: Agg, rows: &F, place: usize) -> i128
     requires { place < length (F.rows rows.now) }
-    ensures { result ≡ number_of agg (row_at (F.rows rows.now) place) }
+    ensures { result ≡ aggregated agg (row_at (F.rows rows.now) place) }
 {
     match agg {
         Agg::Count => 0,
@@ -36,8 +37,8 @@ pub fn number_at<F: FactRows>(agg: Agg, rows: &F, place: usize) -> i128
 // The same, where it is small.
 fn small_number_at<F: FactRows>(agg: Agg, rows: &F, place: usize) -> i64
     requires place { place < length (F.rows rows.now) }
-    requires small { FitsSigned w64 (number_of agg (row_at (F.rows rows.now) place)) }
-    ensures { result ≡ number_of agg (row_at (F.rows rows.now) place) }
+    requires small { FitsSigned w64 (aggregated agg (row_at (F.rows rows.now) place)) }
+    ensures { result ≡ aggregated agg (row_at (F.rows rows.now) place) }
 {
     number_at(agg, rows, place) as i64
 }
@@ -97,7 +98,8 @@ fn merge_one(column: &mut [Tally], source: u32, target: u32) -> Result<(), TooLa
     requires source { source < length column.old }
     requires target { target < length column.old }
     ensures ok { OnOk result
-        (column.new ≡ slice_set column.old target (merged (tally_at column.old target) (tally_at column.old source))) }
+        (column.new
+        ≡ slice_set column.old target (merged_tally (tally_at column.old target) (tally_at column.old source))) }
     ensures err { OnErr result ((tally_at column.old target).count + (tally_at column.old source).count < 2 ^ 63
         → FitsSigned w64 ((tally_at column.old target).sum +ℤ (tally_at column.old source).sum) → ⊥) }
     ensures length { length column.new ≡ length column.old }
@@ -116,10 +118,10 @@ pub fn merge_in(
     requires targets { length targets.now ≡ length sources.now }
     requires may { LieWithin sources.now targets.now (length column.old) }
     ensures ok { OnOk result ((agg : Agg) (part : ℕ × ℕ → List LineOrder)
-        → CanMerge agg column.old sources.now targets.now part
+        → CanMergeTallies agg column.old sources.now targets.now part
         → AddsIn agg (λ slot. gathered slot part sources.now targets.now) column.old column.new) }
     ensures err { OnErr result ((agg : Agg) (part : ℕ × ℕ → List LineOrder)
-        → CanMerge agg column.old sources.now targets.now part
+        → CanMergeTallies agg column.old sources.now targets.now part
         → HasMergeRoom agg column.old sources.now targets.now part → ⊥) }
     ensures length { length column.new ≡ length column.old }
 {

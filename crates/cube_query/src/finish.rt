@@ -9,7 +9,7 @@ ghost use Rattle.cube_query.specs.GroupLines.{HaveLines, lines_by};
 ghost use Rattle.cube_query.specs.Groups.{finest, groups_of};
 ghost use Rattle.cube_query.specs.Limits.{AreFoldable};
 ghost use Rattle.cube_query.specs.Slots.{entries_of, AreSlots};
-ghost use Rattle.group_plan.specs.Numbers.{group_count, key_at};
+ghost use Rattle.group_plan.specs.Numbers.{group_count, group_key_at};
 ghost use Rattle.cube_query.specs.FoldInvariant.{AreTallied, IsFold};
 
 use crate::coarser::coarsen_all;
@@ -112,7 +112,7 @@ fn finest_lines(
     requires numbers { AreSlots (group_count plan.now.dimensions plan.now.query.columns) (entries_of slots.now) }
     requires columns { length columns.now ≡ length plan.now.query.aggregates }
     ensures lines { IfOk result (λ lines. (rows : List LineOrder)
-        → seen_groups (key_at plan.now.dimensions plan.now.query.columns) (tallies_at columns.now)
+        → seen_groups (group_key_at plan.now.dimensions plan.now.query.columns) (tallies_at columns.now)
         (entries_of slots.now)
         ≡ groups_of plan.now.dimensions plan.now.query rows
         → lines ≡ (answer plan.now.query plan.now.dimensions rows).lines) }

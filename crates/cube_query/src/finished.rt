@@ -8,7 +8,7 @@ ghost use Rattle.cube_query.specs.FoldInvariant.{AreTallied, IsFold};
 ghost use Rattle.cube_query.specs.Groups.{finest};
 ghost use Rattle.cube_query.specs.Limits.{AreFoldable};
 ghost use Rattle.cube_query.specs.Slots.{entries_of};
-ghost use Rattle.group_plan.specs.Plans.{IsPlanOver, query_of};
+ghost use Rattle.group_plan.specs.Plans.{IsGroupPlanOver, query_of};
 
 use crate::columns::value_at;
 use crate::finish::groups_of_kind;
@@ -51,7 +51,7 @@ impl Groups {
         slots: Slots,
         columns: Vec<Vec<Tally>>,
     ) -> Result<Groups, Fault>
-        requires over { IsPlanOver dims.now plan }
+        requires over { IsGroupPlanOver dims.now plan }
         requires fold { IsFold dims.now (query_of plan) slots columns.items }
         ensures over { IfOk result (AreGroupsOver dims.now) }
         ensures answer { IfOk result (λ groups. (rows : List LineOrder)
@@ -163,13 +163,13 @@ impl<'a> Model for GroupLine<'a> {
     ghost use Rattle.std.specs.Prelude.{◌≡◌, length};
     ghost use Rattle.cube_model.specs.declared.answer.Line.{Line};
     ghost use Rattle.cube_query.specs.GroupLines.{HasLine, line_by};
-    ghost use Rattle.group_plan.specs.Plans.{IsPlanOver, query_of};
+    ghost use Rattle.group_plan.specs.Plans.{IsGroupPlanOver, query_of};
 
     ghost Value = { Line };
 
     ghost view = { λ line. line_by line.dims.now (query_of line.plan.now) line.columns.now (line.number, line.slot) };
 
-    ghost invariant = { λ line. IsPlanOver line.dims.now line.plan.now
+    ghost invariant = { λ line. IsGroupPlanOver line.dims.now line.plan.now
         × (length line.columns.now ≡ length (query_of line.plan.now).aggregates)
         × HasLine line.dims.now (query_of line.plan.now) line.columns.now (line.number, line.slot) };
 }

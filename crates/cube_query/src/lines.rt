@@ -7,7 +7,7 @@ ghost use Rattle.cube_query.specs.Columns.{entry_line, is_seen, seen_entries, se
 ghost use Rattle.cube_query.specs.GroupLines.{HaveLines, lines_by};
 ghost use Rattle.cube_query.specs.Groups.{groups_of};
 ghost use Rattle.cube_query.specs.Slots.{entries_of, AreSlots};
-ghost use Rattle.group_plan.specs.Numbers.{group_count, key_at};
+ghost use Rattle.group_plan.specs.Numbers.{group_count, group_key_at};
 
 use crate::columns::{is_seen, values_of};
 use crate::order::in_order;
@@ -29,7 +29,7 @@ fn line_of(
     requires below { group.0 < group_count plan.now.dimensions plan.now.query.columns }
     requires seen { is_seen (tallies_at columns.now group.1) ≡ true }
     ensures { IfOk result (λ line. line
-        ≡ entry_line (key_at plan.now.dimensions plan.now.query.columns) aggregates.now columns.now group) }
+        ≡ entry_line (group_key_at plan.now.dimensions plan.now.query.columns) aggregates.now columns.now group) }
 {
     let (number, slot) = group;
     let key = plan.key(alloc, number)?;
@@ -50,7 +50,7 @@ fn push_line(
     requires below { group.0 < group_count plan.now.dimensions plan.now.query.columns }
     requires seen { is_seen (tallies_at columns.now group.1) ≡ true }
     ensures { OnOk result (lines.new.items ≡ lines.old.items
-        ++ entry_line (key_at plan.now.dimensions plan.now.query.columns) aggregates.now columns.now group ∷ []) }
+        ++ entry_line (group_key_at plan.now.dimensions plan.now.query.columns) aggregates.now columns.now group ∷ []) }
 {
     let line = line_of(alloc, plan, aggregates, columns, group)?;
     lines.push(line)?;
@@ -105,7 +105,7 @@ pub fn ordered_groups(
     requires columns { length columns.now ≡ length plan.now.query.aggregates }
     ensures groups { IfOk result (λ groups. HaveLines plan.now.dimensions plan.now.query columns.now groups.items) }
     ensures lines { IfOk result (λ groups. (rows : List LineOrder)
-        → seen_groups (key_at plan.now.dimensions plan.now.query.columns) (tallies_at columns.now)
+        → seen_groups (group_key_at plan.now.dimensions plan.now.query.columns) (tallies_at columns.now)
         (entries_of slots.now)
         ≡ groups_of plan.now.dimensions plan.now.query rows
         → lines_by plan.now.dimensions plan.now.query columns.now groups.items

@@ -1,7 +1,7 @@
 //! The rows of a batch, with the codes of their ship modes.
 ghost use Rattle.std.specs.Prelude.{◌≡◌, ◌<◌, length, map, slice_index_or};
 ghost use Rattle.std.specs.Int.{from_le_bytes, w16};
-ghost use Rattle.dictionary.specs.Columns.{text_at};
+ghost use Rattle.dictionary.specs.Columns.{text_of_code};
 
 use crate::column_rows::ColumnRows;
 use column_segment::{Segment, TextColumn};
@@ -86,7 +86,7 @@ impl<'a> ModeRows for RowsWithModes<'a> {
 // The text of a code.
 fn text_of(modes: &Dictionary, code: usize) -> &[u8]
     requires { code < length modes.now.texts }
-    ensures { result.now ≡ text_at modes.now.texts code }
+    ensures { result.now ≡ text_of_code modes.now.texts code }
 {
     let _few = modes.len();
     match modes.text(code as u32) {

@@ -9,7 +9,7 @@ ghost use Rattle.cube_model.specs.Proper.{is_average};
 ghost use Rattle.cube_model.specs.declared.measure.Agg.TheVariants.{Count};
 ghost use Rattle.cube_query.specs.Columns.{entry_line};
 ghost use Rattle.cube_query.specs.Ranks.{IsRank};
-ghost use Rattle.group_plan.specs.Numbers.{group_count, key_at};
+ghost use Rattle.group_plan.specs.Numbers.{group_count, group_key_at};
 
 use crate::columns::tally_at;
 use crate::tally::Tally;
@@ -38,7 +38,8 @@ fn ranked(
     requires below { All (λ group. group.0 < group_count plan.now.dimensions plan.now.query.columns) groups.now }
     ensures groups { IfOk result (λ ranked. map (λ rank. rank.2) ranked.items ≡ groups.now) }
     ensures ranks { IfOk result (λ ranked. All (IsRank plan.now.dimensions plan.now.query.columns order
-        (entry_line (key_at plan.now.dimensions plan.now.query.columns) aggregates.now columns.now)) ranked.items) }
+        (entry_line (group_key_at plan.now.dimensions plan.now.query.columns) aggregates.now columns.now))
+        ranked.items) }
 {
     let column = columns[order.aggregate].as_slice();
     let agg = aggregates[order.aggregate];
@@ -79,7 +80,7 @@ pub fn in_order(
     requires apart { IsDistinct (eq_by_cmp nat_cmp) (map (λ group. group.0) groups.now) }
     ensures same { IfOk result (λ sorted. IsPermutation groups.now sorted.items) }
     ensures rising { IfOk result (λ sorted. IsAscending (line_cmp order)
-        (map (entry_line (key_at plan.now.dimensions plan.now.query.columns) aggregates.now columns.now)
+        (map (entry_line (group_key_at plan.now.dimensions plan.now.query.columns) aggregates.now columns.now)
         sorted.items)) }
 {
     let mut ranked = ranked(alloc, plan, aggregates, columns, order, groups)?;

@@ -1,7 +1,7 @@
 //! Whether tallies have room for fact rows.
 ghost use Rattle.std.specs.Prelude.{◌≡◌, ◌↔◌, ◌≤◌, ◌<◌, ◌^◌, [], ◌∷◌, length, IsTrue, MatchOption};
 ghost use Rattle.std.specs.List.{list_all};
-ghost use Rattle.cube_query.specs.Columns.{can_add, chosen, size_of, HasRoom};
+ghost use Rattle.cube_query.specs.Columns.{can_add, rows_with_slots, aggregate_size, HasRoom};
 ghost use Rattle.cube_query.specs.FoldInvariant.{HaveRoom};
 ghost use Rattle.cube_query.specs.Room.{can_take};
 ghost use Rattle.group_plan.specs.Rows.{row_at};
@@ -45,8 +45,8 @@ fn has_room<F: FactRows>(column: &[Tally], agg: Agg, rows: &F, group_slots: &[Op
 // large.
 fn size_of<F: FactRows>(agg: Agg, rows: &F, group_slots: &[Option<u32>]) -> Option<u64>
     requires { length group_slots.now ≡ length (F.rows rows.now) }
-    ensures { MatchOption result (2 ^ 63 ≤ size_of agg (chosen (F.rows rows.now) group_slots.now))
-        (λ size. (size ≡ size_of agg (chosen (F.rows rows.now) group_slots.now)) × (size < 2 ^ 63)) }
+    ensures { MatchOption result (2 ^ 63 ≤ aggregate_size agg (rows_with_slots (F.rows rows.now) group_slots.now))
+        (λ size. (size ≡ aggregate_size agg (rows_with_slots (F.rows rows.now) group_slots.now)) × (size < 2 ^ 63)) }
 {
     let mut size = 0;
     for place in 0..group_slots.len() {
@@ -61,7 +61,8 @@ fn size_of<F: FactRows>(agg: Agg, rows: &F, group_slots: &[Option<u32>]) -> Opti
 // The absolute value of what an aggregate is taken of, at the row at a place, if it has a slot.
 fn size_at<F: FactRows>(agg: Agg, rows: &F, place: usize, group_slot: Option<u32>) -> u128
     requires { place < length (F.rows rows.now) }
-    ensures size { result ≡ size_of agg (chosen (row_at (F.rows rows.now) place ∷ []) (group_slot ∷ [])) }
+    ensures size { result
+        ≡ aggregate_size agg (rows_with_slots (row_at (F.rows rows.now) place ∷ []) (group_slot ∷ [])) }
     ensures small { result ≤ 2 ^ 127 }
 {
     match group_slot {

@@ -22,7 +22,7 @@ ghost use Rattle.cube_query.specs.GroupLines.{AreGroupsOver, answer_over};
 ghost use Rattle.cube_query.specs.Groups.{RepresentsRows, Begins, CanTake, IsFoldable, IsOver, Takes};
 ghost use Rattle.group_plan.specs.Numbers.{group_count, IsKnown};
 ghost use Rattle.group_plan.specs.Parts.{IsKnownFor};
-ghost use Rattle.group_plan.specs.Plans.{IsPlanOver, query_of};
+ghost use Rattle.group_plan.specs.Plans.{IsGroupPlanOver, query_of};
 ghost use Rattle.cube_query.specs.Slots.{entries_of, slot_of, AreSlots, CanPlace, Cover, Grow};
 ghost use Rattle.cube_query.specs.WholeBatch.{has_one_group};
 ghost use Rattle.cube_query.specs.FoldInvariant.{AreGroupSlots};
@@ -394,7 +394,7 @@ fn begin(alloc: Global, dims: &Dims, query: &Query) -> Result<Fold, AllocError>
 // The same by the plan of its query.
 fn begin_by(alloc: Global, plan: GroupPlan) -> Result<Fold, AllocError>
     requires { IsProper (query_of plan) }
-    ensures { IfOk result (λ fold. (dimensions : DimRows) → IsPlanOver dimensions plan
+    ensures { IfOk result (λ fold. (dimensions : DimRows) → IsGroupPlanOver dimensions plan
         → Begins dimensions (query_of plan) fold) }
 {
     let slots = Slots::new(alloc, plan.group_count())?;
@@ -417,7 +417,7 @@ fn ready<F: FactRows>(
     columns: &mut Vec<Vec<Tally>>,
     rows: &F,
 ) -> Result<Vec<Option<u32>>, Fault>
-    requires over { IsPlanOver dims.now plan.now }
+    requires over { IsGroupPlanOver dims.now plan.now }
     requires numbers { AreSlots (group_count dims.now (query_of plan.now).columns) (entries_of slots.old) }
     requires cover { Cover (group_count dims.now (query_of plan.now).columns) slots.old }
     ensures group_slots { IfOk result (λ group_slots.
@@ -448,7 +448,7 @@ fn columns_with_cells(
     cells: &Cells,
     modes: Option<&Dictionary>,
 ) -> Result<Vec<Vec<Tally>>, Fault>
-    requires over { IsPlanOver dims.now plan.now }
+    requires over { IsGroupPlanOver dims.now plan.now }
     requires numbers { AreSlots (group_count dims.now (query_of plan.now).columns) (entries_of slots.old) }
     requires cover { Cover (group_count dims.now (query_of plan.now).columns) slots.old }
     requires columns { length columns.now ≡ length (query_of plan.now).aggregates }
@@ -483,7 +483,7 @@ fn with_run<S: Source>(
     run: &mut RunReader,
     modes: Option<&Dictionary>,
 ) -> Result<(), Fault>
-    requires over { IsPlanOver dims.now plan.now }
+    requires over { IsGroupPlanOver dims.now plan.now }
     requires numbers { AreSlots (group_count dims.now (query_of plan.now).columns) (entries_of slots.old) }
     requires cover { Cover (group_count dims.now (query_of plan.now).columns) slots.old }
     requires columns { length columns.old ≡ length (query_of plan.now).aggregates }

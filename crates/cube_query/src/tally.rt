@@ -80,7 +80,7 @@ impl Tally {
 
     /// Two tallies as one, where either may be that of none.
     pub fn merge(self, other: Tally) -> Result<Self, TooLarge>
-        ensures ok { IfOk result (λ tally. tally ≡ spec.merged self other) }
+        ensures ok { IfOk result (λ tally. tally ≡ spec.merged_tally self other) }
         ensures err { OnErr result (self.count + other.count < 2 ^ 63 → FitsSigned w64 (self.sum +ℤ other.sum) → ⊥) }
     {
         if self.count.get() == 0 {
@@ -102,7 +102,7 @@ impl Tally {
     pub fn joined(self, other: Tally) -> Self
         requires count { self.count + other.count < 2 ^ 63 }
         requires sum { FitsSigned w64 (self.sum +ℤ other.sum) }
-        ensures { result ≡ spec.merged self other }
+        ensures { result ≡ spec.merged_tally self other }
     {
         if self.count.get() == 0 {
             return other;

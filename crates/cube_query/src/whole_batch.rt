@@ -7,10 +7,10 @@ ghost use Rattle.cube_model.specs.declared.fault.Fault.{Fault};
 ghost use Rattle.cube_model.specs.declared.measure.Agg.TheVariants.{Count};
 ghost use Rattle.cube_model.specs.Measures.{measure_of};
 ghost use Rattle.cube_model.specs.Selection.{is_selected};
-ghost use Rattle.column_kernels.specs.Masks.{selected};
-ghost use Rattle.cube_query.specs.Columns.{can_add, size_of, tallies_at, tally_at};
-ghost use Rattle.cube_query.specs.Tallies.{merged, number_of, tally_of};
-ghost use Rattle.cube_query.specs.WholeBatch.{HaveRoomAt, has_one_group, is_on_row, with_rows};
+ghost use Rattle.column_kernels.specs.Masks.{selected_by};
+ghost use Rattle.cube_query.specs.Columns.{can_add, aggregate_size, tallies_at, tally_at};
+ghost use Rattle.cube_query.specs.Tallies.{merged_tally, aggregated, tally_of};
+ghost use Rattle.cube_query.specs.WholeBatch.{HaveRoomAt, has_one_group, is_on_row, tallies_with_rows};
 
 use crate::tally::{Tally, TooLarge};
 use column_kernels::Mask;
@@ -77,9 +77,9 @@ pub fn with_batch(
     requires rows { length mask.now ≡ length batch.now }
     requires within { AllByRecursion (λ column. slot < length column.items) columns.now }
     ensures ok { IfOk result (λ new. (other : ℕ) → tallies_at new.items other
-        ≡ with_rows aggs.now (selected mask.now batch.now) slot other (tallies_at columns.now other)) }
+        ≡ tallies_with_rows aggs.now (selected_by mask.now batch.now) slot other (tallies_at columns.now other)) }
     ensures refused { IfErr result (λ fault. (fault ≡ Fault.Memory)
-        ⊎ ((fault ≡ Fault.BadLayout) × (HaveRoomAt aggs.now columns.now slot (selected mask.now batch.now) → ⊥))) }
+        ⊎ ((fault ≡ Fault.BadLayout) × (HaveRoomAt aggs.now columns.now slot (selected_by mask.now batch.now) → ⊥))) }
 {
     let mut merged = Vec::with_capacity(alloc, columns.len())?;
     for place in 0..columns.len() {
@@ -103,10 +103,10 @@ fn merge_batch(
 ) -> Result<(), TooLarge>
     requires rows { length mask.now ≡ length batch.now }
     requires within { slot < length column.old }
-    ensures ok { OnOk result (column.new ≡ slice_set column.old slot (merged (tally_at column.old slot)
-        (tally_of (map (number_of agg) (selected mask.now batch.now))))) }
-    ensures err { OnErr result (can_add (tally_at column.old slot) (length (selected mask.now batch.now))
-        (size_of agg (selected mask.now batch.now)) ≡ true → ⊥) }
+    ensures ok { OnOk result (column.new ≡ slice_set column.old slot (merged_tally (tally_at column.old slot)
+        (tally_of (map (aggregated agg) (selected_by mask.now batch.now))))) }
+    ensures err { OnErr result (can_add (tally_at column.old slot) (length (selected_by mask.now batch.now))
+        (aggregate_size agg (selected_by mask.now batch.now)) ≡ true → ⊥) }
     ensures length { length column.new ≡ length column.old }
 {
     let tally = batch_tally(agg, batch, mask)?;
@@ -117,8 +117,8 @@ fn merge_batch(
 // The tally of the selected rows of a batch.
 fn batch_tally(agg: Agg, batch: &FactColumns, mask: &Mask) -> Result<Tally, TooLarge>
     requires { length mask.now ≡ length batch.now }
-    ensures ok { IfOk result (λ tally. tally ≡ tally_of (map (number_of agg) (selected mask.now batch.now))) }
-    ensures err { OnErr result (size_of agg (selected mask.now batch.now) < 2 ^ 63 → ⊥) }
+    ensures ok { IfOk result (λ tally. tally ≡ tally_of (map (aggregated agg) (selected_by mask.now batch.now))) }
+    ensures err { OnErr result (aggregate_size agg (selected_by mask.now batch.now) < 2 ^ 63 → ⊥) }
 {
     match agg {
         Agg::Count => Ok(count_tally(batch, mask)),
@@ -131,7 +131,7 @@ fn batch_tally(agg: Agg, batch: &FactColumns, mask: &Mask) -> Result<Tally, TooL
 // The tally of which the selected rows of a batch are counted.
 fn count_tally(batch: &FactColumns, mask: &Mask) -> Tally
     requires { length mask.now ≡ length batch.now }
-    ensures { result ≡ tally_of (map (number_of Count) (selected mask.now batch.now)) }
+    ensures { result ≡ tally_of (map (aggregated Count) (selected_by mask.now batch.now)) }
 {
     Tally {
         count: count_of(mask),
@@ -144,8 +144,9 @@ fn count_tally(batch: &FactColumns, mask: &Mask) -> Tally
 // The tally of a measure over the selected rows of a batch.
 fn measure_tally(measure: Measure, batch: &FactColumns, mask: &Mask) -> Result<Tally, TooLarge>
     requires { length mask.now ≡ length batch.now }
-    ensures ok { IfOk result (λ tally. tally ≡ tally_of (map (measure_of measure) (selected mask.now batch.now))) }
-    ensures err { OnErr result (sum_by (λ row. nat_abs (measure_of measure row)) (selected mask.now batch.now) < 2 ^ 63
+    ensures ok { IfOk result (λ tally. tally ≡ tally_of (map (measure_of measure) (selected_by mask.now batch.now))) }
+    ensures err { OnErr result
+        (sum_by (λ row. nat_abs (measure_of measure row)) (selected_by mask.now batch.now) < 2 ^ 63
         → ⊥) }
 {
     match batch.selected_extremes(measure, mask) {

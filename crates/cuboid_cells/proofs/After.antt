@@ -7,7 +7,7 @@ use Rattle.std.proofs.lemmas.Grind.{flat_map-append}
 use Rattle.std.proofs.lemmas.List.Elements.{All-append, All-cons, All-nil}
 use Rattle.cuboid_cells.specs.declared.cell.Cell.{Cell}
 use Rattle.cuboid_cells.specs.declared.summary.Summary.{Summary}
-use Rattle.cuboid_cells.specs.Reading.{IsReadable, ReadsCell, ReadsCells}
+use Rattle.cuboid_cells.specs.Reading.{IsReadableCell, ReadsCell, ReadsCells}
 use Rattle.cuboid_cells.specs.Spelled.{cell_bytes, cell_of, summary_of}
 use Rattle.wire.specs.Spelling.{signed_spelling}
 
@@ -63,11 +63,11 @@ one_more grouped count start old new cells more cell is before next =
     let whole : start ≡ flat_map f (cells ++ cell ∷ []) ++ new =
     before.spelled ∙ ap (λ (xs : List ℕ). flat_map f cells ++ xs) next.spelled
     ∙ sym (append_assoc (flat_map f cells) (f cell) new) ∙ ap (λ (xs : List ℕ). xs ++ new) (sym one) in
-    let readable : All (IsReadable grouped) (cells ++ cell ∷ []) =
-    All-append (IsReadable grouped) cells (cell ∷ []) before.readable
-    (All-cons (IsReadable grouped) cell [] next.readable (All-nil (IsReadable grouped))) in
+    let readable : All (IsReadableCell grouped) (cells ++ cell ∷ []) =
+    All-append (IsReadableCell grouped) cells (cell ∷ []) before.readable
+    (All-cons (IsReadableCell grouped) cell [] next.readable (All-nil (IsReadableCell grouped))) in
     record {
-      readable = subst (All (IsReadable grouped)) (sym is) readable;
+      readable = subst (All (IsReadableCell grouped)) (sym is) readable;
       many = omega (arith, ap length is, length-append cells (cell ∷ []), before.many);
       spelled = whole ∙ ap (λ (xs : List Cell). flat_map f xs ++ new) (sym is);
       left = omega (arith, before.left, next.left, more_bytes grouped count);

@@ -13,10 +13,10 @@ use Rattle.cuboid_cells.specs.declared.key.Key.{Key}
 use Rattle.cuboid_cells.specs.declared.span.Span.{Span}
 use Rattle.cuboid_cells.specs.declared.summary.Summaries.{Summaries}
 use Rattle.cuboid_cells.specs.declared.summary.Summary.{Summary}
-use Rattle.cuboid_cells.specs.Cells.{AreProper, KeyFits, PlainCells, SummariesFit, SummaryFits}
+use Rattle.cuboid_cells.specs.Cells.{AreProperCells, KeyFits, PlainCells, SummariesFit, SummaryFits}
 use Rattle.cuboid_cells.specs.Limits.{all_code}
-use Rattle.cuboid_cells.specs.Reading.{IsReadable}
-use Rattle.cuboid_cells.specs.Spelled.{IsRun, cell_bytes, cell_of, header_of, key_of, mode_bytes, mode_of, name_of}
+use Rattle.cuboid_cells.specs.Reading.{IsReadableCell}
+use Rattle.cuboid_cells.specs.Spelled.{IsRun, cell_bytes, cell_of, run_header, key_codes, mode_bytes, mode_of, name_of}
 use Rattle.cuboid_cells.specs.Spelled.{run_of, summaries_of, summary_of}
 use Rattle.cuboid_cells.proofs.Fields.{five-append, length-five, length-six, length-three, part-one, signed-one}
 use Rattle.cuboid_cells.proofs.Fields.{six-append, three-append}
@@ -25,7 +25,7 @@ pub length-mode_of : (grouped : Bool) (code : ℕ) → length (mode_of grouped c
 length-mode_of false code = refl
 length-mode_of true code = length-spelling 2 code
 
-pub length-key_of : (grouped : Bool) (key : Key) → length (key_of grouped key) ≡ 8 + mode_bytes grouped
+pub length-key_of : (grouped : Bool) (key : Key) → length (key_codes grouped key) ≡ 8 + mode_bytes grouped
 length-key_of grouped key =
     omega (
       arith,
@@ -64,7 +64,7 @@ pub length-cell_of : (grouped : Bool) (cell : Cell) → length (cell_of grouped 
 length-cell_of grouped cell =
     omega (
       arith,
-      length-three (key_of grouped cell.key) (spelling 8 cell.count) (summaries_of cell.measures),
+      length-three (key_codes grouped cell.key) (spelling 8 cell.count) (summaries_of cell.measures),
       length-key_of grouped cell.key,
       length-spelling 8 cell.count,
       length-summaries_of cell.measures,
@@ -93,7 +93,7 @@ length-name_of false = refl
 length-name_of true = refl
 
 pub length-header_of : (name : List ℕ) (view from to cells : ℕ) → length name ≡ 4
-    → length (header_of name view from to cells) ≡ 20
+    → length (run_header name view from to cells) ≡ 20
 length-header_of name view from to cells four =
     omega (
       arith,
@@ -109,7 +109,7 @@ length-header_of name view from to cells four =
 pub length-run_of : (span : Span) (plain : PlainCells)
     → length (run_of span plain) ≡ 20 + cell_bytes plain.view.ship_mode * length plain.cells
 length-run_of span plain =
-    let header = header_of (name_of plain.view.ship_mode) (index_of plain.view) span.from span.to
+    let header = run_header (name_of plain.view.ship_mode) (index_of plain.view) span.from span.to
     (length plain.cells) in
     omega (
       arith,
@@ -129,7 +129,7 @@ mode-one true a b xs ys fits others none no_other same = spelling-one 2 a b xs y
 -- bytes begin with one key at most
 pub key-one : (grouped : Bool) (one other : Key) (xs ys : List ℕ) → KeyFits one → KeyFits other
     → (grouped ≡ false → one.ship_mode ≡ all_code) → (grouped ≡ false → other.ship_mode ≡ all_code)
-    → key_of grouped one ++ xs ≡ key_of grouped other ++ ys → (one ≡ other) × (xs ≡ ys)
+    → key_codes grouped one ++ xs ≡ key_codes grouped other ++ ys → (one ≡ other) × (xs ≡ ys)
 key-one grouped one other xs ys fits others none no_other same =
     let parts =
     sym (five-append (spelling 2 one.customer) (spelling 2 one.supplier) (spelling 2 one.part) (spelling 2 one.date)
@@ -216,11 +216,12 @@ summaries-one one other xs ys fit others same =
     (is, sixth.1)
 
 -- bytes begin with one cell at most
-cell-one : (grouped : Bool) (one other : Cell) (xs ys : List ℕ) → IsReadable grouped one → IsReadable grouped other
+cell-one : (grouped : Bool) (one other : Cell) (xs ys : List ℕ) → IsReadableCell grouped one
+    → IsReadableCell grouped other
     → cell_of grouped one ++ xs ≡ cell_of grouped other ++ ys → (one ≡ other) × (xs ≡ ys)
 cell-one grouped one other xs ys is also same =
-    let parts = sym (three-append (key_of grouped one.key) (spelling 8 one.count) (summaries_of one.measures) xs)
-    ∙ same ∙ three-append (key_of grouped other.key) (spelling 8 other.count) (summaries_of other.measures) ys in
+    let parts = sym (three-append (key_codes grouped one.key) (spelling 8 one.count) (summaries_of one.measures) xs)
+    ∙ same ∙ three-append (key_codes grouped other.key) (spelling 8 other.count) (summaries_of other.measures) ys in
     let first = key-one grouped one.key other.key _ _ is.fits.key also.fits.key is.absent also.absent parts in
     let second = spelling-one 8 one.count other.count _ _ is.fits.count also.fits.count first.1 in
     let third = summaries-one one.measures other.measures xs ys is.fits.measures also.fits.measures second.1 in
@@ -230,8 +231,8 @@ cell-one grouped one other xs ys is also same =
     (whole, third.1)
 
 -- bytes begin with one list of so many cells at most
-pub cells-one : (grouped : Bool) (cells others : List Cell) (xs ys : List ℕ) → All (IsReadable grouped) cells
-    → All (IsReadable grouped) others → length cells ≡ length others
+pub cells-one : (grouped : Bool) (cells others : List Cell) (xs ys : List ℕ) → All (IsReadableCell grouped) cells
+    → All (IsReadableCell grouped) others → length cells ≡ length others
     → flat_map (cell_of grouped) cells ++ xs ≡ flat_map (cell_of grouped) others ++ ys → (cells ≡ others) × (xs ≡ ys)
 cells-one grouped [] [] xs ys are also many same = (refl, same)
 cells-one grouped [] (other ∷ others) xs ys are also many same = absurd (omega arith)
@@ -241,9 +242,9 @@ cells-one grouped (cell ∷ cells) (other ∷ others) xs ys are also many same =
     ∙ append_assoc (cell_of grouped other) (flat_map (cell_of grouped) others) ys in
     let first =
     cell-one grouped cell other (flat_map (cell_of grouped) cells ++ xs) (flat_map (cell_of grouped) others ++ ys)
-    (All-head (IsReadable grouped) cell cells are) (All-head (IsReadable grouped) other others also) parts in
-    let rest = cells-one grouped cells others xs ys (All-tail (IsReadable grouped) cell cells are)
-    (All-tail (IsReadable grouped) other others also) (omega arith) first.1 in
+    (All-head (IsReadableCell grouped) cell cells are) (All-head (IsReadableCell grouped) other others also) parts in
+    let rest = cells-one grouped cells others xs ys (All-tail (IsReadableCell grouped) cell cells are)
+    (All-tail (IsReadableCell grouped) other others also) (omega arith) first.1 in
     (rw (first.0, rest.0) refl, rest.1)
 
 -- bytes begin with one header at most
@@ -251,7 +252,7 @@ pub header-one : (name other : List ℕ) (view from to cells view' from' to' cel
     → length name ≡ 4 → length other ≡ 4
     → view < 2 ^ 32 → from < 2 ^ 32 → to < 2 ^ 32 → cells < 2 ^ 32 → view' < 2 ^ 32 → from' < 2 ^ 32 → to' < 2 ^ 32
     → cells' < 2 ^ 32
-    → header_of name view from to cells ++ xs ≡ header_of other view' from' to' cells' ++ ys
+    → run_header name view from to cells ++ xs ≡ run_header other view' from' to' cells' ++ ys
     → (name ≡ other) × (view ≡ view') × (from ≡ from') × (to ≡ to') × (cells ≡ cells') × (xs ≡ ys)
 header-one name other view from to cells view' from' to' cells' xs ys four as_many f1 f2 f3 f4 g1 g2 g3 g4 same =
     let parts = sym (five-append name (spelling 4 view) (spelling 4 from) (spelling 4 to) (spelling 4 cells) xs)
@@ -267,7 +268,7 @@ pub views_below : (view : View) → index_of view < 512
 views_below view = index_below view
 
 -- the cells of a view that are proper can be read back
-pub are_readable : (plain : PlainCells) → AreProper plain → All (IsReadable plain.view.ship_mode) plain.cells
+pub are_readable : (plain : PlainCells) → AreProperCells plain → All (IsReadableCell plain.view.ship_mode) plain.cells
 are_readable plain proper = λ k d within. record {
   fits = proper.fit k d within;
   absent = λ none. (proper.rules.each k d within).key.ship_mode.1 none;
@@ -294,7 +295,7 @@ module _ (bytes : List ℕ) where
       let ends = append-nil (flat_map (cell_of a.view.ship_mode) a.cells) ∙ rest
       ∙ sym (append-nil (flat_map (cell_of a.view.ship_mode) b.cells)) in
       let cells = cells-one a.view.ship_mode a.cells b.cells [] [] (are_readable a is.proper)
-      (subst (λ (g : Bool). All (IsReadable g) b.cells) grouped (are_readable b also.proper)) header.4 ends in
+      (subst (λ (g : Bool). All (IsReadableCell g) b.cells) grouped (are_readable b also.proper)) header.4 ends in
       let spans : ◌≡◌ {A = Span} (record { from = span.from; to = span.to }) (record { from = to.from; to = to.to }) =
       rw (header.2, header.3) refl in
       let whole : ◌≡◌ {A = PlainCells} (record { view = a.view; cells = a.cells })

@@ -14,11 +14,11 @@ use Rattle.lattice.proofs.Places.{one_view}
 use Rattle.cuboid_cells.specs.declared.cell.Cell.{Cell}
 use Rattle.cuboid_cells.specs.declared.head.RunHead.{RunHead}
 use Rattle.cuboid_cells.specs.declared.reading.Header.{Header}
-use Rattle.cuboid_cells.specs.Cells.{AreAscending, FollowRules, IsCellOf, KeyFits, number_of}
+use Rattle.cuboid_cells.specs.Cells.{AreAscending, FollowRules, IsCellOf, KeyFits, key_as_number}
 use Rattle.cuboid_cells.specs.Pieces.{AreCellsFrom, AreLeft, Climbs, IsAtFirst, IsHeadFor, IsRunOf, ReadsOn, RunPlace}
 use Rattle.cuboid_cells.specs.Pieces.{bytes_of_head, least_after}
-use Rattle.cuboid_cells.specs.Reading.{IsReadable, ReadsCells, ReadsHeader}
-use Rattle.cuboid_cells.specs.Spelled.{cell_bytes, cell_of, header_of, name_of}
+use Rattle.cuboid_cells.specs.Reading.{IsReadableCell, ReadsCells, ReadsRunHeader}
+use Rattle.cuboid_cells.specs.Spelled.{cell_bytes, cell_of, run_header, name_of}
 use Rattle.cuboid_cells.specs.Steps.{cells_of}
 use Rattle.cuboid_cells.proofs.CallerLemmas.{are_readable, cells-one, header-one, length-cells, length-header_of}
 use Rattle.cuboid_cells.proofs.CallerLemmas.{length-name_of, views_below}
@@ -27,20 +27,20 @@ use Rattle.cuboid_cells.proofs.Climbing.{ClimbsTo, all_from, climbs_ascend, clim
 -- ---- cells that climb
 climbs_append : (low : ℕ) (a b : List Cell) → Climbs low a → Climbs (least_after low a) b → Climbs low (a ++ b)
 climbs_append low [] b one other = other
-climbs_append low (cell ∷ a) b one other = (one.0, climbs_append (number_of cell.key + 1) a b one.1 other)
+climbs_append low (cell ∷ a) b one other = (one.0, climbs_append (key_as_number cell.key + 1) a b one.1 other)
 
 climbs_parts : (low : ℕ) (a b : List Cell) → Climbs low (a ++ b) → Climbs low a × Climbs (least_after low a) b
 climbs_parts low [] b climbs = (tt, climbs)
-climbs_parts low (cell ∷ a) b climbs = let rest = climbs_parts (number_of cell.key + 1) a b climbs.1 in
+climbs_parts low (cell ∷ a) b climbs = let rest = climbs_parts (key_as_number cell.key + 1) a b climbs.1 in
     ((climbs.0, rest.0), rest.1)
 
 least_append : (low : ℕ) (a b : List Cell) → least_after low (a ++ b) ≡ least_after (least_after low a) b
 least_append low [] b = refl
-least_append low (cell ∷ a) b = least_append (number_of cell.key + 1) a b
+least_append low (cell ∷ a) b = least_append (key_as_number cell.key + 1) a b
 
 pub climbs_to : (low : ℕ) (cells : List Cell) → Climbs low cells → ClimbsTo low cells (least_after low cells)
 climbs_to low [] climbs = omega arith
-climbs_to low (cell ∷ cells) climbs = (climbs.0, climbs_to (number_of cell.key + 1) cells climbs.1)
+climbs_to low (cell ∷ cells) climbs = (climbs.0, climbs_to (key_as_number cell.key + 1) cells climbs.1)
 
 ascend : (cells : List Cell) → Climbs 0 cells → AreAscending cells
 ascend cells climbs = climbs_ascend 0 (least_after 0 cells) cells (climbs_to 0 cells climbs)
@@ -87,7 +87,7 @@ of_both false b = λ one other. cc
 pub rules_more : (view : View) (low next : ℕ) (cells more : List Cell) (cell : Cell) (fine follows : Bool)
     → more ≡ cells ++ cell ∷ [] → next ≡ least_after low cells
     → (IsTrue fine ↔ AreCellsFrom view low cells)
-    → (IsTrue follows ↔ (IsCellOf view cell × (next ≤ number_of cell.key)))
+    → (IsTrue follows ↔ (IsCellOf view cell × (next ≤ key_as_number cell.key)))
     → IsTrue (fine && follows) ↔ AreCellsFrom view low more
 rules_more view low next cells more cell fine follows is next_is so_far one =
     subst (λ (all : List Cell). IsTrue (fine && follows) ↔ AreCellsFrom view low all) (sym is) (
@@ -103,7 +103,7 @@ rules_more view low next cells more cell fine follows is next_is so_far one =
     )
 
 pub least_more : (low : ℕ) (cells more : List Cell) (cell : Cell) → more ≡ cells ++ cell ∷ []
-    → number_of cell.key + 1 ≡ least_after low more
+    → key_as_number cell.key + 1 ≡ least_after low more
 least_more low cells more cell is = sym (ap (least_after low) is ∙ least_append low cells (cell ∷ []))
 
 -- ---- cells of a text
@@ -112,16 +112,17 @@ fits false n count left same = omega (arith, same)
 fits true n count left same = omega (arith, same)
 
 -- cells whose bytes other cells begin with are the first of these
-front : (grouped : Bool) (cells all : List Cell) (left : List ℕ) → All (IsReadable grouped) cells
-    → All (IsReadable grouped) all → length cells ≤ length all
+front : (grouped : Bool) (cells all : List Cell) (left : List ℕ) → All (IsReadableCell grouped) cells
+    → All (IsReadableCell grouped) all → length cells ≤ length all
     → flat_map (cell_of grouped) cells ++ left ≡ flat_map (cell_of grouped) all → (rest : List Cell)
-    × (all ≡ cells ++ rest) × (left ≡ flat_map (cell_of grouped) rest) × All (IsReadable grouped) rest
+    × (all ≡ cells ++ rest) × (left ≡ flat_map (cell_of grouped) rest) × All (IsReadableCell grouped) rest
 front grouped cells all left are also few same =
     let n : ℕ = length cells in
     let f = cell_of grouped in
     let halves = take-append-drop n all in
     let readable =
-    all_parts (IsReadable grouped) (take n all) (drop n all) (subst (All (IsReadable grouped)) (sym halves) also) in
+    all_parts (IsReadableCell grouped) (take n all) (drop n all)
+    (subst (All (IsReadableCell grouped)) (sym halves) also) in
     let parts = cells-one grouped cells (take n all) left (flat_map f (drop n all)) are readable.0
     (omega (arith, few, length-take n all))
     (same ∙ ap (flat_map f) (sym halves) ∙ flat_map-append f (take n all) (drop n all)) in
@@ -148,7 +149,7 @@ module _ (bytes : List ℕ) (run : RunPlace) (cells : List Cell) (left : AreLeft
   pub rest_at : (some rest : List Cell) → cells ≡ some ++ rest
       → drop (20 + cell_bytes grouped * (run.done + length some)) bytes ≡ flat_map f rest
   rest_at some rest parts =
-      let head : List ℕ = header_of (name_of grouped) (index_of run.head.view) run.head.span.from run.head.span.to
+      let head : List ℕ = run_header (name_of grouped) (index_of run.head.view) run.head.span.from run.head.span.to
       (length whole) in
       let done : List Cell = left.before ++ some in
       let start : List ℕ = head ++ flat_map f done in
@@ -169,8 +170,8 @@ module _ (bytes : List ℕ) (run : RunPlace) (cells : List Cell) (left : AreLeft
   rest_is : drop (20 + cell_bytes grouped * run.done) bytes ≡ flat_map f cells
   rest_is = ap (λ (m : ℕ). drop (20 + cell_bytes grouped * m) bytes) (omega arith) ∙ rest_at [] cells refl
 
-  pub readable : All (IsReadable grouped) cells
-  readable = (all_parts (IsReadable grouped) left.before cells
+  pub readable : All (IsReadableCell grouped) cells
+  readable = (all_parts (IsReadableCell grouped) left.before cells
       (are_readable (cells_of run.head.view whole) left.is.proper)).1
 
   pub each : All (IsCellOf run.head.view) cells
@@ -190,7 +191,7 @@ module _ (bytes : List ℕ) (run : RunPlace) (cells : List Cell) (left : AreLeft
         ∙ append_assoc (flat_map f piece) new later
 
     found : (rest : List Cell) × (cells ≡ piece ++ rest) × (new ++ later ≡ flat_map f rest)
-        × All (IsReadable grouped) rest
+        × All (IsReadableCell grouped) rest
     found = front grouped piece cells (new ++ later) reads.readable readable
         (omega (arith, few, left.many, left.done, reads.many)) (sym left_is)
 
@@ -209,7 +210,7 @@ module _ (bytes : List ℕ) (run : RunPlace) (cells : List Cell) (left : AreLeft
 pub cells_left : (text : Option (List ℕ)) (run : RunPlace) (cells : List Cell) → AreLeft text run cells
     → (k : ℕ) (d : Cell) → k < length cells
     → IsCellOf run.head.view (get_or cells k d) × KeyFits (get_or cells k d).key
-    × (run.least ≤ number_of (get_or cells k d).key)
+    × (run.least ≤ key_as_number (get_or cells k d).key)
 cells_left None run cells left k d within = absurd left.is
 cells_left (Some bytes) run cells left k d within = (
   each bytes run cells left k d within,
@@ -369,7 +370,7 @@ opened_text (Some bytes) ahead rest total id head many gives is spelled =
 
 -- a header that was read from the first bytes of a text was read from the text
 pub on_text : (text bytes new : List ℕ) (header : Header) → bytes ≡ take (length bytes) text
-    → ReadsHeader bytes new header → ReadsHeader text (new ++ drop (length bytes) text) header
+    → ReadsRunHeader bytes new header → ReadsRunHeader text (new ++ drop (length bytes) text) header
 on_text text bytes new header gives reads =
     let later : List ℕ = drop (length bytes) text in
     let all : text ≡ bytes ++ later = sym (take-append-drop (length bytes) text)
@@ -377,7 +378,7 @@ on_text text bytes new header gives reads =
     record {
       fits = reads.fits;
       spelled = all ∙ ap (λ (xs : List ℕ). xs ++ later) reads.spelled
-          ∙ append_assoc (header_of header.name.now header.view header.from header.to header.cells) new later;
+          ∙ append_assoc (run_header header.name.now header.view header.from header.to header.cells) new later;
       left = omega (arith, ap length all, length-append bytes later, length-append new later, reads.left);
     }
 

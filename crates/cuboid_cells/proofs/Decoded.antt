@@ -10,8 +10,8 @@ use Rattle.cuboid_cells.specs.declared.reading.Header.{Header}
 use Rattle.cuboid_cells.specs.declared.span.Span.{Span}
 use Rattle.cuboid_cells.specs.Cells.{FollowRules, KeepRules, PlainCells}
 use Rattle.cuboid_cells.specs.Limits.{most_cells}
-use Rattle.cuboid_cells.specs.Reading.{IsHeaderOf, IsHeaderWith, IsReadable, ReadsCells, ReadsHeader}
-use Rattle.cuboid_cells.specs.Spelled.{IsRun, cell_bytes, cell_of, header_of, name_of}
+use Rattle.cuboid_cells.specs.Reading.{IsHeaderOf, IsHeaderWith, IsReadableCell, ReadsCells, ReadsRunHeader}
+use Rattle.cuboid_cells.specs.Spelled.{IsRun, cell_bytes, cell_of, run_header, name_of}
 use Rattle.cuboid_cells.specs.Steps.{cells_of}
 use Rattle.cuboid_cells.proofs.CallerLemmas.{are_readable, cells-one, header-one, length-name_of, length-run_of}
 use Rattle.cuboid_cells.proofs.CallerLemmas.{views_below}
@@ -39,7 +39,7 @@ module _ (bytes : List ℕ) where
   pub too_short : length bytes < 20 → (span : Span) (plain : PlainCells) → IsRun bytes span plain → ⊥
   too_short short span plain is = omega (arith, short, ap length is.spelled, length-run_of span plain)
 
-  module _ (r0 : List ℕ) (header : Header) (reads : ReadsHeader bytes r0 header) where
+  module _ (r0 : List ℕ) (header : Header) (reads : ReadsRunHeader bytes r0 header) where
     -- the header of a run, and what is after it
     parts : (span : Span) (plain : PlainCells) → IsRun bytes span plain
         → (header.name.now ≡ name_of plain.view.ship_mode) × (header.view ≡ index_of plain.view)
@@ -85,16 +85,16 @@ module _ (bytes : List ℕ) where
       ends = reads1.spelled ∙ ap (λ (xs : List ℕ). flat_map (cell_of view.ship_mode) cells ++ xs) none_left
           ∙ append-nil (flat_map (cell_of view.ship_mode) cells)
 
-      spelled : bytes ≡ header_of (name_of view.ship_mode) (index_of view) header.from header.to (length cells)
+      spelled : bytes ≡ run_header (name_of view.ship_mode) (index_of view) header.from header.to (length cells)
           ++ flat_map (cell_of view.ship_mode) cells
       spelled =
           reads.spelled
-          ∙ ap (λ (xs : List ℕ). header_of header.name.now header.view header.from header.to header.cells ++ xs) ends
-          ∙ ap (λ (xs : List ℕ). header_of xs header.view header.from header.to header.cells
+          ∙ ap (λ (xs : List ℕ). run_header header.name.now header.view header.from header.to header.cells ++ xs) ends
+          ∙ ap (λ (xs : List ℕ). run_header xs header.view header.from header.to header.cells
           ++ flat_map (cell_of view.ship_mode) cells) heads.rest.name
-          ∙ ap (λ (n : ℕ). header_of (name_of view.ship_mode) n header.from header.to header.cells
+          ∙ ap (λ (n : ℕ). run_header (name_of view.ship_mode) n header.from header.to header.cells
           ++ flat_map (cell_of view.ship_mode) cells) heads.view
-          ∙ ap (λ (n : ℕ). header_of (name_of view.ship_mode) (index_of view) header.from header.to n
+          ∙ ap (λ (n : ℕ). run_header (name_of view.ship_mode) (index_of view) header.from header.to n
           ++ flat_map (cell_of view.ship_mode) cells) (sym reads1.many)
 
       -- the parts are a run, where the cells keep the rules
@@ -115,7 +115,7 @@ module _ (bytes : List ℕ) where
           let bytes_of : flat_map (cell_of view.ship_mode) cells ≡ flat_map (cell_of view.ship_mode) plain.cells =
           sym ends ∙ p.5 ∙ ap (λ (g : Bool). flat_map (cell_of g) plain.cells) grouped in
           let all = cells-one view.ship_mode cells plain.cells [] [] reads1.readable
-          (subst (λ (g : Bool). All (IsReadable g) plain.cells) grouped (are_readable plain is.proper))
+          (subst (λ (g : Bool). All (IsReadableCell g) plain.cells) grouped (are_readable plain is.proper))
           (reads1.many ∙ p.4)
           (append-nil (flat_map (cell_of view.ship_mode) cells) ∙ bytes_of
           ∙ sym (append-nil (flat_map (cell_of view.ship_mode) plain.cells))) in

@@ -16,10 +16,10 @@ use Rattle.wire.proofs.CallerLemmas.{IsRefused-later}
 use Rattle.cuboid_cells.specs.declared.cell.Cell.{Cell}
 use Rattle.cuboid_cells.specs.declared.skipping.Range.{Range}
 use Rattle.cuboid_cells.specs.declared.summary.Summary.{Summary}
-use Rattle.cuboid_cells.specs.Cells.{AreAscending, number_of}
+use Rattle.cuboid_cells.specs.Cells.{AreAscending, key_as_number}
 use Rattle.cuboid_cells.specs.Pieces.{AreLeft, AreParted, PassesOver, RunPlace, least_after}
-use Rattle.cuboid_cells.specs.Reading.{IsNumberIn, IsReadable}
-use Rattle.cuboid_cells.specs.Spelled.{cell_bytes, cell_of, key_of, summaries_of}
+use Rattle.cuboid_cells.specs.Reading.{IsNumberIn, IsReadableCell}
+use Rattle.cuboid_cells.specs.Spelled.{cell_bytes, cell_of, key_codes, summaries_of}
 use Rattle.wire.specs.Spelling.{spelling}
 use Rattle.cuboid_cells.proofs.CallerLemmas.{key-one}
 use Rattle.cuboid_cells.proofs.Climbing.{all_from, climbs_ascend, climbs_from}
@@ -48,7 +48,7 @@ no_cell = record {
 pub number_is : (text : Option (List ℕ)) (run : RunPlace) (cells : List Cell) (k : ℕ) (none : Cell) (part : List ℕ)
     (number : ℕ) → AreLeft text run cells → k < length cells
     → Gives text (20 + cell_bytes run.head.view.ship_mode * (run.done + k)) part
-    → IsNumberIn run.head.view.ship_mode part number → number ≡ number_of (get_or cells k none).key
+    → IsNumberIn run.head.view.ship_mode part number → number ≡ key_as_number (get_or cells k none).key
 number_is None run cells k none part number left inside gives is = absurd left.is
 number_is (Some bytes) run cells k none part number left inside gives is =
     let grouped : Bool = run.head.view.ship_mode in
@@ -62,24 +62,26 @@ number_is (Some bytes) run cells k none part number left inside gives is =
     ∙ rest_at bytes run cells left (take k cells) (drop k cells) (sym (take-append-drop k cells))
     ∙ ap (flat_map f) (drop-cons cells k none inside) in
     let more : List ℕ = drop (length part) (drop place bytes) in
-    let own : key_of grouped is.key ++ (is.rest ++ more) ≡ drop place bytes =
-    sym (append_assoc (key_of grouped is.key) is.rest more)
+    let own : key_codes grouped is.key ++ (is.rest ++ more) ≡ drop place bytes =
+    sym (append_assoc (key_codes grouped is.key) is.rest more)
     ∙ ap (λ (xs : List ℕ). xs ++ more) (sym is.reads.spelled ∙ gives)
     ∙ take-append-drop (length part) (drop place bytes) in
     let other : f cell ++ flat_map f later
-    ≡ key_of grouped cell.key ++ ((spelling 8 cell.count ++ summaries_of cell.measures) ++ flat_map f later) =
-    append_assoc (key_of grouped cell.key) (spelling 8 cell.count ++ summaries_of cell.measures) (flat_map f later) in
-    let good : IsReadable grouped cell = readable bytes run cells left k none inside in
+    ≡ key_codes grouped cell.key ++ ((spelling 8 cell.count ++ summaries_of cell.measures) ++ flat_map f later) =
+    append_assoc (key_codes grouped cell.key) (spelling 8 cell.count ++ summaries_of cell.measures)
+    (flat_map f later) in
+    let good : IsReadableCell grouped cell = readable bytes run cells left k none inside in
     let same = key-one grouped is.key cell.key (is.rest ++ more)
     ((spelling 8 cell.count ++ summaries_of cell.measures) ++ flat_map f later)
     is.reads.fits good.fits.key is.reads.absent good.absent (own ∙ rest ∙ other) in
-    is.is ∙ ap number_of same.0
+    is.is ∙ ap key_as_number same.0
 
 -- a key that is ahead
 pub ahead_is : (text : Option (List ℕ)) (run : RunPlace) (cells : List Cell) (place at : ℕ) (none : Cell)
     (bytes : List ℕ) (number : ℕ) → AreLeft text run cells → run.done ≤ place → place < run.head.count
     → at ≡ cell_bytes run.head.view.ship_mode * (place - run.done) → at ≤ length run.ahead → bytes ≡ drop at run.ahead
-    → IsNumberIn run.head.view.ship_mode bytes number → number ≡ number_of (get_or cells (place - run.done) none).key
+    → IsNumberIn run.head.view.ship_mode bytes number
+    → number ≡ key_as_number (get_or cells (place - run.done) none).key
 ahead_is text run cells place at none bytes number left from to at_is enough bytes_is is =
     let g : Bool = run.head.view.ship_mode in
     let k : ℕ = place - run.done in
@@ -94,7 +96,8 @@ ahead_is text run cells place at none bytes number left from to at_is enough byt
 pub alone_is : (text : Option (List ℕ)) (run : RunPlace) (cells : List Cell) (place at : ℕ) (none : Cell)
     (bytes : List ℕ) (number : ℕ) → AreLeft text run cells → run.done ≤ place → place < run.head.count
     → at ≡ 20 + cell_bytes run.head.view.ship_mode * place → Gives text at bytes
-    → IsNumberIn run.head.view.ship_mode bytes number → number ≡ number_of (get_or cells (place - run.done) none).key
+    → IsNumberIn run.head.view.ship_mode bytes number
+    → number ≡ key_as_number (get_or cells (place - run.done) none).key
 alone_is text run cells place at none bytes number left from to at_is gives is =
     let g : Bool = run.head.view.ship_mode in
     let k : ℕ = place - run.done in
@@ -109,42 +112,48 @@ ascends text run cells left = climbs_ascend run.least (least_after run.least cel
 
 module _ (least : ℕ) (cells : List Cell) (ascending : AreAscending cells) (none : Cell) (k : ℕ)
     (inside : k < length cells) where
-  below_to : number_of (get_or cells k none).key < least → All (λ cell. number_of cell.key < least) (take (suc k) cells)
+  below_to : key_as_number (get_or cells k none).key < least
+      → All (λ cell. key_as_number cell.key < least) (take (suc k) cells)
   below_to low = λ j d within.
       let here : j < suc k = omega (arith, within, length-take (suc k) cells) in
       let is : get_or (take (suc k) cells) j d ≡ get_or cells j d = get_or-take (suc k) cells j d here in
       let own : get_or cells k none ≡ get_or cells k d = get_or_default cells k none d inside in
-      let at : number_of (get_or cells j d).key < least =
+      let at : key_as_number (get_or cells j d).key < least =
       elim (cases_lt j k) [
-        | inl less ↦ omega (arith, ascending j k d less inside, low, ap (λ (c : Cell). number_of c.key) own)
+        | inl less ↦ omega (arith, ascending j k d less inside, low, ap (λ (c : Cell). key_as_number c.key) own)
         | inr last ↦ (let same : j ≡ k =
-            omega (arith, here, last) in omega
-            (arith, low, ap (λ (c : Cell). number_of c.key) own, ap (λ (m : ℕ). number_of (get_or cells m d).key) same))
+            omega (arith, here, last) in omega (
+              arith,
+              low,
+              ap (λ (c : Cell). key_as_number c.key) own,
+              ap (λ (m : ℕ). key_as_number (get_or cells m d).key) same,
+            ))
       ] in
-      subst (λ (c : Cell). number_of c.key < least) (sym is) at
+      subst (λ (c : Cell). key_as_number c.key < least) (sym is) at
 
-  above_from : least ≤ number_of (get_or cells k none).key → All (λ cell. least ≤ number_of cell.key) (drop k cells)
+  above_from : least ≤ key_as_number (get_or cells k none).key
+      → All (λ cell. least ≤ key_as_number cell.key) (drop k cells)
   above_from high = λ j d within.
       let here : k + j < length cells = omega (arith, within, length-drop k cells) in
       let is : get_or (drop k cells) j d ≡ get_or cells (k + j) d = get_or-drop k cells j d in
       let own : get_or cells k none ≡ get_or cells k d = get_or_default cells k none d inside in
-      let at : least ≤ number_of (get_or cells (k + j) d).key =
+      let at : least ≤ key_as_number (get_or cells (k + j) d).key =
       elim (cases_lt k (k + j)) [
-        | inl less ↦ omega (arith, ascending k (k + j) d less here, high, ap (λ (c : Cell). number_of c.key) own)
+        | inl less ↦ omega (arith, ascending k (k + j) d less here, high, ap (λ (c : Cell). key_as_number c.key) own)
         | inr first ↦ (let same : k + j ≡ k =
             omega (arith, first) in omega (
               arith,
               high,
-              ap (λ (c : Cell). number_of c.key) own,
-              ap (λ (m : ℕ). number_of (get_or cells m d).key) same,
+              ap (λ (c : Cell). key_as_number c.key) own,
+              ap (λ (m : ℕ). key_as_number (get_or cells m d).key) same,
             ))
       ] in
-      subst (λ (c : Cell). least ≤ number_of c.key) (sym is) at
+      subst (λ (c : Cell). least ≤ key_as_number c.key) (sym is) at
 
 -- a key at a place in a range leaves a part of the range
 pub halved : (text : Option (List ℕ)) (run : RunPlace) (cells : List Cell) (least place number : ℕ) (range next : Range)
     → AreLeft text run cells → run.done ≤ range.from → range.from ≤ place → place < range.to → range.to ≤ run.head.count
-    → number ≡ number_of (get_or cells (place - run.done) no_cell).key
+    → number ≡ key_as_number (get_or cells (place - run.done) no_cell).key
     → next ≡ (if nat_lt number least then record { from = place + 1; to = range.to } else
     record { from = range.from; to = place })
     → AreParted least (range.from - run.done) (range.to - run.done) cells
@@ -162,7 +171,7 @@ halved text run cells least place number range next left from order within to is
           (let low : number < least = grind (arith, nat_tests, e) in
           let next : suc k ≡ (place + 1) - run.done = omega (arith, from, order) in
           record {
-            below = subst (λ (n : ℕ). All (λ cell. number_of cell.key < least) (take n cells)) next
+            below = subst (λ (n : ℕ). All (λ cell. key_as_number cell.key < least) (take n cells)) next
                 (below_to least cells up no_cell k inside (subst (λ (n : ℕ). n < least) is low));
             above = parted.above;
           })
@@ -186,7 +195,7 @@ not_parted text run cells least from to first last left = record {
 -- ---- on to a place
 pub passed_to : (text : Option (List ℕ)) (run next : RunPlace) (cells : List Cell) (k : ℕ) → AreLeft text run cells
     → k ≤ length cells → next.head ≡ run.head → next.done ≡ run.done + k
-    → All (λ cell. next.least ≤ number_of cell.key) (drop k cells)
+    → All (λ cell. next.least ≤ key_as_number cell.key) (drop k cells)
     → Gives text (20 + cell_bytes next.head.view.ship_mode * next.done) next.ahead → AreLeft text next (drop k cells)
 passed_to text run next cells k left few head done above gives =
     let up = ascends text run cells left in
@@ -198,12 +207,12 @@ passed_to text run next cells k left few head done above gives =
     (climbs_from next.least (drop k cells) later above) gives
   where
     ascending_at : AreAscending cells → (i j : ℕ) (d : Cell) → i < j → k + j < length cells
-        → number_of (get_or (drop k cells) i d).key < number_of (get_or (drop k cells) j d).key
+        → key_as_number (get_or (drop k cells) i d).key < key_as_number (get_or (drop k cells) j d).key
     ascending_at up i j d before there =
-        let one : number_of (get_or (drop k cells) i d).key ≡ number_of (get_or cells (k + i) d).key =
-        ap (λ (c : Cell). number_of c.key) (get_or-drop k cells i d) in
-        let other : number_of (get_or (drop k cells) j d).key ≡ number_of (get_or cells (k + j) d).key =
-        ap (λ (c : Cell). number_of c.key) (get_or-drop k cells j d) in
+        let one : key_as_number (get_or (drop k cells) i d).key ≡ key_as_number (get_or cells (k + i) d).key =
+        ap (λ (c : Cell). key_as_number c.key) (get_or-drop k cells i d) in
+        let other : key_as_number (get_or (drop k cells) j d).key ≡ key_as_number (get_or cells (k + j) d).key =
+        ap (λ (c : Cell). key_as_number c.key) (get_or-drop k cells j d) in
         omega (arith, one, other, up (k + i) (k + j) d (omega (arith, before)) there)
 
 -- what is ahead then

@@ -9,7 +9,7 @@ use Rattle.std.proofs.lemmas.List.Folds.{find-append}
 use Rattle.lattice.specs.declared.view.View.{View}
 use Rattle.cuboid_cells.specs.declared.cell.Cell.{Cell}
 use Rattle.cuboid_cells.specs.declared.merging.Step.{Step}
-use Rattle.cuboid_cells.specs.Cells.{AreProper, CellFits, IsCellOf, cell_at, number_of}
+use Rattle.cuboid_cells.specs.Cells.{AreProperCells, CellFits, IsCellOf, cell_at, key_as_number}
 use Rattle.cuboid_cells.specs.Limits.{most_cells}
 use Rattle.cuboid_cells.specs.Merges.{HasTooMany, PassesType, merged, merged_if_any}
 use Rattle.cuboid_cells.specs.Steps.{AreMerged, HaveBadFirsts, IsBelowFirst, IsStep, TakesBoth, TakesOne, cells_of}
@@ -66,26 +66,28 @@ both_by : (one other : Cell) (a b : Option Cell) (is : Bool)
 both_by one other a b true = refl
 both_by one other a b false = refl
 
-one_key : (cell : Cell) (left right : List Cell) → Climbs (number_of cell.key + 1) right → (key : ℕ)
+one_key : (cell : Cell) (left right : List Cell) → Climbs (key_as_number cell.key + 1) right → (key : ℕ)
     → merged_if_any (cell_at key (cell ∷ left)) (cell_at key right)
     ≡ option_or (cell_at key (cell ∷ [])) (merged_if_any (cell_at key left) (cell_at key right))
 one_key cell left right above key =
-    one_by cell (cell_at key left) (cell_at key right) (number_of cell.key == key)
-    (λ yes. none_at (number_of cell.key + 1) key right above (omega (arith, eqb-true (number_of cell.key) key yes)))
+    one_by cell (cell_at key left) (cell_at key right) (key_as_number cell.key == key)
+    (λ yes. none_at (key_as_number cell.key + 1) key right above
+    (omega (arith, eqb-true (key_as_number cell.key) key yes)))
 
-other_key : (cell : Cell) (left right : List Cell) → Climbs (number_of cell.key + 1) left → (key : ℕ)
+other_key : (cell : Cell) (left right : List Cell) → Climbs (key_as_number cell.key + 1) left → (key : ℕ)
     → merged_if_any (cell_at key left) (cell_at key (cell ∷ right))
     ≡ option_or (cell_at key (cell ∷ [])) (merged_if_any (cell_at key left) (cell_at key right))
 other_key cell left right above key =
-    other_by cell (cell_at key left) (cell_at key right) (number_of cell.key == key)
-    (λ yes. none_at (number_of cell.key + 1) key left above (omega (arith, eqb-true (number_of cell.key) key yes)))
+    other_by cell (cell_at key left) (cell_at key right) (key_as_number cell.key == key)
+    (λ yes. none_at (key_as_number cell.key + 1) key left above
+    (omega (arith, eqb-true (key_as_number cell.key) key yes)))
 
-both_keys : (a b : Cell) (left right : List Cell) → number_of a.key ≡ number_of b.key → (key : ℕ)
+both_keys : (a b : Cell) (left right : List Cell) → key_as_number a.key ≡ key_as_number b.key → (key : ℕ)
     → merged_if_any (cell_at key (a ∷ left)) (cell_at key (b ∷ right))
     ≡ option_or (cell_at key (merged a b ∷ [])) (merged_if_any (cell_at key left) (cell_at key right))
 both_keys a b left right same key =
     ap (λ (n : ℕ). merged_if_any (cell_at key (a ∷ left)) (cond (n == key) (Some b) (cell_at key right))) (sym same)
-    ∙ both_by a b (cell_at key left) (cell_at key right) (number_of a.key == key)
+    ∙ both_by a b (cell_at key left) (cell_at key right) (key_as_number a.key == key)
 
 -- one cell more was put out
 put_out : (out : List Cell) (cell : Cell) (key : ℕ) (all before after : Option Cell)
@@ -94,7 +96,7 @@ put_out : (out : List Cell) (cell : Cell) (key : ℕ) (all before after : Option
 put_out out cell key all before after was is =
     was ∙ ap (option_or (cell_at key out)) is ∙ or_then (cell_at key out) (cell_at key (cell ∷ [])) after
     ∙ ap (λ (o : Option Cell). option_or o after)
-    (sym (find-append (λ (c : Cell). number_of c.key == key) out (cell ∷ [])))
+    (sym (find-append (λ (c : Cell). key_as_number c.key == key) out (cell ∷ [])))
 
 in_tail : (cell : Cell) (cells : List Cell) (found : Cell) → Contains cells found → Contains (cell ∷ cells) found
 in_tail cell cells found is = (suc is.0, omega (arith, is.1), is.2)
@@ -104,7 +106,7 @@ in_head cell cells = (zero, omega arith, refl)
 
 -- cells after a first one that is above a key are above it
 after_first : (cell : Cell) (high : ℕ) (cells : List Cell) → IsBelowFirst cell cells → Climbs high cells
-    → Climbs (number_of cell.key + 1) cells
+    → Climbs (key_as_number cell.key + 1) cells
 after_first cell high [] below climbs = tt
 after_first cell high (first ∷ cells) below climbs = (omega (arith, below), climbs.1)
 
@@ -125,7 +127,7 @@ module _ (view : View) (one other out : List Cell) where
   step_left left right cell m below =
       let above = after_first cell m.high right below m.right_climbs in record {
         by_key = λ key. put_out out cell key _ _ _ (m.by_key key) (one_key cell left right above key);
-        high = number_of cell.key + 1;
+        high = key_as_number cell.key + 1;
         climb = climb_more 0 m.high out cell m.climb m.left_climbs.0;
         left_climbs = m.left_climbs.1;
         right_climbs = above;
@@ -142,7 +144,7 @@ module _ (view : View) (one other out : List Cell) where
   step_right left right cell m below =
       let above = after_first cell m.high left below m.left_climbs in record {
         by_key = λ key. put_out out cell key _ _ _ (m.by_key key) (other_key cell left right above key);
-        high = number_of cell.key + 1;
+        high = key_as_number cell.key + 1;
         climb = climb_more 0 m.high out cell m.climb m.right_climbs.0;
         left_climbs = above;
         right_climbs = m.right_climbs.1;
@@ -154,14 +156,15 @@ module _ (view : View) (one other out : List Cell) where
       }
 
   step_both : (left right : List Cell) (a b : Cell) → Merging view one other out (a ∷ left) (b ∷ right)
-      → number_of a.key ≡ number_of b.key
+      → key_as_number a.key ≡ key_as_number b.key
       → CellFits (merged a b) → Merging view one other (out ++ merged a b ∷ []) left right
   step_both left right a b m same fits = record {
     by_key = λ key. put_out out (merged a b) key _ _ _ (m.by_key key) (both_keys a b left right same key);
-    high = number_of a.key + 1;
+    high = key_as_number a.key + 1;
     climb = climb_more 0 m.high out (merged a b) m.climb m.left_climbs.0;
     left_climbs = m.left_climbs.1;
-    right_climbs = lower (number_of a.key + 1) (number_of b.key + 1) right (omega (arith, same)) m.right_climbs.1;
+    right_climbs = lower (key_as_number a.key + 1) (key_as_number b.key + 1) right (omega (arith, same))
+        m.right_climbs.1;
     out_good = good_more view out (merged a b) m.out_good
         (good_merge view a b (All-head (IsGood view) a left m.left_good) fits);
     left_good = All-tail (IsGood view) a left m.left_good;
@@ -251,7 +254,8 @@ none_left left right o is said =
     subst (λ (p : Option Step). MatchOption p ((left ≡ []) × (right ≡ [])) (IsStep left right)) is said
 
 -- before the first step
-pub at_first : (view : View) (one other : List Cell) → AreProper (cells_of view one) → AreProper (cells_of view other)
+pub at_first : (view : View) (one other : List Cell) → AreProperCells (cells_of view one)
+    → AreProperCells (cells_of view other)
     → Merging view one other [] one other
 at_first view one other proper also = record {
   by_key = λ key. refl;
@@ -273,6 +277,6 @@ has_too_many view one other cells are many = record { cells = cells; are = are.m
 
 -- or its cells are those of a cuboid
 pub are_proper : (view : View) (one other cells : List Cell) → AreMerged view one other cells
-    → length cells ≤ most_cells → AreProper (cells_of view cells)
+    → length cells ≤ most_cells → AreProperCells (cells_of view cells)
 are_proper view one other cells are few =
     record { rules = record { few = few; each = are.each; ascending = are.merge.ascending }; fit = are.fit }

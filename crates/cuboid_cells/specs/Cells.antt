@@ -14,8 +14,9 @@ use Rattle.cuboid_cells.specs.declared.summary.Summary.{Summary}
 use Rattle.cuboid_cells.specs.Limits.{all_code, most_cells}
 
 -- the codes of a key as the digits of a number to the base 65,536, the customer's first: keys ascend by their codes
-abbrev pub number_of : Key → ℕ
-number_of key = (((key.customer * 65536 + key.supplier) * 65536 + key.part) * 65536 + key.date) * 65536 + key.ship_mode
+abbrev pub key_as_number : Key → ℕ
+key_as_number key = (((key.customer * 65536 + key.supplier) * 65536 + key.part) * 65536 + key.date) * 65536
+    + key.ship_mode
 
 -- the code on an axis is that of every member exactly where the view does not group the axis
 abbrev pub IsCodeAt : Level → ℕ → Type 0
@@ -69,7 +70,7 @@ pub record IsCellOf (view : View) (cell : Cell) : Type 0 where
 
 -- cells ascend by their keys, so no two have one key
 abbrev pub AreAscending : List Cell → Type 0
-AreAscending cells = AllPairs (λ one other. number_of one.key < number_of other.key) cells
+AreAscending cells = AllPairs (λ one other. key_as_number one.key < key_as_number other.key) cells
 
 -- the cells of a view, wherever they lie in memory
 pub record PlainCells : Type 0 where
@@ -87,10 +88,10 @@ pub record KeepRules (view : View) (cells : List Cell) : Type 0 where
   pub ascending : AreAscending cells
 
 -- all of them
-pub record AreProper (plain : PlainCells) : Type 0 where
+pub record AreProperCells (plain : PlainCells) : Type 0 where
   pub rules : KeepRules plain.view plain.cells
   pub fit : All CellFits plain.cells
 
 -- the cell of a key, identified by its number, if there is one
 abbrev pub cell_at : ℕ → List Cell → Option Cell
-cell_at key cells = find (λ cell. number_of cell.key == key) cells
+cell_at key cells = find (λ cell. key_as_number cell.key == key) cells

@@ -8,7 +8,7 @@ use Rattle.lattice.specs.Views.{index_of}
 use Rattle.cuboid_cells.specs.declared.cell.Cell.{Cell}
 use Rattle.cuboid_cells.specs.declared.summary.Summaries.{Summaries}
 use Rattle.cuboid_cells.specs.declared.summary.Summary.{Summary}
-use Rattle.cuboid_cells.specs.Cells.{AreAscending, CellFits, PlainCells, cell_at, number_of}
+use Rattle.cuboid_cells.specs.Cells.{AreAscending, CellFits, PlainCells, cell_at, key_as_number}
 use Rattle.cuboid_cells.specs.Limits.{most_cells}
 
 -- what is kept of the numbers of two sets of rows: the sum of the sums, the less of the least, the greater of the
@@ -61,7 +61,7 @@ pub record PassesType (one other : List Cell) : Type 0 where
   pub right : Cell
   pub in_one : Contains one left
   pub in_other : Contains other right
-  pub key : number_of left.key ≡ number_of right.key
+  pub key : key_as_number left.key ≡ key_as_number right.key
   pub passes : CellFits (merged left right) → ⊥
 
 -- the merge has more cells than a cuboid can have

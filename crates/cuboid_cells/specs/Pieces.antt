@@ -7,9 +7,9 @@ use Rattle.lattice.specs.Views.{index_of}
 use Rattle.cuboid_cells.specs.declared.cell.Cell.{Cell}
 use Rattle.cuboid_cells.specs.declared.head.RunHead.{RunHead}
 use Rattle.cuboid_cells.specs.declared.span.Span.{Span}
-use Rattle.cuboid_cells.specs.Cells.{IsCellOf, PlainCells, number_of}
+use Rattle.cuboid_cells.specs.Cells.{IsCellOf, PlainCells, key_as_number}
 use Rattle.cuboid_cells.specs.Limits.{most_cells}
-use Rattle.cuboid_cells.specs.Spelled.{IsRun, IsSpan, cell_bytes, header_of, name_of}
+use Rattle.cuboid_cells.specs.Spelled.{IsRun, IsSpan, cell_bytes, run_header, name_of}
 use Rattle.cuboid_cells.specs.Steps.{cells_of}
 
 -- the bytes that can be read ahead
@@ -19,12 +19,12 @@ most_ahead = 65536
 -- each key is above those before it, and none is below `low`
 abbrev pub Climbs : ℕ → List Cell → Type 0
 Climbs low [] = Unit {0}
-Climbs low (cell ∷ cells) = (low ≤ number_of cell.key) × Climbs (number_of cell.key + 1) cells
+Climbs low (cell ∷ cells) = (low ≤ key_as_number cell.key) × Climbs (key_as_number cell.key + 1) cells
 
 -- the least key after cells that climb from `low`
 abbrev pub least_after : ℕ → List Cell → ℕ
 least_after low [] = low
-least_after low (cell ∷ cells) = least_after (number_of cell.key + 1) cells
+least_after low (cell ∷ cells) = least_after (key_as_number cell.key + 1) cells
 
 -- cells of a view whose keys climb from a number on
 abbrev pub AreCellsFrom : View → ℕ → List Cell → Type 0
@@ -32,7 +32,8 @@ AreCellsFrom view low cells = All (IsCellOf view) cells × Climbs low cells
 
 -- the bytes before the cells
 abbrev pub bytes_of_head : RunHead → List ℕ
-bytes_of_head head = header_of (name_of head.view.ship_mode) (index_of head.view) head.span.from head.span.to head.count
+bytes_of_head head = run_header (name_of head.view.ship_mode) (index_of head.view) head.span.from head.span.to
+    head.count
 
 -- a run, up to where it is read: the text that it has, its header, how many cells were read or passed over, the least
 -- key that can follow them, and the bytes after them that were read ahead
@@ -83,11 +84,11 @@ pub record PassesOver (text : Option (List ℕ)) (left : List Cell) (least : ℕ
   pub passed : List Cell
   pub rest : List Cell
   pub parts : left ≡ passed ++ rest
-  pub below : All (λ cell. number_of cell.key < least) passed
-  pub above : All (λ cell. least ≤ number_of cell.key) rest
+  pub below : All (λ cell. key_as_number cell.key < least) passed
+  pub above : All (λ cell. least ≤ key_as_number cell.key) rest
   pub now : AreLeft text next rest
 
 -- the cells before a place have keys with numbers below one, and those from another place on have not
 pub record AreParted (least from to : ℕ) (cells : List Cell) : Type 0 where
-  pub below : All (λ cell. number_of cell.key < least) (take from cells)
-  pub above : All (λ cell. least ≤ number_of cell.key) (drop to cells)
+  pub below : All (λ cell. key_as_number cell.key < least) (take from cells)
+  pub above : All (λ cell. least ≤ key_as_number cell.key) (drop to cells)

@@ -8,9 +8,9 @@ use Rattle.cuboid_cells.specs.declared.key.Key.{Key}
 use Rattle.cuboid_cells.specs.declared.reading.Header.{Header}
 use Rattle.cuboid_cells.specs.declared.summary.Summaries.{Summaries}
 use Rattle.cuboid_cells.specs.declared.summary.Summary.{Summary}
-use Rattle.cuboid_cells.specs.Cells.{CellFits, KeyFits, SummariesFit, SummaryFits, number_of}
+use Rattle.cuboid_cells.specs.Cells.{CellFits, KeyFits, SummariesFit, SummaryFits, key_as_number}
 use Rattle.cuboid_cells.specs.Limits.{all_code, most_cells}
-use Rattle.cuboid_cells.specs.Spelled.{cell_bytes, cell_of, header_of, key_of, mode_bytes, mode_of, name_of}
+use Rattle.cuboid_cells.specs.Spelled.{cell_bytes, cell_of, run_header, key_codes, mode_bytes, mode_of, name_of}
 use Rattle.cuboid_cells.specs.Spelled.{summaries_of, summary_of}
 
 -- the header of a run that has so many bytes, with a fifth code or none in each cell
@@ -34,9 +34,9 @@ pub record HeaderFits (header : Header) : Type 0 where
   pub cells : header.cells < 2 ^ 32
 
 -- a header was read from the front of `old`, and `new` is left
-pub record ReadsHeader (old new : List ℕ) (header : Header) : Type 0 where
+pub record ReadsRunHeader (old new : List ℕ) (header : Header) : Type 0 where
   pub fits : HeaderFits header
-  pub spelled : old ≡ header_of header.name.now header.view header.from header.to header.cells ++ new
+  pub spelled : old ≡ run_header header.name.now header.view header.from header.to header.cells ++ new
   pub left : length old ≡ 20 + length new
 
 -- a fifth code was read from the front of `old`, if there is one, and `new` is left
@@ -50,7 +50,7 @@ pub record ReadsMode (grouped : Bool) (old new : List ℕ) (code : ℕ) : Type 0
 pub record ReadsKey (grouped : Bool) (old new : List ℕ) (key : Key) : Type 0 where
   pub fits : KeyFits key
   pub absent : grouped ≡ false → key.ship_mode ≡ all_code
-  pub spelled : old ≡ key_of grouped key ++ new
+  pub spelled : old ≡ key_codes grouped key ++ new
   pub left : length old ≡ 8 + mode_bytes grouped + length new
 
 -- the number of the key at the front of bytes
@@ -58,7 +58,7 @@ pub record IsNumberIn (grouped : Bool) (bytes : List ℕ) (number : ℕ) : Type 
   pub key : Key
   pub rest : List ℕ
   pub reads : ReadsKey grouped bytes rest key
-  pub is : number ≡ number_of key
+  pub is : number ≡ key_as_number key
 
 -- what is kept of a measure was read from the front of `old`, and `new` is left
 pub record ReadsSummary (old new : List ℕ) (summary : Summary) : Type 0 where
@@ -81,19 +81,19 @@ pub record ReadsSummaries (old new : List ℕ) (measures : Summaries) : Type 0 w
   pub left : length old ≡ 144 + length new
 
 -- a cell fits its fields, and has a fifth code only where it is spelled
-pub record IsReadable (grouped : Bool) (cell : Cell) : Type 0 where
+pub record IsReadableCell (grouped : Bool) (cell : Cell) : Type 0 where
   pub fits : CellFits cell
   pub absent : grouped ≡ false → cell.key.ship_mode ≡ all_code
 
 -- a cell was read from the front of `old`, and `new` is left
 pub record ReadsCell (grouped : Bool) (old new : List ℕ) (cell : Cell) : Type 0 where
-  pub readable : IsReadable grouped cell
+  pub readable : IsReadableCell grouped cell
   pub spelled : old ≡ cell_of grouped cell ++ new
   pub left : length old ≡ cell_bytes grouped + length new
 
 -- so many cells were read from the front of `old`, and `new` is left
 pub record ReadsCells (grouped : Bool) (count : ℕ) (old new : List ℕ) (cells : List Cell) : Type 0 where
-  pub readable : All (IsReadable grouped) cells
+  pub readable : All (IsReadableCell grouped) cells
   pub many : length cells ≡ count
   pub spelled : old ≡ flat_map (cell_of grouped) cells ++ new
   pub left : length old ≡ cell_bytes grouped * count + length new

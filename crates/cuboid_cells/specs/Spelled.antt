@@ -9,7 +9,7 @@ use Rattle.cuboid_cells.specs.declared.key.Key.{Key}
 use Rattle.cuboid_cells.specs.declared.span.Span.{Span}
 use Rattle.cuboid_cells.specs.declared.summary.Summaries.{Summaries}
 use Rattle.cuboid_cells.specs.declared.summary.Summary.{Summary}
-use Rattle.cuboid_cells.specs.Cells.{AreProper, PlainCells}
+use Rattle.cuboid_cells.specs.Cells.{AreProperCells, PlainCells}
 
 -- the first bytes of a run, where the view does not group by ship mode and where it does
 abbrev pub name_of : Bool → List ℕ
@@ -31,8 +31,8 @@ abbrev pub cell_bytes : Bool → ℕ
 cell_bytes grouped = 160 + mode_bytes grouped
 
 -- the codes of a key
-abbrev pub key_of : Bool → Key → List ℕ
-key_of grouped key =
+abbrev pub key_codes : Bool → Key → List ℕ
+key_codes grouped key =
     spelling 2 key.customer ++ (spelling 2 key.supplier ++ (spelling 2 key.part
     ++ (spelling 2 key.date ++ mode_of grouped key.ship_mode)))
 
@@ -48,17 +48,17 @@ summaries_of measures =
 
 -- a cell: the codes, how many rows, the measures
 abbrev pub cell_of : Bool → Cell → List ℕ
-cell_of grouped cell = key_of grouped cell.key ++ (spelling 8 cell.count ++ summaries_of cell.measures)
+cell_of grouped cell = key_codes grouped cell.key ++ (spelling 8 cell.count ++ summaries_of cell.measures)
 
 -- the 20 bytes before the cells: the name, the view's number, the batches, how many cells
-abbrev pub header_of : List ℕ → ℕ → ℕ → ℕ → ℕ → List ℕ
-header_of name view from to cells =
+abbrev pub run_header : List ℕ → ℕ → ℕ → ℕ → ℕ → List ℕ
+run_header name view from to cells =
     name ++ (spelling 4 view ++ (spelling 4 from ++ (spelling 4 to ++ spelling 4 cells)))
 
 -- the bytes of a run: the header, each cell
 abbrev pub run_of : Span → PlainCells → List ℕ
 run_of span plain =
-    header_of (name_of plain.view.ship_mode) (index_of plain.view) span.from span.to (length plain.cells)
+    run_header (name_of plain.view.ship_mode) (index_of plain.view) span.from span.to (length plain.cells)
     ++ flat_map (cell_of plain.view.ship_mode) plain.cells
 
 -- batches that a run can hold: at least one
@@ -70,7 +70,7 @@ pub record IsSpan (span : Span) : Type 0 where
 pub record IsRun (bytes : List ℕ) (batches : Span) (plain : PlainCells) : Type 0 where
   pub spelled : bytes ≡ run_of batches plain
   pub span : IsSpan batches
-  pub proper : AreProper plain
+  pub proper : AreProperCells plain
 
 -- there is no text, or it is that of no run
 abbrev pub HoldsNoRun : Option (List ℕ) → Type 0

@@ -3,7 +3,7 @@ use Rattle.std.specs.Prelude.{◌≡◌, ◌⊎◌, ◌<◌, List, [], ◌∷◌
 use Rattle.lattice.specs.declared.view.View.{View}
 use Rattle.cuboid_cells.specs.declared.cell.Cell.{Cell}
 use Rattle.cuboid_cells.specs.declared.merging.Step.{Step}
-use Rattle.cuboid_cells.specs.Cells.{CellFits, IsCellOf, PlainCells, number_of}
+use Rattle.cuboid_cells.specs.Cells.{CellFits, IsCellOf, PlainCells, key_as_number}
 use Rattle.cuboid_cells.specs.Merges.{AreMergeOf, merged}
 
 -- cells of a view, wherever they lie in memory
@@ -13,7 +13,7 @@ cells_of view cells = record { view = view; cells = cells }
 -- a cell has a key below that of the first of cells
 abbrev pub IsBelowFirst : Cell → List Cell → Type 0
 IsBelowFirst cell [] = Unit {0}
-IsBelowFirst cell (first ∷ cells) = number_of cell.key < number_of first.key
+IsBelowFirst cell (first ∷ cells) = key_as_number cell.key < key_as_number first.key
 
 -- a cell was taken from the front of `cells`, and not from the others, where no cell has its key
 pub record TakesOne (cells others : List Cell) (cell : Cell) (left others_left : List Cell) : Type 0 where
@@ -27,7 +27,7 @@ pub record TakesBoth (one other : List Cell) (cell : Cell) (one_left other_left 
   pub right : Cell
   pub in_one : one ≡ left ∷ one_left
   pub in_other : other ≡ right ∷ other_left
-  pub key : number_of left.key ≡ number_of right.key
+  pub key : key_as_number left.key ≡ key_as_number right.key
   pub is : cell ≡ merged left right
   pub fits : CellFits cell
 
@@ -46,7 +46,7 @@ pub record HaveBadFirsts (one other : List Cell) : Type 0 where
   pub others : List Cell
   pub in_one : one ≡ left ∷ ones
   pub in_other : other ≡ right ∷ others
-  pub key : number_of left.key ≡ number_of right.key
+  pub key : key_as_number left.key ≡ key_as_number right.key
   pub passes : CellFits (merged left right) → ⊥
 
 -- cells of a view were merged, and are cells of that view

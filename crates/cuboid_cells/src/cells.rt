@@ -1,7 +1,7 @@
 //! The cells of a view.
 ghost use Rattle.std.specs.Prelude.{◌≡◌, ◌⊎◌, ◌<◌, [], IfErr, IfOk, OnErr, OnOk};
 ghost use Rattle.cube_model.specs.declared.fault.Fault.{Fault};
-ghost use Rattle.cuboid_cells.specs.Cells.{AreProper, PlainCells};
+ghost use Rattle.cuboid_cells.specs.Cells.{AreProperCells, PlainCells};
 ghost use Rattle.cuboid_cells.specs.Merges.{IsMergeFault, IsMergeOf};
 ghost use Rattle.cuboid_cells.specs.Spelled.{IsRun};
 
@@ -24,13 +24,13 @@ pub struct Cells {
 }
 
 impl Model for Cells {
-    ghost use Rattle.cuboid_cells.specs.Cells.{AreProper, PlainCells};
+    ghost use Rattle.cuboid_cells.specs.Cells.{AreProperCells, PlainCells};
 
     ghost Value = { PlainCells };
 
     ghost view = { λ cells. record { view = cells.view; cells = cells.cells.items } };
 
-    ghost invariant = { λ cells. AreProper (record { view = cells.view; cells = cells.cells.items }) };
+    ghost invariant = { λ cells. AreProperCells (record { view = cells.view; cells = cells.cells.items }) };
 }
 
 impl Cells {
@@ -48,7 +48,7 @@ impl Cells {
 
     /// Cells that keep the rules of the cells of a view.
     pub fn of(view: View, cells: Vec<Cell>) -> Cells
-        requires { AreProper (record { view = view; cells = cells.items }) }
+        requires { AreProperCells (record { view = view; cells = cells.items }) }
         ensures { result ≡ record { view = view; cells = cells.items } }
     {
         Cells { view, cells }
@@ -59,7 +59,7 @@ impl Cells {
         ensures value { result ≡ self.now.view }
 
         // Cells keep their rules.
-        ensures proper { AreProper self.now }
+        ensures proper { AreProperCells self.now }
     {
         self.view
     }

@@ -2,7 +2,7 @@
 ghost use Rattle.std.specs.Prelude.{◌≡◌, ◌+◌, ◌++◌, IfErr, OnOk};
 ghost use Rattle.std.specs.List.{flat_map};
 ghost use Rattle.cube_model.specs.declared.fault.Fault.{Fault};
-ghost use Rattle.cuboid_cells.specs.Spelled.{cell_bytes, cell_of, header_of, key_of, mode_bytes, mode_of, name_of};
+ghost use Rattle.cuboid_cells.specs.Spelled.{cell_bytes, cell_of, run_header, key_codes, mode_bytes, mode_of, name_of};
 ghost use Rattle.cuboid_cells.specs.Spelled.{summaries_of, summary_of};
 
 use crate::cell::Cell;
@@ -51,7 +51,7 @@ pub(crate) fn push_header(
     cells: u32,
 ) -> Result<(), Fault>
     ensures ok { OnOk result
-        (out.new.items ≡ out.old.items ++ header_of (name_of ship_modes) view span.from span.to cells) }
+        (out.new.items ≡ out.old.items ++ run_header (name_of ship_modes) view span.from span.to cells) }
     ensures memory { IfErr result (λ fault. fault ≡ Fault.Memory) }
 {
     push_bytes(out, name(ship_modes))?;
@@ -82,7 +82,7 @@ fn push_cell(out: &mut Vec<u8>, ship_modes: bool, cell: &Cell) -> Result<(), Fau
 }
 
 fn push_key(out: &mut Vec<u8>, ship_modes: bool, key: Key) -> Result<(), Fault>
-    ensures ok { OnOk result (out.new.items ≡ out.old.items ++ key_of ship_modes key) }
+    ensures ok { OnOk result (out.new.items ≡ out.old.items ++ key_codes ship_modes key) }
     ensures memory { IfErr result (λ fault. fault ≡ Fault.Memory) }
 {
     push_u16(out, key.customer)?;

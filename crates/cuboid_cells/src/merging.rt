@@ -1,7 +1,7 @@
 //! Merging cells of one view.
 ghost use Rattle.std.specs.Prelude.{◌≡◌, [], IfErr, IfOk, MatchOption};
 ghost use Rattle.cube_model.specs.declared.fault.Fault.{Fault};
-ghost use Rattle.cuboid_cells.specs.Cells.{AreProper};
+ghost use Rattle.cuboid_cells.specs.Cells.{AreProperCells};
 ghost use Rattle.cuboid_cells.specs.Merges.{AreMergeOf, IsMergeFault};
 ghost use Rattle.cuboid_cells.specs.Steps.{HaveBadFirsts, IsStep, cells_of};
 
@@ -26,10 +26,10 @@ pub(crate) fn merge_cells(
     one: &[Cell],
     other: &[Cell],
 ) -> Result<Vec<Cell>, Fault>
-    requires one { AreProper (cells_of view one.now) }
-    requires other { AreProper (cells_of view other.now) }
+    requires one { AreProperCells (cells_of view one.now) }
+    requires other { AreProperCells (cells_of view other.now) }
     ensures ok { IfOk result (λ cells. AreMergeOf one.now other.now cells.items) }
-    ensures proper { IfOk result (λ cells. AreProper (cells_of view cells.items)) }
+    ensures proper { IfOk result (λ cells. AreProperCells (cells_of view cells.items)) }
     ensures refused { IfErr result (IsMergeFault (cells_of view one.now) (cells_of view other.now)) }
 {
     let most = one.len() + other.len();

@@ -4,7 +4,7 @@ ghost use Rattle.std.specs.Prelude.{IsOkUnless, IsTrue, OnOk};
 ghost use Rattle.cuboid_cells.specs.Cells.{FollowRules};
 ghost use Rattle.cube_model.specs.declared.fault.Fault.{Fault};
 ghost use Rattle.cuboid_cells.specs.Pieces.{AreCellsFrom, least_after};
-ghost use Rattle.cuboid_cells.specs.Reading.{IsNumberIn, ReadsCell, ReadsCells, ReadsHeader, ReadsKey, ReadsMode};
+ghost use Rattle.cuboid_cells.specs.Reading.{IsNumberIn, ReadsCell, ReadsCells, ReadsRunHeader, ReadsKey, ReadsMode};
 ghost use Rattle.cuboid_cells.specs.Reading.{ReadsSummaries, ReadsSummary, ReadsThree};
 ghost use Rattle.cuboid_cells.specs.Spelled.{cell_bytes, mode_bytes};
 
@@ -62,7 +62,7 @@ impl<'a> Header<'a> {
 
 // The header at the front of bytes.
 pub(crate) fn read_header<'a>(cursor: &mut Cursor<'a>) -> Result<Header<'a>, Fault>
-    ensures ok { IfOk result (ReadsHeader cursor.old cursor.new) }
+    ensures ok { IfOk result (ReadsRunHeader cursor.old cursor.new) }
     ensures short { IsErr result ↔ (length cursor.old < 20) }
     ensures fault { IsOkUnless result Fault.BadLayout }
 {

@@ -3,7 +3,7 @@ ghost use Rattle.std.specs.Prelude.{◌≡◌, ◌+◌, ◌-◌, ◌<◌, ◌≤
 ghost use Rattle.std.specs.Prelude.{if◌then◌else◌, All, IfOk, IfSome, MatchResult, OnOk};
 ghost use Rattle.cube_model.specs.declared.fault.Fault.{Fault};
 ghost use Rattle.wire.specs.Runs.{HasRead, IsRefused};
-ghost use Rattle.cuboid_cells.specs.Cells.{number_of};
+ghost use Rattle.cuboid_cells.specs.Cells.{key_as_number};
 ghost use Rattle.cuboid_cells.specs.Pieces.{AreLeft, AreParted, PassesOver, size_of_run};
 ghost use Rattle.cuboid_cells.specs.declared.cell.Cell.{Cell};
 
@@ -78,7 +78,7 @@ impl RunReader {
         ensures done { self.new.done ≡ place }
         ensures least { self.new.least ≡ least }
         ensures ok { (text : Option (List ℕ)) (left : List Cell) → AreLeft text self.old left
-            → All (λ cell. least ≤ number_of cell.key) (drop (place - self.old.done) left)
+            → All (λ cell. least ≤ key_as_number cell.key) (drop (place - self.old.done) left)
             → AreLeft text self.new (drop (place - self.old.done) left) }
     {
         let bytes = bytes_of_cell(self.head.view.ship_mode) * (place - self.done);
@@ -164,7 +164,7 @@ impl RunReader {
         requires within { place < self.now.head.count }
         ensures ok { IfOk result (λ number. S.keeps_word source.new → (left : List Cell) (none : Cell)
             → AreLeft (S.texts source.old self.now.id) self.now left
-            → number ≡ number_of (slice_index_or left (place - self.now.done) none).key) }
+            → number ≡ key_as_number (slice_index_or left (place - self.now.done) none).key) }
         ensures run { MatchResult result (λ _. HasRead S.Source source.old source.new)
             (λ fault. IsRefused S.Source fault source.old source.new) }
     {
@@ -185,7 +185,7 @@ impl RunReader {
         requires within { place < self.now.head.count }
         ensures { IfSome result (λ number. (text : Option (List ℕ)) (left : List Cell) (none : Cell)
             → AreLeft text self.now left
-            → number ≡ number_of (slice_index_or left (place - self.now.done) none).key) }
+            → number ≡ key_as_number (slice_index_or left (place - self.now.done) none).key) }
     {
         let ship_modes = self.head.view.ship_mode;
         let at = bytes_of_cell(ship_modes) * (place - self.done);

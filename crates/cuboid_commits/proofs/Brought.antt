@@ -11,12 +11,12 @@ use Rattle.warehouse_root.specs.declared.cuboid.StoredCuboid.{StoredCuboid}
 use Rattle.warehouse_root.specs.Root.{PlainRoot, with_cuboid}
 use Rattle.warehouse_objects.specs.Warehouse.{Cuboid, Warehouse}
 use Rattle.warehouse_objects.specs.Represents.{Represents, root_of, said_of}
-use Rattle.cuboid_commits.specs.Nexts.{HasStored, IsBroughtBy, IsNext}
+use Rattle.cuboid_commits.specs.Nexts.{HasStored, IsBroughtBy, IsNextStep}
 use Rattle.cuboid_commits.specs.declared.keeping.Next.{Next}
 use Rattle.cuboid_commits.proofs.Places.{changed, changed_is}
 
 pub brought_by : (Holds : Warehouse → Type 0) (root : PlainRoot) (said : StoredCuboid) (mark : ℕ) (next : Next)
-    (is : IsNext Holds root said mark next) (c : Content) (w : Warehouse) (old : Cuboid)
+    (is : IsNextStep Holds root said mark next) (c : Content) (w : Warehouse) (old : Cuboid)
     → Represents c w → HasStored root said w old → Holds w → IsBroughtBy w next (changed is.change said.view w)
 brought_by Holds root said mark next is c w old represents has holds =
     let by = is.brings w old has holds in record {

@@ -12,7 +12,7 @@ use Rattle.lattice.specs.Views.{index_of}
 use Rattle.lattice.proofs.Places.{one_view}
 use Rattle.cuboid_cells.specs.declared.cell.Cell.{Cell}
 use Rattle.cuboid_cells.specs.declared.span.Span.{Span}
-use Rattle.cuboid_cells.specs.Cells.{AreProper, PlainCells}
+use Rattle.cuboid_cells.specs.Cells.{AreProperCells, PlainCells}
 use Rattle.cuboid_cells.specs.Spelled.{IsRun, IsSpan, cell_bytes, run_of}
 use Rattle.cuboid_cells.specs.Steps.{cells_of}
 use Rattle.cuboid_cells.proofs.CallerLemmas.{length-run_of}
@@ -23,9 +23,9 @@ use Rattle.warehouse_root.specs.declared.cuboid.StoredCuboid.{StoredCuboid}
 use Rattle.warehouse_root.specs.Limits.{most_cells, most_runs}
 use Rattle.warehouse_root.specs.Objects.{run_id}
 use Rattle.warehouse_root.specs.Root.{PlainRoot}
-use Rattle.warehouse_objects.specs.Warehouse.{Cuboid, StoredRun, Warehouse, cells_in, cuboid_at, ship_modes_of}
+use Rattle.warehouse_objects.specs.Warehouse.{Cuboid, StoredRun, Warehouse, cell_count, cuboid_at, ship_modes_of}
 use Rattle.warehouse_objects.specs.Represents.{Follow, rows_in}
-use Rattle.cuboid_commits.specs.Nexts.{BringsOn, GoesOn, HasStored, IsMade, IsNext, first_run}
+use Rattle.cuboid_commits.specs.Nexts.{BringsOn, RaisesMarks, HasStored, IsMade, IsNextStep, first_run}
 use Rattle.cuboid_commits.specs.declared.keeping.Next.{Next}
 use Rattle.cuboid_commits.proofs.Places.{root_kept}
 use Rattle.cuboid_commits.proofs.Spans.{follow_more}
@@ -84,10 +84,10 @@ abbrev pub replacing : Span → List Cell → Cuboid → Cuboid
 replacing span cells cuboid =
     record { view = cuboid.view; mark = cuboid.mark + (span.to - cuboid.mark); runs = run_over span cells ∷ [] }
 
-pub appending_goes_on : (span : Span) (cells : List Cell) → GoesOn (appending span cells)
+pub appending_goes_on : (span : Span) (cells : List Cell) → RaisesMarks (appending span cells)
 appending_goes_on span cells = record { view = λ cuboid. refl; mark = λ cuboid. omega arith }
 
-pub replacing_goes_on : (span : Span) (cells : List Cell) → GoesOn (replacing span cells)
+pub replacing_goes_on : (span : Span) (cells : List Cell) → RaisesMarks (replacing span cells)
 replacing_goes_on span cells = record { view = λ cuboid. refl; mark = λ cuboid. omega arith }
 
 module _ (w : Warehouse) (root : PlainRoot) (said : StoredCuboid) (old : Cuboid) (has : HasStored root said w old)
@@ -111,8 +111,8 @@ module _ (w : Warehouse) (root : PlainRoot) (said : StoredCuboid) (old : Cuboid)
   bytes_are : (bytes : List ℕ) → IsRun bytes span cells → bytes ≡ run_of span (cells_of old.view cells.cells)
   bytes_are bytes is = is.spelled ∙ ap (λ (v : View). run_of span (cells_of v cells.cells)) view_is
 
-  proper_here : AreProper cells → AreProper (cells_of old.view cells.cells)
-  proper_here proper = subst (λ (v : View). AreProper (cells_of v cells.cells)) view_is proper
+  proper_here : AreProperCells cells → AreProperCells (cells_of old.view cells.cells)
+  proper_here proper = subst (λ (v : View). AreProperCells (cells_of v cells.cells)) view_is proper
 
   represent_here : (rows : List LineOrder) → RepresentRows w.rows (ship_modes_of w) rows cells
       → RepresentRows w.rows (ship_modes_of w) rows (cells_of old.view cells.cells)
@@ -140,10 +140,10 @@ module _ (w : Warehouse) (root : PlainRoot) (said : StoredCuboid) (old : Cuboid)
               (All-cons (λ run. IsSpan run.span) (run_over span cells.cells) [] made.bytes.span
               (All-nil (λ run. IsSpan run.span)));
           proper =
-              All-append (λ run. AreProper (cells_of old.view run.cells)) old.runs (run_over span cells.cells ∷ [])
+              All-append (λ run. AreProperCells (cells_of old.view run.cells)) old.runs (run_over span cells.cells ∷ [])
               has.holds.laid.proper
-              (All-cons (λ run. AreProper (cells_of old.view run.cells)) (run_over span cells.cells) []
-              (proper_here made.bytes.proper) (All-nil (λ run. AreProper (cells_of old.view run.cells))));
+              (All-cons (λ run. AreProperCells (cells_of old.view run.cells)) (run_over span cells.cells) []
+              (proper_here made.bytes.proper) (All-nil (λ run. AreProperCells (cells_of old.view run.cells))));
         };
         groupings =
             All-append (λ run. RepresentRows w.rows (ship_modes_of w) (rows_in w.batches run.span)
@@ -184,7 +184,7 @@ module _ (w : Warehouse) (root : PlainRoot) (said : StoredCuboid) (old : Cuboid)
       many_runs : length (old.runs ++ run_over span cells.cells ∷ []) ≡ said.runs + 1
       many_runs = length-append old.runs (run_over span cells.cells ∷ []) ∙ ap (λ (n : ℕ). n + 1) runs_said
 
-      many_cells : cells_in (old.runs ++ run_over span cells.cells ∷ []) ≡ said.cells + length cells.cells
+      many_cells : cell_count (old.runs ++ run_over span cells.cells ∷ []) ≡ said.cells + length cells.cells
       many_cells = sum_by_push (λ (run : StoredRun). length run.cells) old.runs (run_over span cells.cells)
           ∙ ap (λ (s : StoredCuboid). s.cells + length cells.cells) has.said_is
 
@@ -202,8 +202,8 @@ module _ (w : Warehouse) (root : PlainRoot) (said : StoredCuboid) (old : Cuboid)
           follow = (from, mark_is);
           spans = All-cons (λ run. IsSpan run.span) (run_over span cells.cells) [] made.bytes.span
               (All-nil (λ run. IsSpan run.span));
-          proper = All-cons (λ run. AreProper (cells_of old.view run.cells)) (run_over span cells.cells) []
-              (proper_here made.bytes.proper) (All-nil (λ run. AreProper (cells_of old.view run.cells)));
+          proper = All-cons (λ run. AreProperCells (cells_of old.view run.cells)) (run_over span cells.cells) []
+              (proper_here made.bytes.proper) (All-nil (λ run. AreProperCells (cells_of old.view run.cells)));
         };
         groupings =
             All-cons (λ run. RepresentRows w.rows (ship_modes_of w) (rows_in w.batches run.span)
@@ -242,7 +242,7 @@ module _ (w : Warehouse) (root : PlainRoot) (said : StoredCuboid) (old : Cuboid)
       runs_said : length old.runs ≡ said.runs
       runs_said = ap (λ (s : StoredCuboid). s.runs) has.said_is
 
-      many_cells : cells_in (run_over span cells.cells ∷ []) ≡ length cells.cells
+      many_cells : cell_count (run_over span cells.cells ∷ []) ≡ length cells.cells
       many_cells = let push = sum_by_push (λ (run : StoredRun). length run.cells) [] (run_over span cells.cells) in
           omega (arith, push)
 
@@ -255,7 +255,7 @@ module _ (root : PlainRoot) (said : StoredCuboid) (cells : PlainCells) (span : S
   pub next_appended : after.runs ≡ said.runs + 1 → after.cells ≡ said.cells + length cells.cells
       → id ≡ run_id said.view said.runs → drops ≡ []
       → span.from ≡ said.mark → said.runs < most_runs → said.cells + length cells.cells ≤ most_cells
-      → IsNext (λ w. RepresentRows w.rows (ship_modes_of w) (rows_in w.batches span) cells) root said span.to next
+      → IsNextStep (λ w. RepresentRows w.rows (ship_modes_of w) (rows_in w.batches span) cells) root said span.to next
   next_appended after_runs after_cells id_is drops_are from few few_cells = record {
     put = made_put root after id span cells drops next made;
     runs = made_runs next.id said.view said.runs next.drops.items 0 (made.id_is ∙ id_is) (made.drops_are ∙ drops_are);
@@ -276,7 +276,8 @@ module _ (root : PlainRoot) (said : StoredCuboid) (cells : PlainCells) (span : S
 
   pub next_replaced : after.runs ≡ 1 → after.cells ≡ length cells.cells → id ≡ run_id said.view 0
       → drops ≡ range_with_len (run_id said.view 1) (said.runs - 1) → span.from ≡ 0
-      → IsNext (λ w. RepresentRows w.rows (ship_modes_of w) (all_rows (take span.to w.batches)) cells) root said span.to
+      → IsNextStep (λ w. RepresentRows w.rows (ship_modes_of w) (all_rows (take span.to w.batches)) cells) root said
+      span.to
       next
   next_replaced after_runs after_cells id_is drops_are from = record {
     put = made_put root after id span cells drops next made;
@@ -299,8 +300,9 @@ module _ (root : PlainRoot) (said : StoredCuboid) (cells : PlainCells) (span : S
 
 -- what holds of fewer warehouses
 pub next_weaker : (Holds Less : Warehouse → Type 0) (root : PlainRoot) (said : StoredCuboid) (mark : ℕ) (next : Next)
-    → ((w : Warehouse) (old : Cuboid) → HasStored root said w old → Less w → Holds w) → IsNext Holds root said mark next
-    → IsNext Less root said mark next
+    → ((w : Warehouse) (old : Cuboid) → HasStored root said w old → Less w → Holds w)
+    → IsNextStep Holds root said mark next
+    → IsNextStep Less root said mark next
 next_weaker Holds Less root said mark next so is = record {
   put = is.put;
   runs = is.runs;

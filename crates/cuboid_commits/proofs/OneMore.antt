@@ -20,7 +20,7 @@ use Rattle.warehouse_objects.specs.Warehouse.{Cuboid, Warehouse}
 use Rattle.warehouse_objects.specs.Represents.{AreItsMembers, Represents}
 use Rattle.warehouse_objects.proofs.Folded.{err_fault}
 use Rattle.cuboid_commits.specs.Keeping.{IsCaughtUp, IsReached, IsTooLarge, StoreAt}
-use Rattle.cuboid_commits.specs.Nexts.{EndsBringing, HasStored, IsBroughtBy, IsNext, RefusesNext}
+use Rattle.cuboid_commits.specs.Nexts.{EndsBringing, HasStored, IsBroughtBy, IsNextStep, RefusesToBringOn}
 use Rattle.cuboid_commits.specs.declared.keeping.Next.{Next}
 use Rattle.cuboid_commits.proofs.Brought.{brought_by, far_enough, put_there, said_there, view_there}
 use Rattle.cuboid_commits.proofs.Places.{changed, changed_caught, stored_there}
@@ -126,7 +126,8 @@ module _ {D : Type 0} (g : Ghosts D) (a b : Store D g) (still : IsStill g a b) (
       )
 
   module _ (next : Next)
-      (is : IsNext (λ w. g.keeps_word (device_of b) × Represents (content_of g a) w × AreItsMembers w dims modes) root
+      (is : IsNextStep (λ w. g.keeps_word (device_of b) × Represents (content_of g a) w × AreItsMembers w dims modes)
+      root
       said root.target next) where
     abbrev pub brought : Warehouse → Warehouse
     brought w = changed is.change said.view w
@@ -148,7 +149,7 @@ module _ {D : Type 0} (g : Ghosts D) (a b : Store D g) (still : IsStill g a b) (
         → said.mark < root.target → IsAsBefore g b c
         → Refuses (content_of g b) (room_of b) ((next.id, next.bytes.items) ∷ []) next.drops.items next.root_bytes.items
         fault
-        → (refused : RefusesNext g c w fault) × (slice_get w.cuboids place ≡ Some refused.old)
+        → (refused : RefusesToBringOn g c w fault) × (slice_get w.cuboids place ≡ Some refused.old)
     refused_next c w fault at_a rows k less as_before refuses =
         let found = stored_at w at_a k in
         let by = is.brings w found.0 found.2 (k, at_a.represents (still.word k), rows (still.word k)) in

@@ -8,18 +8,18 @@ use Rattle.std.proofs.lemmas.Option.{get_or_from_slice_get, slice_get-map, slice
 use Rattle.lattice.specs.Views.{index_of}
 use Rattle.warehouse_root.specs.declared.cuboid.StoredCuboid.{StoredCuboid}
 use Rattle.warehouse_root.specs.Root as roots
-use Rattle.warehouse_root.specs.Root.{AreAscending, PlainRoot, with_cuboid}
+use Rattle.warehouse_root.specs.Root.{ViewsAscend, PlainRoot, with_cuboid}
 use Rattle.object_store.specs.Content.{Content}
 use Rattle.warehouse_objects.specs.Warehouse.{Cuboid, Warehouse, cuboid_at, kept, put_cuboid}
 use Rattle.warehouse_objects.specs.Represents.{HoldsGroupings, Represents, root_of, said_of}
 use Rattle.cuboid_commits.specs.Keeping.{AreKeptOn, IsCaughtUp}
-use Rattle.cuboid_commits.specs.Nexts.{GoesOn, HasStored}
+use Rattle.cuboid_commits.specs.Nexts.{RaisesMarks, HasStored}
 
 same_Some : {A : Type 0} (a b : A) → Some a ≡ Some b → a ≡ b
 same_Some a b same = cc
 
 -- a later cuboid has a higher view
-above : (c : Cuboid) (cs : List Cuboid) → AreAscending (map said_of (c ∷ cs)) → (k : ℕ) (x : Cuboid)
+above : (c : Cuboid) (cs : List Cuboid) → ViewsAscend (map said_of (c ∷ cs)) → (k : ℕ) (x : Cuboid)
     → slice_get cs k ≡ Some x → index_of c.view < index_of x.view
 above c cs up k x is =
     let within : k < length cs = slice_get_within cs k x is in
@@ -29,11 +29,11 @@ above c cs up k x is =
     let less = up 0 (suc k) (said_of c) (omega arith) (omega (arith, within, length-map cs said_of)) in
     omega (arith, less, ap (λ (s : StoredCuboid). s.view) there)
 
-up_tail : (c : Cuboid) (cs : List Cuboid) → AreAscending (map said_of (c ∷ cs)) → AreAscending (map said_of cs)
+up_tail : (c : Cuboid) (cs : List Cuboid) → ViewsAscend (map said_of (c ∷ cs)) → ViewsAscend (map said_of cs)
 up_tail c cs up = λ i j d before within. up (suc i) (suc j) d (omega (arith, before)) (omega (arith, within))
 
 -- the cuboid at a place is that of its view
-pub own_view : (cuboids : List Cuboid) (k : ℕ) (x : Cuboid) → AreAscending (map said_of cuboids)
+pub own_view : (cuboids : List Cuboid) (k : ℕ) (x : Cuboid) → ViewsAscend (map said_of cuboids)
     → slice_get cuboids k ≡ Some x → cuboid_at (index_of x.view) cuboids ≡ Some x
 own_view [] k x up is = absurd cc
 own_view (c ∷ cs) zero x up is =
@@ -47,7 +47,7 @@ own_view (c ∷ cs) (suc k) x up is =
     ap (λ (b : Bool). if b then Some c else cuboid_at (index_of x.view) cs) other ∙ own_view cs k x (up_tail c cs up) is
 
 -- views ascend with places
-pub not_below : (cuboids : List Cuboid) (i j : ℕ) (x y : Cuboid) → AreAscending (map said_of cuboids)
+pub not_below : (cuboids : List Cuboid) (i j : ℕ) (x y : Cuboid) → ViewsAscend (map said_of cuboids)
     → slice_get cuboids i ≡ Some x → slice_get cuboids j ≡ Some y → i ≤ j → index_of x.view ≤ index_of y.view
 not_below [] i j x y up at_i at_j order = absurd cc
 not_below (c ∷ cs) zero zero x y up at_i at_j order = let same : x ≡ y = same_Some x y (sym at_i ∙ at_j) in
@@ -96,7 +96,7 @@ change_at change number cuboids = map (λ other. if index_of other.view == numbe
 abbrev pub changed : (Cuboid → Cuboid) → ℕ → Warehouse → Warehouse
 changed change number w = record w { cuboids = change_at change number w.cuboids }
 
-kept_on : (change : Cuboid → Cuboid) (number : ℕ) (cuboids : List Cuboid) → GoesOn change
+kept_on : (change : Cuboid → Cuboid) (number : ℕ) (cuboids : List Cuboid) → RaisesMarks change
     → AreKeptOn cuboids (change_at change number cuboids)
 kept_on change number [] goes_on = tt
 kept_on change number (c ∷ cs) goes_on =
@@ -108,7 +108,7 @@ kept_on change number (c ∷ cs) goes_on =
       | false ↦ (refl, omega arith, rest)
     ]
 
-pub changed_caught : (change : Cuboid → Cuboid) (number : ℕ) (w : Warehouse) → GoesOn change
+pub changed_caught : (change : Cuboid → Cuboid) (number : ℕ) (w : Warehouse) → RaisesMarks change
     → IsCaughtUp w (changed change number w)
 changed_caught change number w goes_on = record {
   kept = record { facts = refl; cuboids = kept_on change number w.cuboids goes_on };
@@ -121,8 +121,8 @@ map_same f g [] same = refl
 map_same f g (x ∷ xs) same = λ i. same 0 x refl i ∷ map_same f g xs (λ k. same (suc k)) i
 
 -- where there is one cuboid of that view, it is put in its place
-pub changed_is : (change : Cuboid → Cuboid) (number : ℕ) (old : Cuboid) (cuboids : List Cuboid) → GoesOn change
-    → AreAscending (map said_of cuboids) → index_of old.view ≡ number
+pub changed_is : (change : Cuboid → Cuboid) (number : ℕ) (old : Cuboid) (cuboids : List Cuboid) → RaisesMarks change
+    → ViewsAscend (map said_of cuboids) → index_of old.view ≡ number
     → cuboid_at number cuboids ≡ Some old → change_at change number cuboids ≡ put_cuboid (change old) cuboids
 changed_is change number old cuboids goes_on up number_is found =
     let new_is : index_of (change old).view ≡ number = ap index_of (goes_on.view old) ∙ number_is in
@@ -149,7 +149,7 @@ changed_is change number old cuboids goes_on up number_is found =
 -- ---- the root with a cuboid
 
 said_put : (new : Cuboid) (cuboids : List Cuboid)
-    → map said_of (put_cuboid new cuboids) ≡ roots.put_cuboid (said_of new) (map said_of cuboids)
+    → map said_of (put_cuboid new cuboids) ≡ roots.put_stored_cuboid (said_of new) (map said_of cuboids)
 said_put new [] = refl
 said_put new (c ∷ cs) =
     let first : said_of (if index_of c.view == index_of new.view then new else c)

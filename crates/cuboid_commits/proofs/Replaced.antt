@@ -24,7 +24,7 @@ use Rattle.object_store.proofs.CallerLemmas.{bytes_after, few_after, generation_
 use Rattle.lattice.specs.declared.view.View.{View}
 use Rattle.warehouse_root.specs.declared.cuboid.StoredCuboid.{StoredCuboid}
 use Rattle.warehouse_root.specs.declared.layout.Layout.{Layout}
-use Rattle.warehouse_root.specs.Layouts.{number_of}
+use Rattle.warehouse_root.specs.Layouts.{layout_number}
 use Rattle.warehouse_root.specs.Limits.{most_cuboids}
 use Rattle.warehouse_root.specs.Objects.{run_id, run_ids}
 use Rattle.warehouse_root.specs.Root as roots
@@ -36,7 +36,7 @@ use Rattle.warehouse_objects.proofs.CallerLemmas.{dropped_are, few_objects, root
 use Rattle.warehouse_objects.proofs.CallerLemmas.{modes_still, represents_chosen}
 use Rattle.cuboid_commits.specs.Keeping.{StoreAt}
 use Rattle.cuboid_commits.specs.Nexts.{first_run}
-use Rattle.cuboid_commits.specs.Replacing.{dropped_of, replaced}
+use Rattle.cuboid_commits.specs.Replacing.{dropped_of, content_replaced}
 
 -- ---- the content of another root
 
@@ -45,11 +45,12 @@ pub few_replaced : (c : Content) (drops bytes : List ℕ) (layout : ℕ) → len
 few_replaced c drops bytes layout few = omega (arith, few_after [] drops bytes layout c, few)
 
 -- what was handed to the commit
-pub replaced_by : (c : Content) (drops bytes : List ℕ) (layout : ℕ) (next : PlainRoot) → bytes ≡ roots.root_of next
-    → layout ≡ number_of next.layout → committed [] drops bytes layout c ≡ replaced next drops c
+pub replaced_by : (c : Content) (drops bytes : List ℕ) (layout : ℕ) (next : PlainRoot)
+    → bytes ≡ roots.root_spelling next
+    → layout ≡ layout_number next.layout → committed [] drops bytes layout c ≡ content_replaced next drops c
 replaced_by c drops bytes layout next bytes_are layout_is =
     ap (λ (b : List ℕ). committed [] drops b layout c) bytes_are
-    ∙ ap (λ (l : ℕ). committed [] drops (roots.root_of next) l c) layout_is
+    ∙ ap (λ (l : ℕ). committed [] drops (roots.root_spelling next) l c) layout_is
 
 without_high : (drops : List ℕ) (id : ℕ) (was : Option (List ℕ)) → All (λ drop. first_run ≤ drop) drops → id < first_run
     → without drops id was ≡ was
@@ -61,30 +62,30 @@ without_high (drop ∷ drops) id was runs low =
     ∙ without_high drops id was (All-tail (λ d. first_run ≤ d) drop drops runs) low
 
 module _ (c : Content) (drops : List ℕ) (next : PlainRoot) (runs : All (λ id. first_run ≤ id) drops) where
-  same_at : (low : ℕ) → low < 6 → bytes_of (replaced next drops c) low ≡ bytes_of c low
-  same_at low few = bytes_after [] drops (roots.root_of next) (number_of next.layout) c low
+  same_at : (low : ℕ) → low < 6 → bytes_of (content_replaced next drops c) low ≡ bytes_of c low
+  same_at low few = bytes_after [] drops (roots.root_spelling next) (layout_number next.layout) c low
       ∙ without_high drops low (bytes_of c low) runs (omega (arith, few))
 
   -- what is kept in memory then
   pub loaded_replaced : (rows : DimRows) (modes : List (List ℕ)) (root : PlainRoot) → next.layout ≡ root.layout
-      → IsLoaded c rows modes root → IsLoaded (replaced next drops c) rows modes next
+      → IsLoaded c rows modes root → IsLoaded (content_replaced next drops c) rows modes next
   loaded_replaced rows modes root same is = record {
-    layout = layout_after [] drops (roots.root_of next) (number_of next.layout) c;
+    layout = layout_after [] drops (roots.root_spelling next) (layout_number next.layout) c;
     has_rows = record {
       customers = same_at 1 (omega arith) ∙ is.has_rows.customers;
       suppliers = same_at 2 (omega arith) ∙ is.has_rows.suppliers;
       parts = same_at 3 (omega arith) ∙ is.has_rows.parts;
       dates = same_at 4 (omega arith) ∙ is.has_rows.dates;
     };
-    has_modes = modes_still c (replaced next drops c) next.layout modes (same_at 5 (omega arith))
+    has_modes = modes_still c (content_replaced next drops c) next.layout modes (same_at 5 (omega arith))
         (subst (λ (l : Layout). HasModes c l modes) (sym same) is.has_modes);
     are_modes = is.are_modes;
-    root_bytes = root_after [] drops (roots.root_of next) (number_of next.layout) c;
+    root_bytes = root_after [] drops (roots.root_spelling next) (layout_number next.layout) c;
   }
 
 pub generation_replaced : (c : Content) (drops : List ℕ) (next : PlainRoot)
-    → (replaced next drops c).generation ≡ c.generation + 1
-generation_replaced c drops next = generation_after [] drops (roots.root_of next) (number_of next.layout) c
+    → (content_replaced next drops c).generation ≡ c.generation + 1
+generation_replaced c drops next = generation_after [] drops (roots.root_spelling next) (layout_number next.layout) c
 
 -- before a commit
 pub leaves_before : (c d : Content) (old new : Disk) → Leaves old new (λ x. x ≡ c) → Leaves old new (IsOneOf c d)
@@ -94,16 +95,17 @@ leaves_before c d old new = leaves_weaker (λ (x : Content). x ≡ c) (IsOneOf c
 
 -- a root and drops make one warehouse of another
 pub record Makes (c : Content) (root next : PlainRoot) (drops : List ℕ) (w v : Warehouse) : Type 0 where
-  pub represents : Represents c w → root_of w ≡ root → Represents (replaced next drops c) v
+  pub represents : Represents c w → root_of w ≡ root → Represents (content_replaced next drops c) v
   pub root_is : root_of w ≡ root → root_of v ≡ next
 
 made_so : (c : Content) (w v : Warehouse) (next : PlainRoot) (dropped drops : List ℕ) → Represents c w
     → root_of v ≡ next → dropped ≡ drops
-    → Represents (committed [] dropped (roots.root_of (root_of v)) (number_of v.layout) c) v
-    → Represents (replaced next drops c) v
+    → Represents (committed [] dropped (roots.root_spelling (root_of v)) (layout_number v.layout) c) v
+    → Represents (content_replaced next drops c) v
 made_so c w v next dropped drops represents next_is drops_are is =
-    subst (λ (d : List ℕ). Represents (replaced next d c) v) drops_are
-    (subst (λ (r : PlainRoot). Represents (committed [] dropped (roots.root_of r) (number_of r.layout) c) v) next_is is)
+    subst (λ (d : List ℕ). Represents (content_replaced next d c) v) drops_are
+    (subst (λ (r : PlainRoot). Represents (committed [] dropped (roots.root_spelling r) (layout_number r.layout) c) v)
+    next_is is)
 
 -- a new target
 aimed_root : (root : PlainRoot) (w : Warehouse) → root_of w ≡ root
@@ -199,10 +201,11 @@ module _ {D : Type 0} (g : Ghosts D) (old new : Store D g) (w v : Warehouse) (ro
   before = stores.content_of g old
 
   pub replaced_leaves : Leaves (stores.disk_of g old) (stores.disk_of g new)
-      (IsOneOf before (replaced next drops before))
+      (IsOneOf before (content_replaced next drops before))
       → Leaves (stores.disk_of g old) (stores.disk_of g new) (λ c. Represents c w ⊎ Represents c v)
   replaced_leaves leaves =
-      leaves_weaker (IsOneOf before (replaced next drops before)) (λ (c : Content). Represents c w ⊎ Represents c v)
+      leaves_weaker (IsOneOf before (content_replaced next drops before))
+      (λ (c : Content). Represents c w ⊎ Represents c v)
       (stores.disk_of g old) (stores.disk_of g new)
       (λ k c. ⊎_elim (λ e. inl (subst (λ (x : Content). Represents x w) (sym e) (at.represents k)))
       (λ e. inr (subst (λ (x : Content). Represents x v) (sym e) (makes.represents (at.represents k) (at.root_is k)))))
@@ -210,7 +213,7 @@ module _ {D : Type 0} (g : Ghosts D) (old new : Store D g) (w v : Warehouse) (ro
 
   pub replaced_at : stores.has_failed new ≡ false
       → ((stores.disk_of g new).keeps_word → (stores.disk_of g old).keeps_word)
-      → ((stores.disk_of g new).keeps_word → stores.content_of g new ≡ replaced next drops before)
+      → ((stores.disk_of g new).keeps_word → stores.content_of g new ≡ content_replaced next drops before)
       → StoreAt g new next v
   replaced_at fine word is = record {
     fine = fine;
@@ -224,15 +227,15 @@ module _ {D : Type 0} (g : Ghosts D) (old new : Store D g) (w v : Warehouse) (ro
   pub replaced_causes : (dropped : List ℕ) (fault : Fault) → (root_of w ≡ root → drops ≡ dropped)
       → (stores.disk_of g old).keeps_word
       → ((fault ≡ BadLayout) × (most_objects < length before.objects))
-      ⊎ Refuses before (stores.room_of old) [] drops (roots.root_of next) fault
-      → Refuses before (stores.room_of old) [] dropped (roots.root_of (root_of v)) fault
+      ⊎ Refuses before (stores.room_of old) [] drops (roots.root_spelling next) fault
+      → Refuses before (stores.room_of old) [] dropped (roots.root_spelling (root_of v)) fault
   replaced_causes dropped fault drops_are k =
-      ⊎_elim {C = Refuses before (stores.room_of old) [] dropped (roots.root_of (root_of v)) fault}
+      ⊎_elim {C = Refuses before (stores.room_of old) [] dropped (roots.root_spelling (root_of v)) fault}
       (λ many. absurd (omega (arith, many.1, few_objects before w (at.represents k))))
       (λ refuses.
-      subst (λ (d : List ℕ). Refuses before (stores.room_of old) [] d (roots.root_of (root_of v)) fault)
+      subst (λ (d : List ℕ). Refuses before (stores.room_of old) [] d (roots.root_spelling (root_of v)) fault)
       (drops_are (at.root_is k))
-      (subst (λ (r : PlainRoot). Refuses before (stores.room_of old) [] drops (roots.root_of r) fault)
+      (subst (λ (r : PlainRoot). Refuses before (stores.room_of old) [] drops (roots.root_spelling r) fault)
       (sym (makes.root_is (at.root_is k))) refuses))
 
 module _ {D : Type 0} (g : Ghosts D) (old new : Store D g) (w : Warehouse) (root : PlainRoot)

@@ -13,7 +13,7 @@ use Rattle.object_store.specs.Room.{Room}
 use Rattle.object_store.specs.Store.{IsOneOf, Refuses}
 use Rattle.object_store.proofs.CallerLemmas.{bytes_after, few_after, layout_after, root_after}
 use Rattle.lattice.specs.Views.{index_of}
-use Rattle.warehouse_root.specs.Layouts.{number_of}
+use Rattle.warehouse_root.specs.Layouts.{layout_number}
 use Rattle.warehouse_root.specs.Objects.{run_id}
 use Rattle.warehouse_root.specs.Root as roots
 use Rattle.warehouse_root.specs.Root.{PlainRoot}
@@ -34,43 +34,45 @@ few_one c puts drops bytes layout one few = omega (arith, few_after puts drops b
 module _ (c : Content) (w : Warehouse) (old new : Cuboid) (run : StoredRun) (next : Next) (represents : Represents c w)
     (brings : BringsOn w old new run next) where
   abbrev root_bytes : List ℕ
-  root_bytes = roots.root_of (root_of (kept w new))
+  root_bytes = roots.root_spelling (root_of (kept w new))
 
   bytes_are : next.root_bytes.items ≡ root_bytes
-  bytes_are = brings.spelled.spelled ∙ ap roots.root_of brings.root
+  bytes_are = brings.spelled.spelled ∙ ap roots.root_spelling brings.root
 
   -- where the puts and the drops are such
   moved : (n : ℕ) (drops : List ℕ) → next.id ≡ run_id (index_of new.view) n → next.drops.items ≡ drops
-      → Represents (committed (run_put new n run) drops root_bytes (number_of w.layout) c) (kept w new)
+      → Represents (committed (run_put new n run) drops root_bytes (layout_number w.layout) c) (kept w new)
       → Represents
-      (committed ((next.id, next.bytes.items) ∷ []) next.drops.items next.root_bytes.items (number_of next.root.layout)
+      (committed ((next.id, next.bytes.items) ∷ []) next.drops.items next.root_bytes.items
+      (layout_number next.root.layout)
       c)
       (kept w new)
   moved n drops id_is drops_are is =
       subst (λ (i : ℕ). Represents
-      (committed ((i, next.bytes.items) ∷ []) next.drops.items next.root_bytes.items (number_of next.root.layout) c)
+      (committed ((i, next.bytes.items) ∷ []) next.drops.items next.root_bytes.items (layout_number next.root.layout) c)
       (kept w new)) (sym id_is)
       (subst (λ (b : List ℕ). Represents
       (committed ((run_id (index_of new.view) n, b) ∷ []) next.drops.items next.root_bytes.items
-      (number_of next.root.layout)
+      (layout_number next.root.layout)
       c) (kept w new)) (sym brings.bytes)
       (subst (λ (d : List ℕ). Represents
-      (committed (run_put new n run) d next.root_bytes.items (number_of next.root.layout) c)
+      (committed (run_put new n run) d next.root_bytes.items (layout_number next.root.layout) c)
       (kept w new)) (sym drops_are)
-      (subst (λ (b : List ℕ). Represents (committed (run_put new n run) drops b (number_of next.root.layout) c)
+      (subst (λ (b : List ℕ). Represents (committed (run_put new n run) drops b (layout_number next.root.layout) c)
       (kept w new))
       (sym bytes_are)
       (subst (λ (l : ℕ). Represents (committed (run_put new n run) drops root_bytes l c) (kept w new))
-      (ap (λ (r : PlainRoot). number_of r.layout) (sym brings.root)) is))))
+      (ap (λ (r : PlainRoot). layout_number r.layout) (sym brings.root)) is))))
 
   pub represents_next : Represents
-      (committed ((next.id, next.bytes.items) ∷ []) next.drops.items next.root_bytes.items (number_of next.root.layout)
+      (committed ((next.id, next.bytes.items) ∷ []) next.drops.items next.root_bytes.items
+      (layout_number next.root.layout)
       c)
       (kept w new)
   represents_next =
       ⊎_elim {C =
       Represents (committed ((next.id, next.bytes.items) ∷ []) next.drops.items next.root_bytes.items
-      (number_of next.root.layout) c) (kept w new)}
+      (layout_number next.root.layout) c) (kept w new)}
       (λ (a : Appends old new run next). moved (length old.runs) [] a.id a.drops
       (represents_appended c w old new represents brings.may run a.runs))
       (λ (m : Merges old new run next). moved 0 (later_runs old) m.id m.drops
@@ -81,7 +83,7 @@ module _ (c : Content) (w : Warehouse) (old new : Cuboid) (run : StoredRun) (nex
 module _ (c : Content) (w : Warehouse) (old new : Cuboid) (run : StoredRun) (next : Next) (put drops bytes : List ℕ)
     (layout : ℕ)
     (put_is : put ≡ next.bytes.items) (drops_are : drops ≡ next.drops.items)
-    (bytes_are_next : bytes ≡ next.root_bytes.items) (layout_is : layout ≡ number_of next.root.layout) where
+    (bytes_are_next : bytes ≡ next.root_bytes.items) (layout_is : layout ≡ layout_number next.root.layout) where
   pub after : Represents c w → BringsOn w old new run next
       → Represents (committed ((next.id, put) ∷ []) drops bytes layout c) (kept w new)
   after represents brings =
@@ -126,7 +128,7 @@ module _ (c : Content) (id : ℕ) (put drops bytes : List ℕ) (layout : ℕ) (r
         ∙ without_runs drops low (bytes_of c low) (All-tail (λ i. first_run ≤ i) id drops runs) (omega (arith, few))
 
     -- it is the root of after, and the dimensions of before
-    pub loaded_next : (after : PlainRoot) → layout ≡ number_of after.layout → bytes ≡ roots.root_of after
+    pub loaded_next : (after : PlainRoot) → layout ≡ layout_number after.layout → bytes ≡ roots.root_spelling after
         → (rows : DimRows) (modes : List (List ℕ)) (root : PlainRoot) → after.layout ≡ root.layout
         → IsLoaded c rows modes root → IsLoaded (committed ((id, put) ∷ []) drops bytes layout c) rows modes after
     loaded_next after layout_is bytes_are rows modes root same is = record {

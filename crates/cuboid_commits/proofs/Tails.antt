@@ -11,7 +11,7 @@ use Rattle.cube_model.specs.declared.rows.LineOrder.{LineOrder}
 use Rattle.lattice.specs.declared.view.View.{View}
 use Rattle.lattice.specs.Views.{index_of}
 use Rattle.cuboid_cells.specs.declared.span.Span.{Span}
-use Rattle.cuboid_cells.specs.Cells.{AreProper, PlainCells}
+use Rattle.cuboid_cells.specs.Cells.{AreProperCells, PlainCells}
 use Rattle.cuboid_cells.specs.Merges.{IsMergeFault}
 use Rattle.cuboid_upkeep.specs.Grouping.{HasMembers, PassType, RepresentRows}
 use Rattle.cuboid_upkeep.specs.Lawful.{MoreRowsHaveNoFewerCells, RowsHaveCells, RowsInRangeFit}
@@ -19,7 +19,7 @@ use Rattle.cuboid_upkeep.specs.Steps.{AreUnfit, HaveTooMany}
 use Rattle.cuboid_upkeep.proofs.CallerLemmas.{merge_refused}
 use Rattle.object_store.specs.Content.{Content}
 use Rattle.warehouse_root.specs.declared.cuboid.StoredCuboid.{StoredCuboid}
-use Rattle.warehouse_root.specs.Layouts.{views_of}
+use Rattle.warehouse_root.specs.Layouts.{view_count}
 use Rattle.warehouse_root.specs.Root.{PlainRoot}
 use Rattle.warehouse_objects.specs.Warehouse.{AreInOrder, Cuboid, Warehouse, ship_modes_of}
 use Rattle.warehouse_objects.specs.Represents.{HoldsGroupings, Represents, rows_in}
@@ -71,7 +71,7 @@ IsNotMerged dimensions modes view rows fault =
 
 pub not_merged : RowsInRangeFit
     → (dimensions : DimRows) (modes : List (List ℕ)) (one other : PlainCells) (so_far rows : List LineOrder)
-    (fault : Fault) → other.view ≡ one.view → AreProper one
+    (fault : Fault) → other.view ≡ one.view → AreProperCells one
     → RepresentRows dimensions modes so_far one → RepresentRows dimensions modes rows other
     → IsMergeFault one other fault → IsNotMerged dimensions modes one.view (so_far ++ rows) fault
 not_merged fit dimensions modes one other so_far rows fault same proper first second why =
@@ -129,7 +129,7 @@ count_of root said w old has = ap (λ (r : PlainRoot). length r.batches) has.roo
 
 -- the view of a warehouse's cuboid is one of its layout
 pub own_layout : (c : Content) (root : PlainRoot) (said : StoredCuboid) (w : Warehouse) (old : Cuboid) (view : View)
-    → Represents c w → HasStored root said w old → index_of view ≡ said.view → index_of view < views_of w.layout
+    → Represents c w → HasStored root said w old → index_of view ≡ said.view → index_of view < view_count w.layout
 own_layout c root said w old view represents has number =
-    let low : index_of old.view < views_of w.layout = view_within c w represents said.view old has.found in
+    let low : index_of old.view < view_count w.layout = view_within c w represents said.view old has.found in
     omega (arith, low, number, ap (λ (s : StoredCuboid). s.view) has.said_is)

@@ -13,7 +13,7 @@ use Rattle.object_store.specs.Disk.{Disk, Leaves}
 use Rattle.object_store.specs.Moments.{leaves_then, leaves_weaker}
 use Rattle.cuboid_upkeep.specs.Steps.{HaveTooMany}
 use Rattle.warehouse_root.specs.Modes.{kept_modes}
-use Rattle.warehouse_root.specs.Root.{AreAscending}
+use Rattle.warehouse_root.specs.Root.{ViewsAscend}
 use Rattle.warehouse_objects.specs.Facts.{Facts}
 use Rattle.warehouse_objects.specs.Warehouse.{Cuboid, Warehouse, cuboid_at, ship_modes_of}
 use Rattle.warehouse_objects.specs.Represents.{AreItsMembers, Represents, said_of}
@@ -193,7 +193,7 @@ one_more w count (Some view) passed here here_is before reached = record {
 
 -- each of a lower view than the next one
 pub lower_reached : (w : Warehouse) (count : ℕ) (first : Option View) (here : Cuboid)
-    → AreAscending (map said_of w.cuboids) → slice_get w.cuboids count ≡ Some here → AreReached count first w
+    → ViewsAscend (map said_of w.cuboids) → slice_get w.cuboids count ≡ Some here → AreReached count first w
     → All (λ other. index_of other.view < index_of here.view → IsReachedOrLarge w other) w.cuboids
 lower_reached w count first here up here_is reached = λ k d within lower.
     let is = slice_get-get_or w.cuboids k d within in
@@ -210,7 +210,7 @@ lower_reached w count first here up here_is reached = λ k d within lower.
         ⊎_elim {C = IsReachedOrLarge w other} (λ far. inl far) (λ many. inr many.0) (reached.others k other less is)
 
 -- all of them
-pub all_done : (w : Warehouse) (count : ℕ) (first : Option View) → AreAscending (map said_of w.cuboids)
+pub all_done : (w : Warehouse) (count : ℕ) (first : Option View) → ViewsAscend (map said_of w.cuboids)
     → length w.cuboids ≤ count → AreReached count first w → IsDone w first
 all_done w count None up all reached =
     λ k d within. reached k (get_or w.cuboids k d) (omega (arith, within, all)) (slice_get-get_or w.cuboids k d within)

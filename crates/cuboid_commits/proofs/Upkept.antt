@@ -15,7 +15,7 @@ use Rattle.warehouse_root.specs.Root.{IsProperCuboid, PlainRoot}
 use Rattle.warehouse_objects.specs.Represents.{AreItsMembers, Represents, root_of, said_of}
 use Rattle.warehouse_objects.specs.Warehouse.{Warehouse, aimed}
 use Rattle.cuboid_commits.specs.Keeping.{IsCaughtUp, IsDone, IsKeptUp}
-use Rattle.cuboid_commits.specs.Upkeep.{AreWhole, AreWholeBut}
+use Rattle.cuboid_commits.specs.Upkeep.{CuboidsAreCurrent, AreWholeBut}
 use Rattle.cuboid_commits.proofs.Turns.{batches_kept, kept_same}
 
 pub memory_or : (fault : Fault) → (fault ≡ Memory) ⊎ (fault ≡ Memory → ⊥)
@@ -78,7 +78,7 @@ target_is w v caught = caught.target
 
 -- the marks of the cuboids are those that the root says
 pub whole_by_root : (w : Warehouse) (root : PlainRoot) (count : ℕ) → root_of w ≡ root → count ≡ length root.batches
-    → All (λ cuboid. cuboid.mark ≡ count) root.cuboids → AreWhole w
+    → All (λ cuboid. cuboid.mark ≡ count) root.cuboids → CuboidsAreCurrent w
 whole_by_root w root count root_is count_is all =
     let there = subst (λ (r : PlainRoot). All (λ cuboid. cuboid.mark ≡ count) r.cuboids) (sym root_is) all in
     let many : length root.batches ≡ length w.batches = ap (λ (r : PlainRoot). length r.batches) (sym root_is)

@@ -60,13 +60,14 @@ pub record HasStored (root : PlainRoot) (said : StoredCuboid) (w : Warehouse) (s
   pub holds : HoldsGroupings w stored
 
 -- a change of cuboids that keeps their views, and makes no mark less
-pub record GoesOn (change : Cuboid → Cuboid) : Type 0 where
+pub record RaisesMarks (change : Cuboid → Cuboid) : Type 0 where
   pub view : (cuboid : Cuboid) → (change cuboid).view ≡ cuboid.view
   pub mark : (cuboid : Cuboid) → cuboid.mark ≤ (change cuboid).mark
 
 -- What brings the cuboid of which a root says something on to a mark, in each warehouse with a property. It can be put
 -- whatever the warehouse is.
-pub record IsNext (Holds : Warehouse → Type 0) (root : PlainRoot) (said : StoredCuboid) (mark : ℕ) (next : Next) : Type
+pub record IsNextStep (Holds : Warehouse → Type 0) (root : PlainRoot) (said : StoredCuboid) (mark : ℕ)
+    (next : Next) : Type
     0 where
   pub put : ArePuts ((next.id, next.bytes.items) ∷ [])
   pub runs : All (λ id. first_run ≤ id) (next.id ∷ next.drops.items)
@@ -76,7 +77,7 @@ pub record IsNext (Holds : Warehouse → Type 0) (root : PlainRoot) (said : Stor
   pub mark_is : after.mark ≡ mark
   pub root_is : next.root ≡ with_cuboid after root
   pub change : Cuboid → Cuboid
-  pub goes_on : GoesOn change
+  pub goes_on : RaisesMarks change
   pub reaches : (cuboid : Cuboid) → cuboid.mark ≤ mark → (change cuboid).mark ≡ mark
   pub brings : (w : Warehouse) (old : Cuboid) → HasStored root said w old → Holds w
       → (run : StoredRun) × BringsOn w old (change old) run next
@@ -87,21 +88,22 @@ abbrev pub EndsBringing : Fault → Type 0
 EndsBringing fault = (fault ≡ Memory) ⊎ ((fault ≡ Device) ⊎ ((fault ≡ BadLayout) ⊎ ((fault ≡ Full) ⊎ (fault ≡ Worn))))
 
 -- the store refuses the commit that brings a cuboid on to the target
-pub record RefusesNext {D : Type 0} (g : Ghosts D) (store : Store D g) (w : Warehouse) (fault : Fault) : Type 0 where
-  pub old : Cuboid
-  pub new : Cuboid
-  pub run : StoredRun
-  pub next : Next
-  pub less : old.mark < w.target
-  pub target : new.mark ≡ w.target
-  pub brings : BringsOn w old new run next
-  pub refuses : stores.Refuses (stores.content_of g store) (stores.room_of store) ((next.id, next.bytes.items) ∷ [])
-      next.drops.items next.root_bytes.items fault
+pub record RefusesToBringOn {D : Type 0} (g : Ghosts D) (store : Store D g) (w : Warehouse) (fault : Fault) : Type 0
+  where
+    pub old : Cuboid
+    pub new : Cuboid
+    pub run : StoredRun
+    pub next : Next
+    pub less : old.mark < w.target
+    pub target : new.mark ≡ w.target
+    pub brings : BringsOn w old new run next
+    pub refuses : stores.Refuses (stores.content_of g store) (stores.room_of store) ((next.id, next.bytes.items) ∷ [])
+        next.drops.items next.root_bytes.items fault
 
 -- That cuboid is the least that is to be brought on: each one of a lower view holds as many batches as it is to, or is
 -- too large.
 pub record RefusesLeast {D : Type 0} (g : Ghosts D) (store : Store D g) (w : Warehouse) (fault : Fault) : Type 0 where
-  pub next : RefusesNext g store w fault
+  pub next : RefusesToBringOn g store w fault
   pub lower : All (λ other. index_of other.view < index_of next.old.view → IsReachedOrLarge w other) w.cuboids
 
 -- a warehouse becomes another one by a cuboid that is brought on

@@ -13,13 +13,13 @@ use Rattle.cuboid_commits.specs.Keeping.{IsDone}
 use Rattle.cuboid_commits.specs.Nexts.{RefusesLeast}
 
 -- each stored cuboid holds all batches
-abbrev pub AreWhole : Warehouse → Type 0
-AreWhole w = All (λ cuboid. cuboid.mark ≡ length w.batches) w.cuboids
+abbrev pub CuboidsAreCurrent : Warehouse → Type 0
+CuboidsAreCurrent w = All (λ cuboid. cuboid.mark ≡ length w.batches) w.cuboids
 
 -- Each stored cuboid holds all batches. Or the target is all batches, and each cuboid holds them but those that are too
 -- large, of which the first one is given
 abbrev pub AreWholeBut : Warehouse → Option View → Type 0
-AreWholeBut w None = AreWhole w
+AreWholeBut w None = CuboidsAreCurrent w
 AreWholeBut w (Some view) = IsDone w (Some view) × (w.target ≡ length w.batches)
 
 -- Why a commit on the way is refused before its first device call: that of the target, or that of the next run of a
@@ -27,5 +27,6 @@ AreWholeBut w (Some view) = IsDone w (Some view) × (w.target ≡ length w.batch
 abbrev pub KeepUpRefuses : {D : Type 0} (g : Ghosts D) → Store D g → Warehouse → Fault → Type 0
 KeepUpRefuses g store w fault =
     (fault ≡ Memory)
-    ⊎ (stores.Refuses (stores.content_of g store) (stores.room_of store) [] [] (roots.root_of (root_of (aimed w))) fault
+    ⊎ (stores.Refuses (stores.content_of g store) (stores.room_of store) [] [] (roots.root_spelling (root_of (aimed w)))
+    fault
     ⊎ RefusesLeast g store w fault)

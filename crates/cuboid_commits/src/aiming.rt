@@ -46,7 +46,7 @@ pub fn aim<D: Sectors>(alloc: Global, store: &mut Store<D>, root: &mut Root) -> 
     ensures as_before { IfErr result (λ fault. fault ≢ Device → IsAsBefore D.Sectors store.old store.new) }
     ensures causes { IfErr result (λ fault. fault ≢ Device → (w : Warehouse) → StoreAt D.Sectors store.old root.old w
         → D.keeps_word (device_of store.new)
-        → Refuses (content_of D.Sectors store.old) (room_of store.old) [] [] (roots.root_of (root_of (aimed w)))
+        → Refuses (content_of D.Sectors store.old) (room_of store.old) [] [] (roots.root_spelling (root_of (aimed w)))
         fault) }
     ensures failed { IsErrOf result Failed → ⊥ }
     ensures device { IsErrOf result Device → Breaks D.Sectors store.old store.new }

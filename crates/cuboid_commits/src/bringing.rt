@@ -14,7 +14,7 @@ ghost use Rattle.warehouse_objects.specs.Loaded.{IsLoaded};
 ghost use Rattle.warehouse_objects.specs.Represents.{AreItsMembers, Represents};
 ghost use Rattle.warehouse_objects.specs.Warehouse.{Cuboid, Warehouse};
 ghost use Rattle.cuboid_commits.specs.Keeping.{IsCaughtUp, IsReached, StoreAt};
-ghost use Rattle.cuboid_commits.specs.Nexts.{EndsBringing, IsBroughtBy, RefusesNext, first_run};
+ghost use Rattle.cuboid_commits.specs.Nexts.{EndsBringing, IsBroughtBy, RefusesToBringOn, first_run};
 
 use crate::keeping::{Next, keep_one};
 use crate::nexts::next_of;
@@ -57,7 +57,7 @@ pub(crate) fn bring_on<D: Sectors>(
         → (w : Warehouse)
         → StoreAt D.Sectors store.old root.old w
         → (D.keeps_word (device_of store.old) → AreItsMembers w dims.now modes.now)
-        → (next : RefusesNext D.Sectors store.new w fault) × (slice_get w.cuboids place ≡ Some next.old)) }
+        → (next : RefusesToBringOn D.Sectors store.new w fault) × (slice_get w.cuboids place ≡ Some next.old)) }
     ensures refused { IfErr result (λ fault. fault ≢ Device → (w : Warehouse) → StoreAt D.Sectors store.old root.old w
         → StoreAt D.Sectors store.new root.new w) }
     ensures readable { IsErrOf result BadLayout → D.keeps_word (device_of store.new) → (w : Warehouse)

@@ -11,7 +11,7 @@ ghost use Rattle.warehouse_root.specs.Objects.{run_id};
 ghost use Rattle.warehouse_root.specs.Root.{IsProperCuboid};
 ghost use Rattle.warehouse_objects.specs.Represents.{rows_in};
 ghost use Rattle.warehouse_objects.specs.Warehouse.{ship_modes_of};
-ghost use Rattle.cuboid_commits.specs.Nexts.{IsMade, IsNext};
+ghost use Rattle.cuboid_commits.specs.Nexts.{IsMade, IsNextStep};
 
 use crate::keeping::Next;
 use cube_model::Fault;
@@ -44,7 +44,7 @@ pub(crate) fn appended(
     requires runs { cuboid.runs < most_runs }
     requires cells { cuboid.cells + length tail.now.cells ≤ most_cells }
     ensures ok { IfOk result
-        (IsNext (λ w. RepresentRows w.rows (ship_modes_of w) (rows_in w.batches span) tail.now) root.now cuboid
+        (IsNextStep (λ w. RepresentRows w.rows (ship_modes_of w) (rows_in w.batches span) tail.now) root.now cuboid
         span.to) }
     ensures memory { IfErr result (λ fault. fault ≡ Memory) }
 {
@@ -72,7 +72,8 @@ pub(crate) fn replaced(
     requires above { cuboid.mark < mark }
     requires to { mark ≤ length root.now.batches }
     ensures ok { IfOk result
-        (IsNext (λ w. RepresentRows w.rows (ship_modes_of w) (all_rows (take mark w.batches)) cells.now) root.now cuboid
+        (IsNextStep (λ w. RepresentRows w.rows (ship_modes_of w) (all_rows (take mark w.batches)) cells.now) root.now
+        cuboid
         mark) }
     ensures memory { IfErr result (λ fault. fault ≡ Memory) }
 {

@@ -13,7 +13,7 @@ ghost use Rattle.warehouse_objects.specs.Reads.{ReadsOnly};
 ghost use Rattle.warehouse_objects.specs.Represents.{AreItsMembers, Represents, rows_in, said_of};
 ghost use Rattle.warehouse_objects.specs.Warehouse.{Cuboid, Warehouse, cuboid_at, ship_modes_of};
 ghost use Rattle.cuboid_commits.specs.Keeping.{IsTooLarge};
-ghost use Rattle.cuboid_commits.specs.Nexts.{HasStored, IsNext};
+ghost use Rattle.cuboid_commits.specs.Nexts.{HasStored, IsNextStep};
 
 use crate::keeping::Next;
 use crate::making::{appended, has_room, replaced};
@@ -52,7 +52,7 @@ pub(crate) fn next_of<D: Sectors>(
     requires after { cuboid.mark < root.now.target }
     requires within { root.now.target ≤ length root.now.batches }
     ensures ok { IfOk result
-        (IsNext (λ w. D.keeps_word (device_of store.new) × Represents (content_of D.Sectors store.old) w
+        (IsNextStep (λ w. D.keeps_word (device_of store.new) × Represents (content_of D.Sectors store.old) w
         × AreItsMembers w dims.now modes.now)
         root.now cuboid root.now.target) }
     ensures large { IsErrOf result (TooManyCells (index_of view)) → D.keeps_word (device_of store.new)
@@ -99,7 +99,7 @@ fn next_run<D: Sectors>(
     requires some { span.from < span.to }
     requires to { span.to ≤ length root.now.batches }
     ensures ok { IfOk result
-        (IsNext (λ w. D.keeps_word (device_of store.new) × Represents (content_of D.Sectors store.old) w
+        (IsNextStep (λ w. D.keeps_word (device_of store.new) × Represents (content_of D.Sectors store.old) w
         × RepresentRows w.rows (ship_modes_of w) (rows_in w.batches span) tail.now) root.now cuboid span.to) }
     ensures large { IsErrOf result (TooManyCells (index_of tail.now.view)) → D.keeps_word (device_of store.new)
         → (w : Warehouse) (stored : Cuboid)

@@ -7,10 +7,10 @@ ghost use Rattle.wire.specs.Limits.{most_objects};
 ghost use Rattle.object_store.specs.Disk.{Leaves};
 ghost use Rattle.object_store.specs.Store.{Breaks, IsAsBefore, IsOneOf, Refuses, content_of, device_of, disk_of};
 ghost use Rattle.object_store.specs.Store.{has_failed, room_of};
-ghost use Rattle.warehouse_root.specs.Root.{root_of};
+ghost use Rattle.warehouse_root.specs.Root.{root_spelling};
 ghost use Rattle.warehouse_objects.specs.Loaded.{IsLoaded};
 ghost use Rattle.cuboid_commits.specs.Nexts.{first_run};
-ghost use Rattle.cuboid_commits.specs.Replacing.{replaced};
+ghost use Rattle.cuboid_commits.specs.Replacing.{content_replaced};
 
 use cube_model::Fault;
 use object_store::Store;
@@ -34,11 +34,11 @@ pub(crate) fn replace_root<D: Sectors>(
 
     // A crash at any point leaves the content before or after.
     ensures leaves { Leaves (disk_of D.Sectors store.old) (disk_of D.Sectors store.new)
-        (IsOneOf (content_of D.Sectors store.old) (replaced next drops.now (content_of D.Sectors store.old))) }
+        (IsOneOf (content_of D.Sectors store.old) (content_replaced next drops.now (content_of D.Sectors store.old))) }
 
     // Then the content after.
     ensures ok { OnOk result (D.keeps_word (device_of store.new)
-        → content_of D.Sectors store.new ≡ replaced next drops.now (content_of D.Sectors store.old)) }
+        → content_of D.Sectors store.new ≡ content_replaced next drops.now (content_of D.Sectors store.old)) }
     ensures root { OnOk result (root.new ≡ next) }
     ensures loaded { OnOk result (D.keeps_word (device_of store.new) → (rows : DimRows) (modes : List (List ℕ))
         → IsLoaded (content_of D.Sectors store.old) rows modes root.old
@@ -52,7 +52,7 @@ pub(crate) fn replace_root<D: Sectors>(
     ensures causes { IfErr result
         (λ fault. fault ≢ Device
         → ((fault ≡ BadLayout) × (most_objects < length (content_of D.Sectors store.old).objects))
-        ⊎ Refuses (content_of D.Sectors store.old) (room_of store.old) [] drops.now (root_of next) fault) }
+        ⊎ Refuses (content_of D.Sectors store.old) (room_of store.old) [] drops.now (root_spelling next) fault) }
     ensures failed { IsErrOf result Failed → ⊥ }
     ensures device { IsErrOf result Device → Breaks D.Sectors store.old store.new }
 

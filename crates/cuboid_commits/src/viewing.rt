@@ -60,7 +60,7 @@ pub fn set_views<D: Sectors>(
     ensures causes { IfErr result (λ fault. fault ≢ Device → (w : Warehouse) → StoreAt D.Sectors store.old root.old w
         → D.keeps_word (device_of store.new)
         → Refuses (content_of D.Sectors store.old) (room_of store.old) [] (dropped_ids w views.now)
-        (roots.root_of (root_of (with_views w views.now))) fault) }
+        (roots.root_spelling (root_of (with_views w views.now))) fault) }
     ensures failed { IsErrOf result Failed → ⊥ }
     ensures device { IsErrOf result Device → Breaks D.Sectors store.old store.new }
 

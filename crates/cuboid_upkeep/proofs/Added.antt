@@ -8,7 +8,7 @@ use Rattle.cube_model.specs.declared.rows.DimRows.{DimRows}
 use Rattle.cube_model.specs.declared.rows.LineOrder.{LineOrder}
 use Rattle.lattice.specs.declared.view.View.{View}
 use Rattle.cuboid_cells.specs.declared.cell.Cell.{Cell}
-use Rattle.cuboid_cells.specs.Cells.{AreAscending, CellFits, KeyFits, PlainCells, cell_at, number_of}
+use Rattle.cuboid_cells.specs.Cells.{AreAscending, CellFits, KeyFits, PlainCells, cell_at, key_as_number}
 use Rattle.cuboid_cells.specs.Merges.{IsMergeFault, IsMergeOf, PassesType, merged, merged_if_any}
 use Rattle.cuboid_upkeep.specs.Grouping.{Group, HasMembers, PassType, RepresentRows}
 use Rattle.cuboid_upkeep.specs.Lawful.{MergesRepresentBoth}
@@ -82,7 +82,7 @@ module _ (dimensions : DimRows) (modes : List (List ℕ)) (view : View) (so_far 
       (second : RepresentRows dimensions modes rows (record { view = view; cells = other })) where
     passed : PassesType one other → PassType dimensions modes view (so_far ++ rows)
     passed p =
-        let number : ℕ = number_of p.left.key in
+        let number : ℕ = key_as_number p.left.key in
         let left_key : KeyFits p.left.key =
         subst (λ (c : Cell). KeyFits c.key) p.in_one.2 (fit p.in_one.0 p.left p.in_one.1).key in
         let at_left : cell_at number one ≡ Some p.left =

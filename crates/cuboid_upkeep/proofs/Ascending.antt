@@ -7,9 +7,9 @@ use Rattle.std.proofs.lemmas.Bool.Decides.{nat_tests}
 use Rattle.lattice.specs.declared.level.Level.{Level}
 use Rattle.lattice.specs.declared.view.View.{View}
 use Rattle.cuboid_cells.specs.declared.key.Key.{Key}
-use Rattle.cuboid_cells.specs.Cells.{IsCodeAt, IsKeyOf, KeyFits, number_of}
+use Rattle.cuboid_cells.specs.Cells.{IsCodeAt, IsKeyOf, KeyFits, key_as_number}
 use Rattle.cuboid_upkeep.specs.declared.member_codes.ViewMembers.{ViewMembers}
-use Rattle.cuboid_upkeep.specs.Numbers.{LiesIn, digit_of, place_of}
+use Rattle.cuboid_upkeep.specs.Numbers.{LiesIn, code_digit, key_place}
 
 -- a number of two digits
 pub below_top : (high top count low : ℕ) → high < top → low < count → high * count + low < top * count
@@ -23,7 +23,7 @@ Follow place other number next = (place < other → number < next) × (place ≡
 
 -- the digits of two codes of a level
 digits_follow : (grouped : Level) (a b : ℕ) → IsCodeAt grouped a → IsCodeAt grouped b
-    → Follow (digit_of a) (digit_of b) a b
+    → Follow (code_digit a) (code_digit b) a b
 digits_follow grouped a b is also = by (a == 65535) (b == 65535) refl refl
   where
     by : (p q : Bool) → (a == 65535) ≡ p → (b == 65535) ≡ q → Follow (cond p 0 a) (cond q 0 b) a b
@@ -67,21 +67,21 @@ one_digit p q m x y first next c d high low lt within fits also = by (cases_lt p
 module _ (view : View) (members : ViewMembers) (one other : Key) (of : IsKeyOf view one) (also : IsKeyOf view other)
     (fits : KeyFits one) (fit : KeyFits other)
     (lies : LiesIn members one) (lie : LiesIn members other) (modes : one.ship_mode ≡ other.ship_mode) where
-  pub keys_follow : Follow (place_of members one) (place_of members other) (number_of one) (number_of other)
+  pub keys_follow : Follow (key_place members one) (key_place members other) (key_as_number one) (key_as_number other)
   keys_follow =
       let first = digits_follow view.customer one.customer other.customer of.customer also.customer in
-      let second = one_digit (digit_of one.customer) (digit_of other.customer) members.suppliers.count
-      (digit_of one.supplier) (digit_of other.supplier)
+      let second = one_digit (code_digit one.customer) (code_digit other.customer) members.suppliers.count
+      (code_digit one.supplier) (code_digit other.supplier)
       one.customer other.customer one.supplier other.supplier first
       (digits_follow view.supplier one.supplier other.supplier of.supplier also.supplier)
       lies.supplier lie.supplier fits.supplier fit.supplier in
       let third =
-      one_digit _ _ members.parts.count (digit_of one.part) (digit_of other.part)
+      one_digit _ _ members.parts.count (code_digit one.part) (code_digit other.part)
       (one.customer * 65536 + one.supplier) (other.customer * 65536 + other.supplier)
       one.part other.part second (digits_follow view.part one.part other.part of.part also.part) lies.part lie.part
       fits.part fit.part in
       let fourth =
-      one_digit _ _ members.dates.count (digit_of one.date) (digit_of other.date)
+      one_digit _ _ members.dates.count (code_digit one.date) (code_digit other.date)
       ((one.customer * 65536 + one.supplier) * 65536 + one.part)
       ((other.customer * 65536 + other.supplier) * 65536 + other.part) one.date other.date third
       (digits_follow view.date one.date other.date of.date also.date)

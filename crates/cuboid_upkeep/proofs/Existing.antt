@@ -18,9 +18,10 @@ use Rattle.cube_model.specs.declared.rows.DimRows.{DimRows}
 use Rattle.cube_model.specs.declared.rows.LineOrder.{LineOrder}
 use Rattle.lattice.specs.declared.view.View.{View}
 use Rattle.cuboid_cells.specs.declared.cell.Cell.{Cell}
-use Rattle.cuboid_cells.specs.Cells.{AreAscending, cell_at, number_of}
+use Rattle.cuboid_cells.specs.Cells.{AreAscending, cell_at, key_as_number}
 use Rattle.cuboid_cells.specs.Merges.{merged, merged_if_any}
-use Rattle.cuboid_upkeep.specs.Grouping.{Group, HasMembers, RepresentRows, cell_over, key_of, rows_of, summaries_over}
+use Rattle.cuboid_upkeep.specs.Grouping.{Group, HasMembers, RepresentRows, cell_over, key_of, rows_of_number}
+use Rattle.cuboid_upkeep.specs.Grouping.{summaries_over}
 use Rattle.cuboid_upkeep.proofs.Added.{both_represent}
 use Rattle.cuboid_upkeep.proofs.Found.{flipped, none_else, other_key}
 use Rattle.cuboid_upkeep.proofs.Sorted.{key_number}
@@ -225,15 +226,15 @@ module _ (dimensions : DimRows) (modes : List (List ℕ)) (view : View) where
       (once one first.ascending) (λ key there.
       any_at key other ∙ ap is_some (second.group key)
       ∙ ap (λ (l : List LineOrder). is_some (over l)) (rows_amid key)
-      ∙ some_amid (rows_of dimensions modes view key before) (rows_of dimensions modes view key rows)
-      (rows_of dimensions modes view key after)
+      ∙ some_amid (rows_of_number dimensions modes view key before) (rows_of_number dimensions modes view key rows)
+      (rows_of_number dimensions modes view key after)
       (ap is_some (sym (first.group key)) ∙ sym (any_at key one) ∙ there)) in
       omega (arith, most, length-map one key_number, length-map other key_number)
     where
-      rows_amid : (key : ℕ) → rows_of dimensions modes view key (before ++ (rows ++ after))
-          ≡ rows_of dimensions modes view key before
-          ++ (rows_of dimensions modes view key rows ++ rows_of dimensions modes view key after)
+      rows_amid : (key : ℕ) → rows_of_number dimensions modes view key (before ++ (rows ++ after))
+          ≡ rows_of_number dimensions modes view key before
+          ++ (rows_of_number dimensions modes view key rows ++ rows_of_number dimensions modes view key after)
       rows_amid key =
-          let p : LineOrder → Bool = λ row. number_of (key_of dimensions modes view row) == key in
+          let p : LineOrder → Bool = λ row. key_as_number (key_of dimensions modes view row) == key in
           filter-append p before (rows ++ after)
           ∙ ap (λ (l : List LineOrder). filter p before ++ l) (filter-append p rows after)

@@ -7,12 +7,12 @@ use Rattle.std.proofs.lemmas.List.Folds.{find_at}
 use Rattle.std.proofs.lemmas.Option.{slice_get_past, slice_get-get_or}
 use Rattle.dictionary.proofs.Items.{position_or_len-map}
 use Rattle.cuboid_cells.specs.declared.cell.Cell.{Cell}
-use Rattle.cuboid_cells.specs.Cells.{cell_at, number_of}
+use Rattle.cuboid_cells.specs.Cells.{cell_at, key_as_number}
 use Rattle.cuboid_cells.specs.Merges.{merged_if_any}
 
 -- whether a cell has a key
 abbrev pub has_key : ℕ → Cell → Bool
-has_key number cell = number_of cell.key == number
+has_key number cell = key_as_number cell.key == number
 
 pub flipped : (a b : ℕ) → nat_eq a b ≡ (b == a)
 flipped a b = grind (arith, nat_tests)
@@ -31,11 +31,11 @@ same_key a b e = grind (arith, nat_tests)
 
 -- where a key is among the keys, its cell is among the cells
 pub place_is : (number : ℕ) (cells : List Cell)
-    → position_or_len (nat_eq number) (map (λ (cell : Cell). number_of cell.key) cells)
+    → position_or_len (nat_eq number) (map (λ (cell : Cell). key_as_number cell.key) cells)
     ≡ position_or_len (has_key number) cells
 place_is number cells =
-    position_or_len-map (nat_eq number) (λ (cell : Cell). number_of cell.key) cells
-    ∙ ap (λ (test : Cell → Bool). position_or_len test cells) (λ i cell. flipped number (number_of cell.key) i)
+    position_or_len-map (nat_eq number) (λ (cell : Cell). key_as_number cell.key) cells
+    ∙ ap (λ (test : Cell → Bool). position_or_len test cells) (λ i cell. flipped number (key_as_number cell.key) i)
 
 pub at_place : (number : ℕ) (cells : List Cell) (place : ℕ) (d : Cell) → place ≡ position_or_len (has_key number) cells
     → place < length cells
@@ -51,14 +51,14 @@ at_none number cells place is past =
 
 -- what is found has the key
 pub found_key : (number : ℕ) (cells : List Cell) (found : Cell) → cell_at number cells ≡ Some found
-    → number_of found.key ≡ number
+    → key_as_number found.key ≡ number
 found_key number [] found is = absurd (cc is)
 found_key number (cell ∷ cells) found is =
     (elim (has_key number cell) as
     (λ b. has_key number cell ≡ b → cond b (Some cell) (cell_at number cells) ≡ Some found
-    → number_of found.key ≡ number) [
-      | true ↦ λ e same. (let own : cell ≡ found = cc same in ap (λ (c : Cell). number_of c.key) (sym own)
-          ∙ same_key (number_of cell.key) number e)
+    → key_as_number found.key ≡ number) [
+      | true ↦ λ e same. (let own : cell ≡ found = cc same in ap (λ (c : Cell). key_as_number c.key) (sym own)
+          ∙ same_key (key_as_number cell.key) number e)
       | false ↦ λ e same. found_key number cells found same
     ]) refl is
 

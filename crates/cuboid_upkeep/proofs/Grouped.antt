@@ -9,7 +9,7 @@ use Rattle.cube_model.specs.declared.rows.LineOrder.{LineOrder}
 use Rattle.group_plan.specs.Rows.{row_at}
 use Rattle.lattice.specs.declared.view.View.{View}
 use Rattle.cuboid_cells.specs.declared.cell.Cell.{Cell}
-use Rattle.cuboid_cells.specs.Cells.{cell_at, number_of, KeyFits}
+use Rattle.cuboid_cells.specs.Cells.{cell_at, key_as_number, KeyFits}
 use Rattle.cuboid_cells.specs.Merges.{merged, merged_if_any}
 use Rattle.cuboid_upkeep.specs.Grouping.{Group, HasMembers}
 use Rattle.cuboid_upkeep.specs.Steps.{AreGrouped, AreKeyed, AreUnfit, IsCellOfRow, IsGood, Overflows, TakesIn}
@@ -67,22 +67,22 @@ module _ (dimensions : DimRows) (modes : List (List ℕ)) (view : View) where
         → Grouping dimensions modes view (take place rows) keys cells
         → IsCellOfRow dimensions modes view row cell → Overflows cells cell → AreUnfit dimensions modes view rows
     row_overflows keys cells cell so_far is over =
-        let there = found_in (number_of cell.key) cells over.before over.is in
+        let there = found_in (key_as_number cell.key) cells over.before over.is in
         let key : KeyFits over.before.key =
         subst (λ (c : Cell). KeyFits c.key) there.2 (so_far.good there.0 over.before there.1).fits.key in
-        let alone : cell_at (number_of cell.key) (cell ∷ []) ≡ Some cell =
-        ap (λ (b : Bool). cond b (Some cell) None) (own_key (number_of cell.key) (number_of cell.key) refl) in
+        let alone : cell_at (key_as_number cell.key) (cell ∷ []) ≡ Some cell =
+        ap (λ (b : Bool). cond b (Some cell) None) (own_key (key_as_number cell.key) (key_as_number cell.key) refl) in
         inr (record {
           before = [];
           part = take place rows ++ row ∷ [];
           after = drop (place + 1) rows;
-          number = number_of cell.key;
+          number = key_as_number cell.key;
           cell = merged over.before cell;
           parts = sym (whole dimensions modes view rows place within);
           is =
-              over_append dimensions modes view (number_of cell.key) (take place rows) (row ∷ [])
-              ∙ (λ i. merged_if_any (sym (so_far.group (number_of cell.key)) i)
-              (sym (row_alone dimensions modes view row cell is (number_of cell.key)) i))
+              over_append dimensions modes view (key_as_number cell.key) (take place rows) (row ∷ [])
+              ∙ (λ i. merged_if_any (sym (so_far.group (key_as_number cell.key)) i)
+              (sym (row_alone dimensions modes view row cell is (key_as_number cell.key)) i))
               ∙ (λ i. merged_if_any (over.is i) (alone i));
           passes = λ numbers. over.passes (record { key = key; count = numbers.count; measures = numbers.measures });
         })

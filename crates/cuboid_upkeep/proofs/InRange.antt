@@ -16,8 +16,8 @@ use Rattle.cube_model.specs.Aggregates.{total}
 use Rattle.cube_model.specs.Measures.{measure_of}
 use Rattle.lattice.specs.declared.view.View.{View}
 use Rattle.cuboid_cells.specs.declared.cell.Cell.{Cell}
-use Rattle.cuboid_cells.specs.Cells.{SummaryFits, number_of}
-use Rattle.cuboid_upkeep.specs.Grouping.{NumbersFit, cell_over, key_of, rows_of, summaries_over, summary_over}
+use Rattle.cuboid_cells.specs.Cells.{SummaryFits, key_as_number}
+use Rattle.cuboid_upkeep.specs.Grouping.{NumbersFit, cell_over, key_of, rows_of_number, summaries_over, summary_over}
 use Rattle.cuboid_upkeep.specs.Lawful.{RowsInRangeFit}
 
 fits_small : (z : ℤ) → nat_abs z < 2 ^ 63 → FitsSigned w64 z
@@ -122,8 +122,8 @@ cell_fits dimensions modes view (row ∷ rows) cell is small few =
 
 pub in_range_fit : RowsInRangeFit
 in_range_fit dimensions modes view rows in_range few past =
-    let of_key = λ (row : LineOrder). number_of (key_of dimensions modes view row) == past.number in
-    let chosen : List LineOrder = rows_of dimensions modes view past.number past.part in
+    let of_key = λ (row : LineOrder). key_as_number (key_of dimensions modes view row) == past.number in
+    let chosen : List LineOrder = rows_of_number dimensions modes view past.number past.part in
     let small : AreInRange chosen = λ measure.
     let all = in_range measure in
     let parts : absolute_total measure rows ≡ absolute_total measure (past.before ++ (past.part ++ past.after)) =

@@ -19,7 +19,8 @@ use Rattle.lattice.specs.declared.level.Level.{Level}
 use Rattle.lattice.specs.declared.level.Level.TheVariants.{All}
 use Rattle.cuboid_cells.specs.Limits.{all_code}
 use Rattle.cuboid_upkeep.specs.Codes.{member_code}
-use Rattle.cuboid_upkeep.specs.Representatives.{AreAtCodes, AreKeysOf, HasCode, HaveAllCodes, HoldAllCodes, missing_in}
+use Rattle.cuboid_upkeep.specs.Representatives.{AreAtCodes, AreKeysOf, MemberHasCode, HaveAllCodes, HoldAllCodes}
+use Rattle.cuboid_upkeep.specs.Representatives.{missing_in}
 use Rattle.cuboid_upkeep.specs.Representatives.{with_key}
 use Rattle.cuboid_upkeep.specs.declared.member_keys.MemberKeys.{MemberKeys}
 
@@ -139,7 +140,7 @@ module _ (dimensions : DimRows) (axis : Axis) (all : List ℕ)
         (within : count < length all)
         (code key left : ℕ) (code_is : code ≡ member_code dimensions axis level count)
         (key_is : key ≡ get_or all count 0) (room : code < length old) where
-      has_code : HasCode dimensions axis level key code
+      has_code : MemberHasCode dimensions axis level key code
       has_code =
           let row : row_index_of dimensions axis key ≡ count = ap (row_index_of dimensions axis) key_is
           ∙ own_row good count within in
@@ -178,15 +179,15 @@ module _ (dimensions : DimRows) (axis : Axis) (all : List ℕ)
                 (let there : get_or (slice_set keys code (Some key)) other None ≡ Some own =
                 sym (ap (λ (ks : List (Option ℕ)). get_or ks other None) (with_none keys code key none)) ∙ at in
                 let low : code < length keys = omega (arith, room, so_far.long) in
-                (elim (other == code) as (λ b. (other == code) ≡ b → HasCode dimensions axis level own other) [
+                (elim (other == code) as (λ b. (other == code) ≡ b → MemberHasCode dimensions axis level own other) [
                   | true ↦ λ e.
                       (let same : other ≡ code = grind (arith, nat_tests) in
                       let is : Some key ≡ Some own =
                       sym (ap (λ (n : ℕ). get_or (slice_set keys code (Some key)) n None) same ∙ new_there low)
                       ∙ there in
                       let own_is : key ≡ own = cc is in
-                      subst (λ (n : ℕ). HasCode dimensions axis level own n) (sym same)
-                      (subst (λ (k : ℕ). HasCode dimensions axis level k code) own_is has_code))
+                      subst (λ (n : ℕ). MemberHasCode dimensions axis level own n) (sym same)
+                      (subst (λ (k : ℕ). MemberHasCode dimensions axis level k code) own_is has_code))
                   | false ↦ λ e.
                       (let apart : other ≢ code = grind (arith, nat_tests) in
                       so_far.sound other own (sym (old_there other apart) ∙ there))
@@ -261,7 +262,7 @@ module _ (dimensions : DimRows) (axis : Axis) (keys : MemberKeys) where
       → AreKeysOf dimensions axis All keys
   every_sound none known code key at =
       (elim (code == all_code) as (λ b. (code == all_code) ≡ b → cond b keys.every (get_or keys.members.items code None)
-      ≡ Some key → HasCode dimensions axis All key code) [
+      ≡ Some key → MemberHasCode dimensions axis All key code) [
         | true ↦ λ e is.
             (let same : code ≡ all_code = grind (arith, nat_tests) in
             record {
@@ -289,7 +290,7 @@ module _ (dimensions : DimRows) (axis : Axis) (keys : MemberKeys) where
       → AreKeysOf dimensions axis level keys
   members_sound level nothing sound code key at =
       (elim (code == all_code) as (λ b. cond b keys.every (get_or keys.members.items code None) ≡ Some key
-      → HasCode dimensions axis level key code) [
+      → MemberHasCode dimensions axis level key code) [
         | true ↦ λ is. absurd (some_none key keys.every is nothing)
         | false ↦ λ is. sound code key is
       ]) at

@@ -3,10 +3,10 @@ use Rattle.std.proofs.Common.{◌≡◌, ap, refl, ℕ, ◌<◌, Bool, true, fal
 use Rattle.std.specs.Prelude.{IfNone}
 use Rattle.cuboid_upkeep.specs.Codes.{mode_code}
 use Rattle.cuboid_upkeep.proofs.Found.{other_key}
-use Rattle.cuboid_upkeep.specs.Numbers.{digit_of}
+use Rattle.cuboid_upkeep.specs.Numbers.{code_digit}
 
 -- a code that is not that of ALL is its own digit
-pub own_digit : (code : ℕ) → code < 65535 → digit_of code ≡ code
+pub own_digit : (code : ℕ) → code < 65535 → code_digit code ≡ code
 own_digit code below = ap (λ (b : Bool). cond b 0 code) (other_key code 65535 (λ same. omega (arith, same, below)))
 
 -- the fifth code where ship modes are not grouped

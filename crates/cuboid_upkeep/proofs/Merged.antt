@@ -17,9 +17,9 @@ use Rattle.cube_model.specs.Measures.{measure_of}
 use Rattle.lattice.specs.declared.view.View.{View}
 use Rattle.cuboid_cells.specs.declared.cell.Cell.{Cell}
 use Rattle.cuboid_cells.specs.declared.summary.Summary.{Summary}
-use Rattle.cuboid_cells.specs.Cells.{cell_at, number_of}
+use Rattle.cuboid_cells.specs.Cells.{cell_at, key_as_number}
 use Rattle.cuboid_cells.specs.Merges.{merged_if_any, merged_summaries, merged_summary}
-use Rattle.cuboid_upkeep.specs.Grouping.{Group, cell_over, key_of, rows_of, summaries_over, summary_over}
+use Rattle.cuboid_upkeep.specs.Grouping.{Group, cell_over, key_of, rows_of_number, summaries_over, summary_over}
 use Rattle.std.proofs.Common.{◌==◌}
 
 sum_from : (a : ℤ) (xs : List ℤ) → fold (λ so_far number. so_far +ℤ number) a xs ≡ a +ℤ total xs
@@ -81,14 +81,14 @@ cell_over-append dimensions modes view (x ∷ xs) (y ∷ ys) =
 
 pub over_append : (dimensions : DimRows) (modes : List (List ℕ)) (view : View) (number : ℕ)
     (rows others : List LineOrder)
-    → cell_over dimensions modes view (rows_of dimensions modes view number (rows ++ others))
-    ≡ merged_if_any (cell_over dimensions modes view (rows_of dimensions modes view number rows))
-    (cell_over dimensions modes view (rows_of dimensions modes view number others))
+    → cell_over dimensions modes view (rows_of_number dimensions modes view number (rows ++ others))
+    ≡ merged_if_any (cell_over dimensions modes view (rows_of_number dimensions modes view number rows))
+    (cell_over dimensions modes view (rows_of_number dimensions modes view number others))
 over_append dimensions modes view number rows others =
     ap (cell_over dimensions modes view)
-    (filter-append (λ row. number_of (key_of dimensions modes view row) == number) rows others)
-    ∙ cell_over-append dimensions modes view (rows_of dimensions modes view number rows)
-    (rows_of dimensions modes view number others)
+    (filter-append (λ row. key_as_number (key_of dimensions modes view row) == number) rows others)
+    ∙ cell_over-append dimensions modes view (rows_of_number dimensions modes view number rows)
+    (rows_of_number dimensions modes view number others)
 
 -- cells of fact rows put end to end go by keys as their merge does
 pub both_group : (dimensions : DimRows) (modes : List (List ℕ)) (view : View) (rows others : List LineOrder)

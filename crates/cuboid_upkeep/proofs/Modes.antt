@@ -14,10 +14,10 @@ use Rattle.dictionary.specs.Dictionary.{code_of}
 use Rattle.dictionary.proofs.CallerLemmas.{place_append, place_seen, slice_get-lt}
 use Rattle.dimensions.proofs.Keys.{place_of_some}
 use Rattle.lattice.specs.declared.view.View.{View}
-use Rattle.cuboid_cells.specs.Cells.{number_of}
+use Rattle.cuboid_cells.specs.Cells.{key_as_number}
 use Rattle.cuboid_cells.specs.Limits.{all_code}
 use Rattle.cuboid_upkeep.specs.Codes.{IsMode, mode_code}
-use Rattle.cuboid_upkeep.specs.Grouping.{HasMembers, cell_over, code_on, key_of, rows_of, summaries_over}
+use Rattle.cuboid_upkeep.specs.Grouping.{HasMembers, cell_over, code_on, key_of, rows_of_number, summaries_over}
 use Rattle.cuboid_upkeep.specs.Lawful.{ModesAreAddedAfter}
 use Rattle.cuboid_upkeep.specs.Representatives.{IsCodeOfMode}
 
@@ -58,12 +58,12 @@ module _ (dimensions : DimRows) (modes more : List (List ℕ)) (view : View) whe
       }
 
   rows_still : (number : ℕ) (rows : List LineOrder) → All (HasMembers dimensions modes view) rows
-      → rows_of dimensions (modes ++ more) view number rows ≡ rows_of dimensions modes view number rows
+      → rows_of_number dimensions (modes ++ more) view number rows ≡ rows_of_number dimensions modes view number rows
   rows_still number [] all = refl
   rows_still number (row ∷ rows) all =
       let key = key_still row (All-head (HasMembers dimensions modes view) row rows all) in
       let rest = rows_still number rows (All-tail (HasMembers dimensions modes view) row rows all) in
-      λ i. cond (number_of (key i) == number) (row ∷ rest i) (rest i)
+      λ i. cond (key_as_number (key i) == number) (row ∷ rest i) (rest i)
 
   cell_still : (rows : List LineOrder) → All (HasMembers dimensions modes view) rows
       → cell_over dimensions (modes ++ more) view rows ≡ cell_over dimensions modes view rows
@@ -83,8 +83,9 @@ they_still_represent dimensions modes more rows plain represent =
           represent.group number
           ∙ sym (ap (cell_over dimensions (modes ++ more) view)
           (rows_still dimensions modes more view number rows represent.known)
-          ∙ cell_still dimensions modes more view (rows_of dimensions modes view number rows)
-          (All-filter (λ row. number_of (key_of dimensions modes view row) == number) (HasMembers dimensions modes view)
+          ∙ cell_still dimensions modes more view (rows_of_number dimensions modes view number rows)
+          (All-filter (λ row. key_as_number (key_of dimensions modes view row) == number)
+          (HasMembers dimensions modes view)
           rows represent.known));
     }
 

@@ -6,9 +6,10 @@ use Rattle.cube_model.specs.declared.rows.DimRows.{DimRows}
 use Rattle.cube_model.specs.declared.rows.LineOrder.{LineOrder}
 use Rattle.lattice.specs.declared.view.View.{View}
 use Rattle.cuboid_cells.specs.declared.cell.Cell.{Cell}
-use Rattle.cuboid_cells.specs.Cells.{number_of}
+use Rattle.cuboid_cells.specs.Cells.{key_as_number}
 use Rattle.cuboid_upkeep.specs.Codes.{mode_code}
-use Rattle.cuboid_upkeep.specs.Grouping.{HasMembers, RepresentRows, cell_over, code_on, key_of, rows_of, summaries_over}
+use Rattle.cuboid_upkeep.specs.Grouping.{HasMembers, RepresentRows, cell_over, code_on, key_of, rows_of_number}
+use Rattle.cuboid_upkeep.specs.Grouping.{summaries_over}
 use Rattle.cuboid_upkeep.specs.Steps.{AreUnfit}
 use Rattle.cuboid_upkeep.proofs.Members.{no_mode}
 
@@ -33,8 +34,8 @@ module _ (dimensions : DimRows) (view : View) (none : view.ship_mode ≡ false) 
       }
 
   rows_alike : (number : ℕ) (rows : List LineOrder)
-      → rows_of dimensions modes view number rows ≡ rows_of dimensions others view number rows
-  rows_alike number rows = λ i. filter (λ row. number_of (key_alike row i) == number) rows
+      → rows_of_number dimensions modes view number rows ≡ rows_of_number dimensions others view number rows
+  rows_alike number rows = λ i. filter (λ row. key_as_number (key_alike row i) == number) rows
 
   cell_alike : (rows : List LineOrder) → cell_over dimensions modes view rows ≡ cell_over dimensions others view rows
   cell_alike [] = refl
@@ -45,10 +46,10 @@ module _ (dimensions : DimRows) (view : View) (none : view.ship_mode ≡ false) 
   })
 
   over_alike : (number : ℕ) (rows : List LineOrder)
-      → cell_over dimensions modes view (rows_of dimensions modes view number rows)
-      ≡ cell_over dimensions others view (rows_of dimensions others view number rows)
+      → cell_over dimensions modes view (rows_of_number dimensions modes view number rows)
+      ≡ cell_over dimensions others view (rows_of_number dimensions others view number rows)
   over_alike number rows = ap (cell_over dimensions modes view) (rows_alike number rows)
-      ∙ cell_alike (rows_of dimensions others view number rows)
+      ∙ cell_alike (rows_of_number dimensions others view number rows)
 
   pub represent_alike : (rows : List LineOrder) (cells : List Cell)
       → RepresentRows dimensions modes rows (record { view = view; cells = cells })

@@ -25,7 +25,7 @@ use Rattle.cube_model.specs.Selection.{holds_of, is_selected, text_le}
 use Rattle.cube_model.specs.Validity.{HaveShortTexts, IsValid}
 use Rattle.dimensions.specs.Shown.{rows_on}
 use Rattle.dimensions.proofs.AttributeLaws.{count_on}
-use Rattle.group_plan.specs.Numbers.{IsNumber}
+use Rattle.group_plan.specs.Numbers.{IsGroupNumber}
 use Rattle.group_plan.proofs.AtPlaces.{attribute_at_place}
 use Rattle.lattice.specs.declared.level.Level.{Level}
 use Rattle.lattice.specs.declared.level.Level.TheVariants as level
@@ -34,7 +34,7 @@ use Rattle.lattice.specs.Determined.{Decides, Determines, Serves, highest_level}
 use Rattle.lattice.specs.Levels.{height, level_attribute}
 use Rattle.lattice.specs.Views.{level_on}
 use Rattle.cuboid_cells.specs.declared.key.Key.{Key}
-use Rattle.cuboid_cells.specs.Cells.{number_of}
+use Rattle.cuboid_cells.specs.Cells.{key_as_number}
 use Rattle.cuboid_upkeep.specs.Grouping.{HasMembers, code_on, key_of}
 use Rattle.cuboid_upkeep.specs.Codes.{IsMode, level_column, member_code, mode_code}
 use Rattle.cuboid_upkeep.specs.Lawful.{OneKeyOneGroup}
@@ -102,8 +102,8 @@ module _ (dimensions : DimRows) (law : ValidRowsKeepTheRules) (valid : IsValid d
   one_choice [] all = refl
   one_choice (condition ∷ conditions) all = λ i. one_answer condition all.0 i && one_choice conditions all.1 i
 
-  one_number : (query : Query) → Serves view query → (number : Option ℕ) → IsNumber dimensions query row number
-      → IsNumber dimensions query other number
+  one_number : (query : Query) → Serves view query → (number : Option ℕ) → IsGroupNumber dimensions query row number
+      → IsGroupNumber dimensions query other number
   one_number query serves None is = sym (one_choice query.conditions serves.conditions) ∙ is
   one_number query serves (Some number) is = (
     sym (one_choice query.conditions serves.conditions) ∙ is.0,
@@ -185,7 +185,7 @@ one_key_of : (one other : Key) → one.customer < 65536 → one.supplier < 65536
     → one.ship_mode < 65536
     → other.customer < 65536 → other.supplier < 65536 → other.part < 65536 → other.date < 65536
     → other.ship_mode < 65536
-    → number_of one ≡ number_of other → one ≡ other
+    → key_as_number one ≡ key_as_number other → one ≡ other
 one_key_of one other a b c d e p q r s t same =
     let fifth = last_digit (((one.customer * 65536 + one.supplier) * 65536 + one.part) * 65536 + one.date)
     (((other.customer * 65536 + other.supplier) * 65536 + other.part) * 65536 + other.date) one.ship_mode

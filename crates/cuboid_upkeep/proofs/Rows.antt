@@ -14,7 +14,7 @@ use Rattle.lattice.specs.declared.view.View.{View}
 use Rattle.lattice.specs.Views.{level_on}
 use Rattle.cuboid_cells.specs.declared.cell.Cell.{Cell}
 use Rattle.cuboid_cells.specs.declared.key.Key.{Key}
-use Rattle.cuboid_cells.specs.Cells.{IsModeCode, KeyFits, number_of}
+use Rattle.cuboid_cells.specs.Cells.{IsModeCode, KeyFits, key_as_number}
 use Rattle.cuboid_upkeep.specs.Codes.{IsMode, mode_code}
 use Rattle.cuboid_upkeep.specs.Grouping.{Group, HasMembers, cell_over, key_of, summaries_over}
 use Rattle.cuboid_upkeep.specs.Keys.{IsAxisCode}
@@ -74,7 +74,7 @@ module _ (dimensions : DimRows) (modes : List (List ℕ)) (view : View) where
   row_alone row cell is =
       let same : of_row row ≡ cell = cc is.is in
       subst (λ (c : Cell). Group dimensions modes view (row ∷ []) (c ∷ [])) same
-      (λ number. one_if row (number_of (key_of dimensions modes view row) == number))
+      (λ number. one_if row (key_as_number (key_of dimensions modes view row) == number))
 
   -- what unfit rows make of all
   all_before : (rows others : List LineOrder) → All (HasMembers dimensions modes view) (rows ++ others)
@@ -108,12 +108,13 @@ module _ (dimensions : DimRows) (modes : List (List ℕ)) (view : View) where
     before = [];
     part = row ∷ [];
     after = [];
-    number = number_of (key_of dimensions modes view row);
+    number = key_as_number (key_of dimensions modes view row);
     cell = past.0;
     parts = refl;
     is =
         ap (λ (b : Bool). cell_over dimensions modes view (cond b (row ∷ []) []))
-        (own_key (number_of (key_of dimensions modes view row)) (number_of (key_of dimensions modes view row)) refl)
+        (own_key (key_as_number (key_of dimensions modes view row)) (key_as_number (key_of dimensions modes view row))
+        refl)
         ∙ past.1;
     passes = past.2;
   })

@@ -13,13 +13,13 @@ use Rattle.cube_model.specs.declared.rows.DimRows.{DimRows}
 use Rattle.cube_model.specs.declared.rows.LineOrder.{LineOrder}
 use Rattle.lattice.specs.declared.view.View.{View}
 use Rattle.cuboid_cells.specs.declared.cell.Cell.{Cell}
-use Rattle.cuboid_cells.specs.Cells.{AreAscending, AreProper, cell_at, number_of}
+use Rattle.cuboid_cells.specs.Cells.{AreAscending, AreProperCells, cell_at, key_as_number}
 use Rattle.cuboid_upkeep.specs.Grouping.{RepresentRows}
 use Rattle.cuboid_upkeep.specs.Steps.{AreGrouped, IsGood}
 use Rattle.cuboid_upkeep.proofs.Found.{at_place, found_key, has_key, other_key, own_key}
 
 abbrev pub key_number : Cell → ℕ
-key_number cell = number_of cell.key
+key_number cell = key_as_number cell.key
 
 -- no two cells have one key
 abbrev pub AreApart : List Cell → Type 0
@@ -115,7 +115,7 @@ module _ (dimensions : DimRows) (modes : List (List ℕ)) (view : View) (rows : 
   good_still : All (IsGood view) new
   good_still = All-permutation (IsGood view) cells new same are.good
 
-  pub they_are_proper : length rows ≤ 65536 → AreProper (record { view = view; cells = new })
+  pub they_are_proper : length rows ≤ 65536 → AreProperCells (record { view = view; cells = new })
   they_are_proper few = record {
     rules = record {
       few = omega (arith, few, are.few, length_permutation cells new same);

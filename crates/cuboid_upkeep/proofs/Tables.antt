@@ -11,23 +11,23 @@ use Rattle.group_plan.specs.Rows.{row_at}
 use Rattle.lattice.specs.declared.view.View.{View}
 use Rattle.cuboid_cells.specs.declared.cell.Cell.{Cell}
 use Rattle.cuboid_cells.specs.declared.key.Key.{Key}
-use Rattle.cuboid_cells.specs.Cells.{AreProper}
+use Rattle.cuboid_cells.specs.Cells.{AreProperCells}
 use Rattle.cuboid_upkeep.specs.declared.member_codes.ViewMembers.{ViewMembers}
 use Rattle.cuboid_upkeep.specs.declared.table.CellTable.{CellTable}
 use Rattle.cuboid_upkeep.specs.Growing.{IsTableOver}
 use Rattle.cuboid_upkeep.specs.Keys.{AreRowKeys, AreRowNumbers, IsKeyOfRow, IsNumberOfRow}
-use Rattle.cuboid_upkeep.specs.Slots.{AreSlots, cells_in, is_used, used}
+use Rattle.cuboid_upkeep.specs.Slots.{SlotsHaveCells, cells_in, slot_is_used, used}
 use Rattle.cuboid_upkeep.proofs.Slots.{used_ascend, used_good}
 
 pub table_proper : (dimensions : DimRows) (table : CellTable) → IsTableOver dimensions table
-    → AreProper (cells_in table.view table.slots.items)
+    → AreProperCells (cells_in table.view table.slots.items)
 table_proper dimensions table is =
     let good = used_good table.view table.members is.no_modes 0 table.slots.items is.slots in record {
       rules = record {
         few = omega (
           arith,
-          length-filter is_used table.slots.items,
-          count_by-le-length is_used table.slots.items,
+          length-filter slot_is_used table.slots.items,
+          count_by-le-length slot_is_used table.slots.items,
           is.size,
           is.few.four,
         );
@@ -41,13 +41,14 @@ abbrev none_of : List Cell
 none_of = []
 
 -- free slots
-module _ (free : Cell) (none : is_used free ≡ false) where
+module _ (free : Cell) (none : slot_is_used free ≡ false) where
   pub none_used : (n : ℕ) → used (replicate n free) ≡ []
   none_used zero = refl
   none_used (suc n) = ap (λ (b : Bool). cond b (free ∷ used (replicate n free)) (used (replicate n free))) none
       ∙ none_used n
 
-  pub all_free : (view : View) (members : ViewMembers) (from n : ℕ) → AreSlots view members from (replicate n free)
+  pub all_free : (view : View) (members : ViewMembers) (from n : ℕ)
+      → SlotsHaveCells view members from (replicate n free)
   all_free view members from zero = tt
   all_free view members from (suc n) = (λ e. absurd (cc (e, none)), all_free view members (suc from) n)
 
@@ -57,7 +58,7 @@ take_none (suc n) = refl
 
 -- what a resize makes of no slot
 module _ (size count : ℕ) (old new : List Cell) (free : Cell) (empty : count ≡ 0) (none : old ≡ [])
-    (is : new ≡ take size old ++ replicate (size - count) free) (unused : is_used free ≡ false) where
+    (is : new ≡ take size old ++ replicate (size - count) free) (unused : slot_is_used free ≡ false) where
   resized : new ≡ replicate size free
   resized =
       let many : size - count ≡ size = omega (arith, empty) in
@@ -68,8 +69,9 @@ module _ (size count : ℕ) (old new : List Cell) (free : Cell) (empty : count �
   pub resized_free : used new ≡ []
   resized_free = ap used resized ∙ none_used free unused size
 
-  pub resized_slots : (view : View) (members : ViewMembers) → AreSlots view members 0 new
-  resized_slots view members = subst (AreSlots view members 0) (sym resized) (all_free free unused view members 0 size)
+  pub resized_slots : (view : View) (members : ViewMembers) → SlotsHaveCells view members 0 new
+  resized_slots view members =
+      subst (SlotsHaveCells view members 0) (sym resized) (all_free free unused view members 0 size)
 
 -- one key more
 pub one_key_more : (dimensions : DimRows) (modes : List (List ℕ)) (view : View) (members : ViewMembers)

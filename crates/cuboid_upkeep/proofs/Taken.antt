@@ -14,7 +14,7 @@ use Rattle.indexmap.specs.IndexSet.{insert_key}
 use Rattle.std.proofs.Math.Seq.{map-set_same}
 use Rattle.lattice.specs.declared.view.View.{View}
 use Rattle.cuboid_cells.specs.declared.cell.Cell.{Cell}
-use Rattle.cuboid_cells.specs.Cells.{CellFits, cell_at, number_of}
+use Rattle.cuboid_cells.specs.Cells.{CellFits, cell_at, key_as_number}
 use Rattle.cuboid_cells.specs.Merges.{merged, merged_if_any}
 use Rattle.cuboid_upkeep.specs.Steps.{AreKeyed, IsGood, MergesAt, Overflows, OverflowsAt, TakesIn}
 use Rattle.cuboid_upkeep.proofs.Found.{at_none, at_place, found_key, has_key, none_else, own_key, place_is, same_key}
@@ -43,90 +43,94 @@ good_after view cells cell good is =
     All-append (IsGood view) cells (cell ∷ []) good (All-cons (IsGood view) cell [] is (All-nil (IsGood view)))
 
 module _ (cells : List Cell) (cell : Cell) (place : ℕ)
-    (is : place ≡ position_or_len (nat_eq (number_of cell.key)) (map (λ (c : Cell). number_of c.key) cells)) where
-  place_at : place ≡ position_or_len (has_key (number_of cell.key)) cells
-  place_at = is ∙ place_is (number_of cell.key) cells
+    (is : place ≡ position_or_len (nat_eq (key_as_number cell.key)) (map (λ (c : Cell). key_as_number c.key) cells))
+  where
+    place_at : place ≡ position_or_len (has_key (key_as_number cell.key)) cells
+    place_at = is ∙ place_is (key_as_number cell.key) cells
 
-  -- a new key
-  pub taken_after : length cells ≤ place → (new : List Cell) → new ≡ cells ++ cell ∷ [] → TakesIn cells cell new
-  taken_after past new new_is = subst (TakesIn cells cell) (sym new_is) (record {
-    longer = omega (arith, length_push cells cell);
-    good = λ view good own. good_after view cells cell good own;
-    by_key = λ number.
-        find-append (has_key number) cells (cell ∷ [])
-        ∙ put_after cell (cell_at number cells) (number_of cell.key == number)
-        (λ e. ap (λ (n : ℕ). cell_at n cells) (sym (same_key (number_of cell.key) number e))
-        ∙ at_none (number_of cell.key) cells place place_at past);
-  })
+    -- a new key
+    pub taken_after : length cells ≤ place → (new : List Cell) → new ≡ cells ++ cell ∷ [] → TakesIn cells cell new
+    taken_after past new new_is = subst (TakesIn cells cell) (sym new_is) (record {
+      longer = omega (arith, length_push cells cell);
+      good = λ view good own. good_after view cells cell good own;
+      by_key = λ number.
+          find-append (has_key number) cells (cell ∷ [])
+          ∙ put_after cell (cell_at number cells) (key_as_number cell.key == number)
+          (λ e. ap (λ (n : ℕ). cell_at n cells) (sym (same_key (key_as_number cell.key) number e))
+          ∙ at_none (key_as_number cell.key) cells place place_at past);
+    })
 
-  module _ (within : place < length cells) (before : Cell) (before_is : before ≡ get_or cells place before) where
-    pub found_before : cell_at (number_of cell.key) cells ≡ Some before
-    found_before = at_place (number_of cell.key) cells place before place_at within ∙ ap Some (sym before_is)
+    module _ (within : place < length cells) (before : Cell) (before_is : before ≡ get_or cells place before) where
+      pub found_before : cell_at (key_as_number cell.key) cells ≡ Some before
+      found_before = at_place (key_as_number cell.key) cells place before place_at within ∙ ap Some (sym before_is)
 
-    key_before : number_of before.key ≡ number_of cell.key
-    key_before = found_key (number_of cell.key) cells before found_before
+      key_before : key_as_number before.key ≡ key_as_number cell.key
+      key_before = found_key (key_as_number cell.key) cells before found_before
 
-    pub overflows : (CellFits (merged before cell) → ⊥) → Overflows cells cell
-    overflows passes = record { before = before; is = found_before; passes = passes }
+      pub overflows : (CellFits (merged before cell) → ⊥) → Overflows cells cell
+      overflows passes = record { before = before; is = found_before; passes = passes }
 
-    module _ (both : Cell) (both_is : both ≡ merged before cell) where
-      key_both : number_of both.key ≡ number_of cell.key
-      key_both = ap (λ (c : Cell). number_of c.key) both_is ∙ key_before
+      module _ (both : Cell) (both_is : both ≡ merged before cell) where
+        key_both : key_as_number both.key ≡ key_as_number cell.key
+        key_both = ap (λ (c : Cell). key_as_number c.key) both_is ∙ key_before
 
-      pub same_keys : map (λ (c : Cell). number_of c.key) (slice_set cells place both)
-          ≡ map (λ (c : Cell). number_of c.key) cells
-      same_keys =
-          map-set_same (λ (c : Cell). number_of c.key) cells place both before
-          (key_both ∙ sym key_before ∙ ap (λ (c : Cell). number_of c.key) before_is)
+        pub same_keys : map (λ (c : Cell). key_as_number c.key) (slice_set cells place both)
+            ≡ map (λ (c : Cell). key_as_number c.key) cells
+        same_keys =
+            map-set_same (λ (c : Cell). key_as_number c.key) cells place both before
+            (key_both ∙ sym key_before ∙ ap (λ (c : Cell). key_as_number c.key) before_is)
 
-      pub keyed_still : (keys new : List ℕ) → keys ≡ map (λ (c : Cell). number_of c.key) cells → new ≡ keys
-          → IsDistinct nat_eq new → AreKeyed new (slice_set cells place both)
-      keyed_still keys new keys_are new_is once = record { keys_are = new_is ∙ keys_are ∙ sym same_keys; once = once }
+        pub keyed_still : (keys new : List ℕ) → keys ≡ map (λ (c : Cell). key_as_number c.key) cells → new ≡ keys
+            → IsDistinct nat_eq new → AreKeyed new (slice_set cells place both)
+        keyed_still keys new keys_are new_is once = record { keys_are = new_is ∙ keys_are ∙ sym same_keys; once = once }
 
-      good_both : (view : View) → All (IsGood view) cells → CellFits both → IsGood view both
-      good_both view good fits =
-          let here : IsGood view before = subst (IsGood view) (sym before_is) (good place before within) in
-          subst (IsGood view) (sym both_is) (record {
-            is_cell = record { key = here.is_cell.key; count = omega (arith, here.is_cell.count) };
-            fits = subst CellFits both_is fits;
-          })
+        good_both : (view : View) → All (IsGood view) cells → CellFits both → IsGood view both
+        good_both view good fits =
+            let here : IsGood view before = subst (IsGood view) (sym before_is) (good place before within) in
+            subst (IsGood view) (sym both_is) (record {
+              is_cell = record { key = here.is_cell.key; count = omega (arith, here.is_cell.count) };
+              fits = subst CellFits both_is fits;
+            })
 
-      pub taken_over : CellFits both → TakesIn cells cell (slice_set cells place both)
-      taken_over fits = record {
-        longer = omega (arith, length-set cells place both);
-        good = λ view good own. All-set (IsGood view) cells place both (good_both view good fits) good;
-        by_key = λ number.
-            (elim (number_of cell.key == number) as (λ b. (number_of cell.key == number) ≡ b
-            → cell_at number (slice_set cells place both)
-            ≡ merged_if_any (cell_at number cells) (cond b (Some cell) None)) [
-              | true ↦ λ e.
-                  let same : number_of cell.key ≡ number = same_key (number_of cell.key) number e in
-                  ap (λ (n : ℕ). cell_at n (slice_set cells place both)) (sym same)
-                  ∙ find-set (has_key (number_of cell.key)) cells place both place_at within
-                  (own_key (number_of both.key) (number_of cell.key) key_both)
-                  ∙ ap Some both_is
-                  ∙ ap (λ (o : Option Cell). merged_if_any o (Some cell)) (sym found_before)
-                  ∙ ap (λ (n : ℕ). merged_if_any (cell_at n cells) (Some cell)) same
-              | false ↦ λ e.
-                  let apart : (number_of before.key == number) ≡ false = ap (λ (n : ℕ). n == number) key_before ∙ e in
-                  let apart_both : (number_of both.key == number) ≡ false = ap (λ (n : ℕ). n == number) key_both ∙ e in
-                  find_past (has_key number) cells place both before (ap (has_key number) (sym before_is) ∙ apart)
-                  apart_both
-                  ∙ sym (none_else (cell_at number cells))
-            ]) refl;
-      }
+        pub taken_over : CellFits both → TakesIn cells cell (slice_set cells place both)
+        taken_over fits = record {
+          longer = omega (arith, length-set cells place both);
+          good = λ view good own. All-set (IsGood view) cells place both (good_both view good fits) good;
+          by_key = λ number.
+              (elim (key_as_number cell.key == number) as (λ b. (key_as_number cell.key == number) ≡ b
+              → cell_at number (slice_set cells place both)
+              ≡ merged_if_any (cell_at number cells) (cond b (Some cell) None)) [
+                | true ↦ λ e.
+                    let same : key_as_number cell.key ≡ number = same_key (key_as_number cell.key) number e in
+                    ap (λ (n : ℕ). cell_at n (slice_set cells place both)) (sym same)
+                    ∙ find-set (has_key (key_as_number cell.key)) cells place both place_at within
+                    (own_key (key_as_number both.key) (key_as_number cell.key) key_both)
+                    ∙ ap Some both_is
+                    ∙ ap (λ (o : Option Cell). merged_if_any o (Some cell)) (sym found_before)
+                    ∙ ap (λ (n : ℕ). merged_if_any (cell_at n cells) (Some cell)) same
+                | false ↦ λ e.
+                    let apart : (key_as_number before.key == number) ≡ false = ap (λ (n : ℕ). n == number) key_before
+                    ∙ e in
+                    let apart_both : (key_as_number both.key == number) ≡ false = ap (λ (n : ℕ). n == number) key_both
+                    ∙ e in
+                    find_past (has_key number) cells place both before (ap (has_key number) (sym before_is) ∙ apart)
+                    apart_both
+                    ∙ sym (none_else (cell_at number cells))
+              ]) refl;
+        }
 
-  module _ (within : place < length cells) (new : List Cell) (m : MergesAt cells place cell new) where
-    pub merged_taken : TakesIn cells cell new
-    merged_taken =
-        subst (TakesIn cells cell) (sym m.is)
-        (taken_over within m.before m.before_is (merged m.before cell) refl m.fits)
+    module _ (within : place < length cells) (new : List Cell) (m : MergesAt cells place cell new) where
+      pub merged_taken : TakesIn cells cell new
+      merged_taken =
+          subst (TakesIn cells cell) (sym m.is)
+          (taken_over within m.before m.before_is (merged m.before cell) refl m.fits)
 
-    pub merged_keyed : (keys new_keys : List ℕ) → keys ≡ map (λ (c : Cell). number_of c.key) cells → new_keys ≡ keys
-        → IsDistinct nat_eq new_keys → AreKeyed new_keys new
-    merged_keyed keys new_keys keys_are same once =
-        subst (AreKeyed new_keys) (sym m.is)
-        (keyed_still within m.before m.before_is (merged m.before cell) refl keys new_keys keys_are same once)
+      pub merged_keyed : (keys new_keys : List ℕ) → keys ≡ map (λ (c : Cell). key_as_number c.key) cells
+          → new_keys ≡ keys
+          → IsDistinct nat_eq new_keys → AreKeyed new_keys new
+      merged_keyed keys new_keys keys_are same once =
+          subst (AreKeyed new_keys) (sym m.is)
+          (keyed_still within m.before m.before_is (merged m.before cell) refl keys new_keys keys_are same once)
 
-  pub merge_overflows : place < length cells → OverflowsAt cells place cell → Overflows cells cell
-  merge_overflows within over = overflows within over.before over.before_is over.passes
+    pub merge_overflows : place < length cells → OverflowsAt cells place cell → Overflows cells cell
+    merge_overflows within over = overflows within over.before over.before_is over.passes

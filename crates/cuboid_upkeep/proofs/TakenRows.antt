@@ -9,7 +9,7 @@ use Rattle.group_plan.specs.Rows.{row_at}
 use Rattle.lattice.specs.declared.view.View.{View}
 use Rattle.cuboid_cells.specs.declared.cell.Cell.{Cell}
 use Rattle.cuboid_cells.specs.declared.key.Key.{Key}
-use Rattle.cuboid_cells.specs.Cells.{CellFits, KeyFits, cell_at, number_of}
+use Rattle.cuboid_cells.specs.Cells.{CellFits, KeyFits, cell_at, key_as_number}
 use Rattle.cuboid_cells.specs.Merges.{PassesType}
 use Rattle.cuboid_upkeep.specs.Grouping.{HasMembers, RepresentRows, key_of, summaries_over}
 use Rattle.cuboid_upkeep.specs.Steps.{AreUnfit, IsAddFault, IsCellOfRow, IsRowKey}
@@ -17,8 +17,8 @@ use Rattle.cuboid_upkeep.proofs.Added.{both_represent, merge_refused}
 use Rattle.cuboid_upkeep.proofs.Existing.{ascends}
 use Rattle.cuboid_upkeep.specs.declared.member_codes.ViewMembers.{ViewMembers}
 use Rattle.cuboid_upkeep.specs.Keys.{IsKeyOfRow, IsNumberOfRow}
-use Rattle.cuboid_upkeep.specs.Numbers.{LiesIn, place_of}
-use Rattle.cuboid_upkeep.specs.Slots.{AreSlots, IsAt, IsTaken, PassesAt, TakesAt, cells_in, used}
+use Rattle.cuboid_upkeep.specs.Numbers.{LiesIn, key_place}
+use Rattle.cuboid_upkeep.specs.Slots.{SlotsHaveCells, HasNumber, IsTaken, PassesAt, TakesAt, cells_in, used}
 use Rattle.cuboid_upkeep.proofs.Ascending.{keys_follow}
 use Rattle.cuboid_upkeep.proofs.Rows.{all_unfit, key_by, one_row_more, row_alone}
 use Rattle.cuboid_upkeep.proofs.Sorted.{found_in}
@@ -26,7 +26,7 @@ use Rattle.cuboid_upkeep.proofs.Slots.{merge_then, past_is, past_key, slots_then
 
 -- no row yet
 pub none_taken : (dimensions : DimRows) (view : View) (members : ViewMembers) (rows : List LineOrder)
-    (slots : List Cell) → AreSlots view members 0 slots → IsTaken dimensions view members rows 0 slots slots
+    (slots : List Cell) → SlotsHaveCells view members 0 slots → IsTaken dimensions view members rows 0 slots slots
 none_taken dimensions view members rows slots are = record {
   size = refl;
   slots = are;
@@ -51,8 +51,8 @@ key_is dimensions view row key cell own is =
 pub number_of_key : (dimensions : DimRows) (view : View) (members : ViewMembers) (row : LineOrder) (key : Key)
     (number : ℕ)
     → IsKeyOfRow dimensions [] view members row key → IsNumberOfRow dimensions view members row number
-    → place_of members key ≡ number
-number_of_key dimensions view members row key number own fact = ap (place_of members) (own.is.is ∙ sym fact.own.is.is)
+    → key_place members key ≡ number
+number_of_key dimensions view members row key number own fact = ap (key_place members) (own.is.is ∙ sym fact.own.is.is)
     ∙ sym fact.is
 
 module _ (dimensions : DimRows) (view : View) (members : ViewMembers) (no_modes : view.ship_mode ≡ false)
@@ -62,12 +62,12 @@ module _ (dimensions : DimRows) (view : View) (members : ViewMembers) (no_modes 
   abbrev row : LineOrder
   row = row_at rows place
 
-  there : IsAt view members (place_of members key) cell
+  there : HasNumber view members (key_place members key) cell
   there =
       let is = cell_is dimensions [] view own.is in
       let same = key_is dimensions view row key cell own.is is in record {
         lies = subst (LiesIn members) (sym same) own.lies;
-        place_is = ap (place_of members) same;
+        place_is = ap (key_place members) same;
         good = is.good;
       }
 
@@ -80,12 +80,12 @@ module _ (dimensions : DimRows) (view : View) (members : ViewMembers) (no_modes 
       }
 
   module _ (old now : List Cell) (so_far : IsTaken dimensions view members rows place old now)
-      (low : place_of members key < length now) where
-    pub one_taken : (next : List Cell) → length next ≡ length now → TakesAt now (place_of members key) cell next
+      (low : key_place members key < length now) where
+    pub one_taken : (next : List Cell) → length next ≡ length now → TakesAt now (key_place members key) cell next
         → IsTaken dimensions view members rows (place + 1) old next
     one_taken next many takes = record {
       size = many ∙ so_far.size;
-      slots = slots_then view members no_modes now (place_of members key) cell next so_far.slots low there takes;
+      slots = slots_then view members no_modes now (key_place members key) cell next so_far.slots low there takes;
       represent = λ front represent.
           subst (λ (l : List LineOrder). RepresentRows dimensions [] l (cells_in view next))
           (append_assoc front (take place rows) (row ∷ [])
@@ -93,23 +93,23 @@ module _ (dimensions : DimRows) (view : View) (members : ViewMembers) (no_modes 
           (both_represent dimensions [] (front ++ take place rows) (row ∷ []) (cells_in view now)
           (record { view = view; cells = cell ∷ [] }) (cells_in view next) refl
           (so_far.represent front represent) alone
-          (merge_then view members no_modes now (place_of members key) cell next so_far.slots low there takes));
+          (merge_then view members no_modes now (key_place members key) cell next so_far.slots low there takes));
     }
 
     -- the cell passes a type
-    pub one_passes : PassesAt now (place_of members key) cell → (front : List LineOrder)
+    pub one_passes : PassesAt now (key_place members key) cell → (front : List LineOrder)
         → RepresentRows dimensions [] front (cells_in view old) → AreUnfit dimensions [] view (front ++ rows)
     one_passes past front represent =
         let first = so_far.represent front represent in
-        let number : ℕ = number_of cell.key in
+        let number : ℕ = key_as_number cell.key in
         let before : cell_at number (used now) ≡ Some past.slot =
-        past_is view members no_modes now (place_of members key) cell so_far.slots low there past in
+        past_is view members no_modes now (key_place members key) cell so_far.slots low there past in
         let passes : PassesType (used now) (cell ∷ []) = record {
           left = past.slot;
           right = cell;
           in_one = found_in number (used now) past.slot before;
           in_other = (0, omega arith, refl);
-          key = past_key view members no_modes now (place_of members key) cell so_far.slots low there past;
+          key = past_key view members no_modes now (key_place members key) cell so_far.slots low there past;
           passes = past.passes;
         } in
         let fit : All CellFits (used now) =
@@ -128,7 +128,7 @@ module _ (dimensions : DimRows) (view : View) (members : ViewMembers) (no_modes 
 digits_are : (a b c d : ℕ) → b < 65536 → d < 65536 → a * 65536 + b ≡ c * 65536 + d → (a ≡ c) × (b ≡ d)
 digits_are a b c d one other same = (omega (arith, one, other, same), omega (arith, one, other, same))
 
-key_by_number : (one other : Key) → KeyFits one → KeyFits other → number_of one ≡ number_of other → one ≡ other
+key_by_number : (one other : Key) → KeyFits one → KeyFits other → key_as_number one ≡ key_as_number other → one ≡ other
 key_by_number one other fits fit same =
     let fifth = digits_are (((one.customer * 65536 + one.supplier) * 65536 + one.part) * 65536 + one.date) one.ship_mode
     (((other.customer * 65536 + other.supplier) * 65536 + other.part) * 65536 + other.date) other.ship_mode
@@ -145,13 +145,13 @@ key_by_number one other fits fit same =
 -- the key of the slot that a row's number has is the row's
 pub key_there : (dimensions : DimRows) (view : View) (members : ViewMembers) → view.ship_mode ≡ false
     → (row : LineOrder) (number : ℕ) (slot : Cell)
-    → IsNumberOfRow dimensions view members row number → IsAt view members number slot
+    → IsNumberOfRow dimensions view members row number → HasNumber view members number slot
     → IsKeyOfRow dimensions [] view members row slot.key
 key_there dimensions view members no_modes row number slot fact at =
     let own = fact.own in
     let modes : fact.key.ship_mode ≡ slot.key.ship_mode = own.is.of.ship_mode.1 no_modes
     ∙ sym (at.good.is_cell.key.ship_mode.1 no_modes) in
-    let alike : number_of fact.key ≡ number_of slot.key =
+    let alike : key_as_number fact.key ≡ key_as_number slot.key =
     (keys_follow view members fact.key slot.key own.is.of at.good.is_cell.key own.is.fits at.good.fits.key own.lies
     at.lies modes).1 (sym fact.is ∙ sym at.place_is) in
     subst (IsKeyOfRow dimensions [] view members row)

@@ -23,14 +23,14 @@ use Rattle.lattice.specs.declared.level.Level.TheVariants as level
 use Rattle.lattice.specs.Views.{level_on}
 use Rattle.cuboid_cells.specs.declared.cell.Cell.{Cell}
 use Rattle.cuboid_cells.specs.declared.key.Key.{Key}
-use Rattle.cuboid_cells.specs.Cells.{IsCellOf, IsCodeAt, KeyFits, number_of}
+use Rattle.cuboid_cells.specs.Cells.{IsCellOf, IsCodeAt, KeyFits, key_as_number}
 use Rattle.cuboid_cells.specs.Limits.{all_code}
 use Rattle.lattice.specs.declared.view.View.{View}
 use Rattle.cuboid_upkeep.specs.CellNumbers.{AskedOfCells, HasUnselected}
 use Rattle.cuboid_upkeep.specs.Codes.{mode_code}
 use Rattle.cuboid_upkeep.specs.Grouping.{HasMembers, code_on, key_of}
 use Rattle.cuboid_upkeep.specs.MemberParts.{AreParts, AreUnselected, IsPartAt, IsUnselected, given_by, part_in}
-use Rattle.cuboid_upkeep.specs.Representatives.{HasCode}
+use Rattle.cuboid_upkeep.specs.Representatives.{MemberHasCode}
 use Rattle.cuboid_upkeep.specs.declared.member_parts.MemberPart.TheVariants.{NoMember}
 use Rattle.cuboid_upkeep.specs.declared.member_parts.MemberParts.{MemberParts}
 
@@ -71,13 +71,13 @@ off_axis dimensions query row axis none =
 module _ (dimensions : DimRows) (query : Query) (axis : Axis) (level : Level) (parts : MemberParts)
     (are : AreParts dimensions query axis level parts) where
   -- a code at which nothing is selected is that of a key at which nothing is
-  key_at_code : (code key : ℕ) → HasCode dimensions axis level key code → IsUnselected parts code
-      → (other : ℕ) × HasCode dimensions axis level other code
+  key_at_code : (code key : ℕ) → MemberHasCode dimensions axis level key code → IsUnselected parts code
+      → (other : ℕ) × MemberHasCode dimensions axis level other code
       × (given_at dimensions query axis (row_index_of dimensions axis other) ≡ None)
   key_at_code code key has none =
       (elim (part_in parts code) as (λ found. part_in parts code ≡ found
       → IsPartAt dimensions query axis level code found
-      → (other : ℕ) × HasCode dimensions axis level other code
+      → (other : ℕ) × MemberHasCode dimensions axis level other code
       × (given_at dimensions query axis (row_index_of dimensions axis other) ≡ None)) [
         | None ↦ λ e at. absurd (at key has)
         | Some found ↦ λ e at. (at.0, at.1, sym at.2 ∙ nothing found e)
@@ -284,7 +284,7 @@ by_number parts before unit from to code rest number none is within low high les
 
 module _ (view : View) (cell : Cell) (of_view : IsCellOf view cell) (fits : KeyFits cell.key) (parts : MemberParts)
     (from : ℕ) (to : Option ℕ)
-    (high : from ≤ number_of cell.key) (less : IfSome to (λ end. number_of cell.key < end)) where
+    (high : from ≤ key_as_number cell.key) (less : IfSome to (λ end. key_as_number cell.key < end)) where
   abbrev key : Key
   key = cell.key
 
@@ -292,7 +292,7 @@ module _ (view : View) (cell : Cell) (of_view : IsCellOf view cell) (fits : KeyF
       → IsUnselected parts key.customer
   customer_unselected grouped none =
       by_number parts 0 18446744073709551616 from to key.customer
-      (((key.supplier * 65536 + key.part) * 65536 + key.date) * 65536 + key.ship_mode) (number_of key) none
+      (((key.supplier * 65536 + key.part) * 65536 + key.date) * 65536 + key.ship_mode) (key_as_number key) none
       (omega (arith))
       (below_every view.customer key.customer of_view.key.customer fits.customer grouped)
       (omega (arith, fits.supplier, fits.part, fits.date, fits.ship_mode)) high less
@@ -302,7 +302,7 @@ module _ (view : View) (cell : Cell) (of_view : IsCellOf view cell) (fits : KeyF
   supplier_unselected every_customer grouped none =
       let is_customer : key.customer ≡ all_code = of_view.key.customer.1 every_customer in
       by_number parts 4294901760 281474976710656 from to key.supplier
-      ((key.part * 65536 + key.date) * 65536 + key.ship_mode) (number_of key) none (omega (arith, is_customer))
+      ((key.part * 65536 + key.date) * 65536 + key.ship_mode) (key_as_number key) none (omega (arith, is_customer))
       (below_every view.supplier key.supplier of_view.key.supplier fits.supplier grouped)
       (omega (arith, fits.part, fits.date, fits.ship_mode)) high less
 
@@ -311,7 +311,7 @@ module _ (view : View) (cell : Cell) (of_view : IsCellOf view cell) (fits : KeyF
   part_unselected every_customer every_supplier grouped none =
       let is_customer : key.customer ≡ all_code = of_view.key.customer.1 every_customer in
       let is_supplier : key.supplier ≡ all_code = of_view.key.supplier.1 every_supplier in
-      by_number parts 281474976645120 4294967296 from to key.part (key.date * 65536 + key.ship_mode) (number_of key)
+      by_number parts 281474976645120 4294967296 from to key.part (key.date * 65536 + key.ship_mode) (key_as_number key)
       none (omega (arith, is_customer, is_supplier))
       (below_every view.part key.part of_view.key.part fits.part grouped) (omega (arith, fits.date, fits.ship_mode))
       high less
@@ -323,6 +323,6 @@ module _ (view : View) (cell : Cell) (of_view : IsCellOf view cell) (fits : KeyF
       let is_customer : key.customer ≡ all_code = of_view.key.customer.1 every_customer in
       let is_supplier : key.supplier ≡ all_code = of_view.key.supplier.1 every_supplier in
       let is_part : key.part ≡ all_code = of_view.key.part.1 every_part in
-      by_number parts 18446744073709486080 65536 from to key.date (key.ship_mode) (number_of key) none
+      by_number parts 18446744073709486080 65536 from to key.date (key.ship_mode) (key_as_number key) none
       (omega (arith, is_customer, is_supplier, is_part))
       (below_every view.date key.date of_view.key.date fits.date grouped) (omega (arith, fits.ship_mode)) high less

@@ -5,11 +5,11 @@ use Rattle.cube_model.specs.declared.attr.Axis.TheVariants.{Customer, Supplier, 
 use Rattle.cube_model.specs.declared.query.Query.{Query}
 use Rattle.cube_model.specs.declared.rows.DimRows.{DimRows}
 use Rattle.cube_model.specs.declared.rows.LineOrder.{LineOrder}
-use Rattle.group_plan.specs.Numbers.{IsNumber}
+use Rattle.group_plan.specs.Numbers.{IsGroupNumber}
 use Rattle.group_plan.specs.Parts.{holds_in}
 use Rattle.lattice.specs.declared.view.View.{View}
 use Rattle.cuboid_cells.specs.declared.cell.Cell.{Cell}
-use Rattle.cuboid_cells.specs.Cells.{IsCellOf, KeyFits, number_of}
+use Rattle.cuboid_cells.specs.Cells.{IsCellOf, KeyFits, key_as_number}
 use Rattle.cuboid_upkeep.specs.Grouping.{HasMembers, key_of}
 use Rattle.cuboid_upkeep.specs.MemberParts.{AreParts}
 use Rattle.cuboid_upkeep.specs.Representatives.{IsRepresentative}
@@ -26,14 +26,14 @@ pub record AskedOfCells : Type 0 where
 pub record IsCellNumber (asked : AskedOfCells) (cell : Cell) (number : Option ℕ) : Type 0 where
   pub row : LineOrder
   pub represents : IsRepresentative asked.dimensions asked.modes asked.view cell row
-  pub number_is : IsNumber asked.dimensions asked.query row number
+  pub number_is : IsGroupNumber asked.dimensions asked.query row number
 
 -- a row has the key of a cell, and is not selected
 pub record HasUnselected (asked : AskedOfCells) (cell : Cell) : Type 0 where
   pub row : LineOrder
   pub members : HasMembers asked.dimensions asked.modes asked.view row
   pub key_is : key_of asked.dimensions asked.modes asked.view row ≡ cell.key
-  pub number_is : IsNumber asked.dimensions asked.query row None
+  pub number_is : IsGroupNumber asked.dimensions asked.query row None
 
 -- a cell need not be looked at: where a row has its key, one has that is not selected
 abbrev pub IsUnwanted : AskedOfCells → Cell → Type 0
@@ -42,8 +42,8 @@ IsUnwanted asked cell = (row : LineOrder) → HasMembers asked.dimensions asked.
 
 -- so it is with the cells of the view whose keys have numbers from one on and, if there is another, below that
 abbrev pub AreUnwanted : AskedOfCells → ℕ → Option ℕ → Type 0
-AreUnwanted asked from to = (cell : Cell) → IsCellOf asked.view cell → KeyFits cell.key → from ≤ number_of cell.key
-    → IfSome to (λ end. number_of cell.key < end) → IsUnwanted asked cell
+AreUnwanted asked from to = (cell : Cell) → IsCellOf asked.view cell → KeyFits cell.key → from ≤ key_as_number cell.key
+    → IfSome to (λ end. key_as_number cell.key < end) → IsUnwanted asked cell
 
 -- whether rows of zeros keep the conditions on the numbers of rows, and what the members of each level give
 pub record AreTables (asked : AskedOfCells) (within : Bool) (customers suppliers parts dates : MemberParts) : Type 0

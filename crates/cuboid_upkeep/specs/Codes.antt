@@ -21,9 +21,9 @@ code_in None dimensions attr place = place
 code_in (Some column) dimensions attr place = code_at (texts_of dimensions attr) place
 
 -- the code of the member of a level at a row of a dimension; ALL has one for every row
-abbrev pub code_of : Option Attr → DimRows → ℕ → ℕ
-code_of None dimensions place = all_code
-code_of (Some attr) dimensions place = code_in (attr_column attr) dimensions attr place
+abbrev pub member_code_of : Option Attr → DimRows → ℕ → ℕ
+member_code_of None dimensions place = all_code
+member_code_of (Some attr) dimensions place = code_in (attr_column attr) dimensions attr place
 
 -- the column of texts that has the members of a level: none for a day, and none for ALL
 abbrev pub level_column : Option Attr → Option ℕ
@@ -31,7 +31,7 @@ level_column None = None
 level_column (Some attr) = attr_column attr
 
 abbrev pub member_code : DimRows → Axis → Level → ℕ → ℕ
-member_code dimensions axis level place = code_of (level_attribute axis level) dimensions place
+member_code dimensions axis level place = member_code_of (level_attribute axis level) dimensions place
 
 -- the code of a ship mode among the modes, where ship modes are grouped; ALL is one for every row
 abbrev pub mode_code : Bool → List (List ℕ) → List ℕ → ℕ

@@ -22,7 +22,7 @@ use Rattle.cuboid_cells.specs.declared.cell.Cell.{Cell}
 use Rattle.cuboid_cells.specs.declared.key.Key.{Key}
 use Rattle.cuboid_cells.specs.declared.summary.Summaries.{Summaries}
 use Rattle.cuboid_cells.specs.declared.summary.Summary.{Summary}
-use Rattle.cuboid_cells.specs.Cells.{AreAscending, PlainCells, SummariesFit, cell_at, number_of}
+use Rattle.cuboid_cells.specs.Cells.{AreAscending, PlainCells, SummariesFit, cell_at, key_as_number}
 use Rattle.cuboid_upkeep.specs.Codes.{IsMode, member_code, mode_code}
 
 -- the code of a fact row's member at a level of a dimension
@@ -40,8 +40,9 @@ key_of dimensions modes view row = record {
 }
 
 -- the fact rows of a key, given by its number
-abbrev pub rows_of : DimRows → List (List ℕ) → View → ℕ → List LineOrder → List LineOrder
-rows_of dimensions modes view number rows = filter (λ row. number_of (key_of dimensions modes view row) == number) rows
+abbrev pub rows_of_number : DimRows → List (List ℕ) → View → ℕ → List LineOrder → List LineOrder
+rows_of_number dimensions modes view number rows =
+    filter (λ row. key_as_number (key_of dimensions modes view row) == number) rows
 
 -- what is kept of a measure of fact rows
 abbrev pub summary_over : Measure → List LineOrder → Summary
@@ -74,7 +75,7 @@ cell_over dimensions modes view (row ∷ rows) = Some (record {
 -- cells are given by keys: that of a key is the cell of the fact rows of the key
 abbrev pub Group : DimRows → List (List ℕ) → View → List LineOrder → List Cell → Type 0
 Group dimensions modes view rows cells = (number : ℕ)
-    → cell_at number cells ≡ cell_over dimensions modes view (rows_of dimensions modes view number rows)
+    → cell_at number cells ≡ cell_over dimensions modes view (rows_of_number dimensions modes view number rows)
 
 -- a fact row has a member at each level by which a view groups: its key is in the dimension, and its ship mode is one
 -- of the modes where the view groups by it
@@ -103,5 +104,5 @@ pub record PassType (dimensions : DimRows) (modes : List (List ℕ)) (view : Vie
   pub number : ℕ
   pub cell : Cell
   pub parts : rows ≡ before ++ (part ++ after)
-  pub is : cell_over dimensions modes view (rows_of dimensions modes view number part) ≡ Some cell
+  pub is : cell_over dimensions modes view (rows_of_number dimensions modes view number part) ≡ Some cell
   pub passes : NumbersFit cell → ⊥

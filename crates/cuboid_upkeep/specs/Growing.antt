@@ -6,8 +6,8 @@ use Rattle.cuboid_upkeep.specs.declared.growing.GrowingCells.{GrowingCells}
 use Rattle.cuboid_upkeep.specs.declared.growing.GrowingCells.TheVariants.{ByNumber, Merged}
 use Rattle.cuboid_upkeep.specs.declared.table.CellTable.{CellTable}
 use Rattle.cuboid_upkeep.specs.Members.{AreMembersOf}
-use Rattle.cuboid_upkeep.specs.Numbers.{AreFew, size_of}
-use Rattle.cuboid_upkeep.specs.Slots.{AreSlots, cells_in}
+use Rattle.cuboid_upkeep.specs.Numbers.{AreFew, numbers_count}
+use Rattle.cuboid_upkeep.specs.Slots.{SlotsHaveCells, cells_in}
 
 -- the cells so far
 abbrev pub grown : GrowingCells → PlainCells
@@ -19,8 +19,8 @@ pub record IsTableOver (dimensions : DimRows) (table : CellTable) : Type 0 where
   pub no_modes : table.view.ship_mode ≡ false
   pub members : AreMembersOf dimensions table.view table.members
   pub few : AreFew table.members
-  pub size : length table.slots.items ≡ size_of table.members
-  pub slots : AreSlots table.view table.members 0 table.slots.items
+  pub size : length table.slots.items ≡ numbers_count table.members
+  pub slots : SlotsHaveCells table.view table.members 0 table.slots.items
 
 -- a table is one over these dimensions, and elsewhere the codes are those of their members
 abbrev pub GrowOver : DimRows → GrowingCells → Type 0

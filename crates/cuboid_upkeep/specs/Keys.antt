@@ -14,7 +14,7 @@ use Rattle.cuboid_upkeep.specs.Codes.{IsMode, mode_code}
 use Rattle.cuboid_upkeep.specs.Grouping.{code_on}
 use Rattle.cuboid_upkeep.specs.Steps.{IsRowKey}
 use Rattle.cuboid_upkeep.specs.declared.member_codes.ViewMembers.{ViewMembers}
-use Rattle.cuboid_upkeep.specs.Numbers.{LiesIn, place_of, size_of}
+use Rattle.cuboid_upkeep.specs.Numbers.{LiesIn, key_place, numbers_count}
 
 -- the code of a fact row's member at a level, which the row has
 pub record IsAxisCode (dimensions : DimRows) (axis : Axis) (grouped : Level) (row : LineOrder) (code : ℕ) : Type 0 where
@@ -45,8 +45,8 @@ pub record IsNumberOfRow (dimensions : DimRows) (view : View) (members : ViewMem
     (number : ℕ) : Type 0 where
   pub key : Key
   pub own : IsKeyOfRow dimensions [] view members row key
-  pub is : number ≡ place_of members key
-  pub below : number < size_of members
+  pub is : number ≡ key_place members key
+  pub below : number < numbers_count members
 
 -- the numbers of the keys of the first of some fact rows, so many
 pub record AreRowNumbers (dimensions : DimRows) (view : View) (members : ViewMembers) (rows : List LineOrder)

@@ -4,11 +4,11 @@ use Rattle.cube_model.specs.declared.query.Query.{Query}
 use Rattle.cube_model.specs.declared.rows.DimRows.{DimRows}
 use Rattle.cube_model.specs.declared.rows.LineOrder.{LineOrder}
 use Rattle.cube_model.specs.Admission.{AreInRange}
-use Rattle.group_plan.specs.Numbers.{IsNumber}
+use Rattle.group_plan.specs.Numbers.{IsGroupNumber}
 use Rattle.lattice.specs.Determined.{Serves}
 use Rattle.lattice.specs.declared.view.View.{View}
 use Rattle.cuboid_cells.specs.declared.cell.Cell.{Cell}
-use Rattle.cuboid_cells.specs.Cells.{PlainCells, number_of}
+use Rattle.cuboid_cells.specs.Cells.{PlainCells, key_as_number}
 use Rattle.cuboid_cells.specs.Merges.{IsMergeOf}
 use Rattle.cuboid_upkeep.specs.Grouping.{HasMembers, PassType, RepresentRows, key_of}
 
@@ -40,8 +40,8 @@ abbrev pub OneKeyOneGroup : DimRows → Type 0
 OneKeyOneGroup dimensions =
     (modes : List (List ℕ)) (view : View) (query : Query) (row other : LineOrder) (number : Option ℕ)
     → Serves view query → HasMembers dimensions modes view row → HasMembers dimensions modes view other
-    → number_of (key_of dimensions modes view row) ≡ number_of (key_of dimensions modes view other)
-    → IsNumber dimensions query row number → IsNumber dimensions query other number
+    → key_as_number (key_of dimensions modes view row) ≡ key_as_number (key_of dimensions modes view other)
+    → IsGroupNumber dimensions query row number → IsGroupNumber dimensions query other number
 
 -- fact rows that have their members have cells
 abbrev pub RowsHaveCells : Type 0

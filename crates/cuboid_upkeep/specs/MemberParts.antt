@@ -8,7 +8,7 @@ use Rattle.cube_model.specs.Places.{row_count_of, row_index_of}
 use Rattle.group_plan.specs.Parts.{given_at}
 use Rattle.lattice.specs.declared.level.Level.{Level}
 use Rattle.cuboid_cells.specs.Limits.{all_code}
-use Rattle.cuboid_upkeep.specs.Representatives.{HasCode}
+use Rattle.cuboid_upkeep.specs.Representatives.{MemberHasCode}
 use Rattle.cuboid_upkeep.specs.declared.member_parts.MemberPart.{MemberPart}
 use Rattle.cuboid_upkeep.specs.declared.member_parts.MemberPart.TheVariants.{NoMember, Nothing, Part}
 use Rattle.cuboid_upkeep.specs.declared.member_parts.MemberParts.{MemberParts}
@@ -18,8 +18,8 @@ abbrev pub IsOfRow : DimRows → Axis → Option ℕ → Type 0
 IsOfRow dimensions axis key = IfSome key (λ own. row_index_of dimensions axis own < row_count_of dimensions axis)
 
 -- what the row with a key gives, if there is a key
-abbrev pub part_by : DimRows → Query → Axis → Option ℕ → Option (Option ℕ)
-part_by dimensions query axis key =
+abbrev pub member_part_by : DimRows → Query → Axis → Option ℕ → Option (Option ℕ)
+member_part_by dimensions query axis key =
     option_map (λ own. given_at dimensions query axis (row_index_of dimensions axis own)) key
 
 -- what rows with a member give, if there is a member
@@ -34,9 +34,9 @@ part_in parts code = given_by (cond (code == all_code) parts.every (slice_index_
 
 -- what is at the code of a member is what a row with the member gives; there is nothing where no member has the code
 abbrev pub IsPartAt : DimRows → Query → Axis → Level → ℕ → Option (Option ℕ) → Type 0
-IsPartAt dimensions query axis level code None = (key : ℕ) → HasCode dimensions axis level key code → ⊥
+IsPartAt dimensions query axis level code None = (key : ℕ) → MemberHasCode dimensions axis level key code → ⊥
 IsPartAt dimensions query axis level code (Some part) =
-    (key : ℕ) × HasCode dimensions axis level key code
+    (key : ℕ) × MemberHasCode dimensions axis level key code
     × (part ≡ given_at dimensions query axis (row_index_of dimensions axis key))
 
 -- so it is at each code

@@ -6,28 +6,29 @@ use Rattle.cuboid_cells.specs.Limits.{all_code, most_cells}
 use Rattle.cuboid_upkeep.specs.declared.member_codes.ViewMembers.{ViewMembers}
 
 -- the digit of a code: that of every member together is the only one of its axis
-abbrev pub digit_of : ℕ → ℕ
-digit_of code = cond (code == all_code) 0 code
+abbrev pub code_digit : ℕ → ℕ
+code_digit code = cond (code == all_code) 0 code
 
 -- the number of a key
-abbrev pub place_of : ViewMembers → Key → ℕ
-place_of members key =
-    ((digit_of key.customer * members.suppliers.count + digit_of key.supplier) * members.parts.count
-    + digit_of key.part) * members.dates.count + digit_of key.date
+abbrev pub key_place : ViewMembers → Key → ℕ
+key_place members key =
+    ((code_digit key.customer * members.suppliers.count + code_digit key.supplier) * members.parts.count
+    + code_digit key.part) * members.dates.count + code_digit key.date
 
 -- how many numbers there are
-abbrev pub size_of : ViewMembers → ℕ
-size_of members = ((members.customers.count * members.suppliers.count) * members.parts.count) * members.dates.count
+abbrev pub numbers_count : ViewMembers → ℕ
+numbers_count members =
+    ((members.customers.count * members.suppliers.count) * members.parts.count) * members.dates.count
 
 -- the digits of a key are below the counts
 pub record LiesIn (members : ViewMembers) (key : Key) : Type 0 where
-  pub customer : digit_of key.customer < members.customers.count
-  pub supplier : digit_of key.supplier < members.suppliers.count
-  pub part : digit_of key.part < members.parts.count
-  pub date : digit_of key.date < members.dates.count
+  pub customer : code_digit key.customer < members.customers.count
+  pub supplier : code_digit key.supplier < members.suppliers.count
+  pub part : code_digit key.part < members.parts.count
+  pub date : code_digit key.date < members.dates.count
 
 -- there are no more numbers than a cuboid can have cells, however many axes are counted
 pub record AreFew (members : ViewMembers) : Type 0 where
   pub two : members.customers.count * members.suppliers.count ≤ most_cells
   pub three : (members.customers.count * members.suppliers.count) * members.parts.count ≤ most_cells
-  pub four : size_of members ≤ most_cells
+  pub four : numbers_count members ≤ most_cells

@@ -6,7 +6,7 @@ use Rattle.cube_model.specs.declared.attr.Axis.{Axis}
 use Rattle.cube_model.specs.declared.rows.DimRows.{DimRows}
 use Rattle.cube_model.specs.declared.rows.LineOrder.{LineOrder}
 use Rattle.cube_model.specs.Places.{row_count_of, row_index_of}
-use Rattle.dictionary.specs.Columns.{place_of, text_at}
+use Rattle.dictionary.specs.Columns.{place_of, text_of_code}
 use Rattle.group_plan.specs.Numbers.{IsKnown}
 use Rattle.group_plan.specs.Rows.{no_row}
 use Rattle.lattice.specs.declared.level.Level.{Level}
@@ -32,33 +32,33 @@ missing_in (None ∷ keys) = suc (missing_in keys)
 missing_in (Some key ∷ keys) = missing_in keys
 
 -- a row of a dimension has a key, and its member has a code
-pub record HasCode (dimensions : DimRows) (axis : Axis) (level : Level) (key code : ℕ) : Type 0 where
+pub record MemberHasCode (dimensions : DimRows) (axis : Axis) (level : Level) (key code : ℕ) : Type 0 where
   pub known : row_index_of dimensions axis key < row_count_of dimensions axis
   pub code_is : member_code dimensions axis level (row_index_of dimensions axis key) ≡ code
 
 -- the key at a code is that of a row with its member
 abbrev pub AreKeysOf : DimRows → Axis → Level → MemberKeys → Type 0
 AreKeysOf dimensions axis level keys = (code key : ℕ) → key_at keys code ≡ Some key
-    → HasCode dimensions axis level key code
+    → MemberHasCode dimensions axis level key code
 
 -- there is a key at the code of each member
 abbrev pub HaveAllCodes : DimRows → Axis → Level → MemberKeys → Type 0
-HaveAllCodes dimensions axis level keys = (key code : ℕ) → HasCode dimensions axis level key code
+HaveAllCodes dimensions axis level keys = (key code : ℕ) → MemberHasCode dimensions axis level key code
     → key_at keys code ≡ None → ⊥
 
 -- the same of keys by the codes of a level that has members
 abbrev pub AreAtCodes : DimRows → Axis → Level → List (Option ℕ) → Type 0
 AreAtCodes dimensions axis level keys = (code key : ℕ) → slice_index_or keys code None ≡ Some key
-    → HasCode dimensions axis level key code
+    → MemberHasCode dimensions axis level key code
 
 abbrev pub HoldAllCodes : DimRows → Axis → Level → List (Option ℕ) → Type 0
-HoldAllCodes dimensions axis level keys = (key code : ℕ) → HasCode dimensions axis level key code
+HoldAllCodes dimensions axis level keys = (key code : ℕ) → MemberHasCode dimensions axis level key code
     → slice_index_or keys code None ≡ None → ⊥
 
 -- a code is that of a mode, whose text has this code
 pub record IsCodeOfMode (modes : List (List ℕ)) (code : ℕ) : Type 0 where
   pub among : code < length modes
-  pub again : place_of modes (text_at modes code) ≡ code
+  pub again : place_of modes (text_of_code modes code) ≡ code
   pub below : code < all_code
 
 -- a fact row of some keys and of the ship mode of a code, and of zeros
@@ -68,7 +68,7 @@ representative modes customer supplier part date code = record no_row {
   partkey = part;
   suppkey = supplier;
   orderdate = date;
-  shipmode = text_at modes code;
+  shipmode = text_of_code modes code;
 }
 
 -- a row has known keys, a ship mode that is one of the modes where the view groups by it, and the key of a cell

@@ -10,7 +10,7 @@ use Rattle.lattice.specs.declared.view.View.{View}
 use Rattle.lattice.specs.Views.{index_of}
 use Rattle.cuboid_cells.specs.declared.cell.Cell.{Cell}
 use Rattle.cuboid_cells.specs.declared.key.Key.{Key}
-use Rattle.cuboid_cells.specs.Cells.{CellFits, IsCellOf, IsKeyOf, KeyFits, cell_at, number_of}
+use Rattle.cuboid_cells.specs.Cells.{CellFits, IsCellOf, IsKeyOf, KeyFits, cell_at, key_as_number}
 use Rattle.cuboid_cells.specs.Limits.{most_cells}
 use Rattle.cuboid_cells.specs.Merges.{merged, merged_if_any}
 use Rattle.cuboid_upkeep.specs.Grouping.{Group, HasMembers, NumbersFit, PassType, RepresentRows, cell_over, key_of}
@@ -43,7 +43,7 @@ HasNoCell dimensions modes view row =
 
 -- cells by the numbers of their keys, in the order that these came, no two of one key
 pub record AreKeyed (keys : List ℕ) (cells : List Cell) : Type 0 where
-  pub keys_are : keys ≡ map (λ cell. number_of cell.key) cells
+  pub keys_are : keys ≡ map (λ cell. key_as_number cell.key) cells
   pub once : IsDistinct nat_eq keys
 
 -- a cell was taken in: that of its key is the merge of both
@@ -55,7 +55,7 @@ pub record TakesIn (old : List Cell) (cell : Cell) (new : List Cell) : Type 0 wh
 -- the merge of both passes a number's type
 pub record Overflows (old : List Cell) (cell : Cell) : Type 0 where
   pub before : Cell
-  pub is : cell_at (number_of cell.key) old ≡ Some before
+  pub is : cell_at (key_as_number cell.key) old ≡ Some before
   pub passes : CellFits (merged before cell) → ⊥
 
 -- the cell at a place became its merge with another
@@ -76,7 +76,7 @@ pub record AreGrouped (dimensions : DimRows) (modes : List (List ℕ)) (view : V
     (cells : List Cell) : Type 0 where
   pub few : length cells ≤ length rows
   pub known : All (HasMembers dimensions modes view) rows
-  pub once : IsDistinct nat_eq (map (λ cell. number_of cell.key) cells)
+  pub once : IsDistinct nat_eq (map (λ cell. key_as_number cell.key) cells)
   pub good : All (IsGood view) cells
   pub group : Group dimensions modes view rows cells
 

@@ -16,11 +16,11 @@ Leads [] place code = place ≡ code
 Leads (codes ∷ tables) place code = (place < length codes) × Leads tables (slice_index codes place) code
 
 -- the tables of codes of a level
-abbrev pub tables_of : LevelCodes → List (List ℕ)
-tables_of Places = []
-tables_of (Column codes) = codes.now ∷ []
-tables_of (Above lowers codes) = lowers.now ∷ codes.now ∷ []
-tables_of (Twice lowest lowers codes) = lowest.now ∷ lowers.now ∷ codes.now ∷ []
+abbrev pub code_tables : LevelCodes → List (List ℕ)
+code_tables Places = []
+code_tables (Column codes) = codes.now ∷ []
+code_tables (Above lowers codes) = lowers.now ∷ codes.now ∷ []
+code_tables (Twice lowest lowers codes) = lowest.now ∷ lowers.now ∷ codes.now ∷ []
 
 -- from each row of a dimension they lead to the code of its member at a level, which is below that of ALL
 pub record LeadToMembers (dimensions : DimRows) (axis : Axis) (grouped : Level) (tables : List (List ℕ)) : Type 0 where
@@ -29,6 +29,6 @@ pub record LeadToMembers (dimensions : DimRows) (axis : Axis) (grouped : Level) 
   pub below : (place : ℕ) → place < row_count_of dimensions axis → member_code dimensions axis grouped place < all_code
 
 -- codes are those of a level of a dimension, if the level has members
-abbrev pub AreCodesOf : DimRows → Axis → Level → LevelCodes → Type 0
-AreCodesOf dimensions axis grouped codes = (grouped ≡ level.All → ⊥)
-    → LeadToMembers dimensions axis grouped (tables_of codes)
+abbrev pub AreLevelCodes : DimRows → Axis → Level → LevelCodes → Type 0
+AreLevelCodes dimensions axis grouped codes = (grouped ≡ level.All → ⊥)
+    → LeadToMembers dimensions axis grouped (code_tables codes)

@@ -2,7 +2,7 @@
 ghost use Rattle.std.specs.Prelude.{◌≡◌, ◌↔◌, true, IfOk, IsTrue, OnErr};
 ghost use Rattle.std.specs.Option.{option_map};
 ghost use Rattle.cube_model.specs.declared.rows.LineOrder.{LineOrder};
-ghost use Rattle.group_plan.specs.Plans.{IsPlanOver, query_of};
+ghost use Rattle.group_plan.specs.Plans.{IsGroupPlanOver, query_of};
 ghost use Rattle.cuboid_cells.specs.Cells.{IsCellOf};
 ghost use Rattle.cuboid_upkeep.specs.CellNumbers.{AreUnwanted, IsCellNumber};
 ghost use Rattle.cuboid_upkeep.specs.Codes.{modes_of};
@@ -80,7 +80,7 @@ impl<'a> CellNumbers<'a> {
         view: View,
         modes: Option<&'a Dictionary>,
     ) -> Result<CellNumbers<'a>, AllocError>
-        requires { IsPlanOver dims.now plan.now }
+        requires { IsGroupPlanOver dims.now plan.now }
         ensures { IfOk result (λ numbers. numbers ≡ record {
           dimensions = dims.now;
           query = query_of plan.now;

@@ -27,12 +27,12 @@ pub(crate) enum LevelCodes<'a> {
 }
 
 impl<'a> LevelCodes<'a> {
-    ghost use Rattle.cuboid_upkeep.specs.Tables.{AreCodesOf, LeadToMembers, Leads, tables_of};
+    ghost use Rattle.cuboid_upkeep.specs.Tables.{AreLevelCodes, LeadToMembers, Leads, code_tables};
     ghost use Rattle.lattice.specs.declared.level.Level.{Level};
 
     // Those of a level of a dimension, if it has members.
     pub(crate) fn of(dims: &'a Dims, axis: Axis, grouped: Level) -> LevelCodes<'a>
-        ensures { AreCodesOf dims.now axis grouped result }
+        ensures { AreLevelCodes dims.now axis grouped result }
     {
         valid_rows_keep_the_rules();
         dims.row_count(axis);
@@ -47,7 +47,7 @@ impl<'a> LevelCodes<'a> {
         requires good { AreGoodRows axis (rows_on dims.now axis) }
         requires column { column < length (lowers_of axis) }
         ensures { (grouped : Level) → level_column (level_attribute axis grouped) ≡ Some column
-            → LeadToMembers dims.now axis grouped (tables_of result) }
+            → LeadToMembers dims.now axis grouped (code_tables result) }
     {
         let codes = dims.codes(axis, column);
         let Some(lower) = lower_column(axis, column) else {
@@ -63,8 +63,8 @@ impl<'a> LevelCodes<'a> {
     // The code that they lead to from the place of a row.
     #[inline(always)]
     pub(crate) fn read(self, place: usize) -> u16
-        requires { (code : ℕ) × Leads (tables_of self) place code × (code < 65536) }
-        ensures { (code : ℕ) → Leads (tables_of self.entry) place code → result ≡ code }
+        requires { (code : ℕ) × Leads (code_tables self) place code × (code < 65536) }
+        ensures { (code : ℕ) → Leads (code_tables self.entry) place code → result ≡ code }
     {
         match self {
             LevelCodes::Places => place as u16,

@@ -8,7 +8,7 @@ ghost use Rattle.lattice.specs.declared.level.Level.TheVariants as level;
 ghost use Rattle.cuboid_cells.specs.Cells.{IsCodeAt};
 ghost use Rattle.cuboid_upkeep.specs.Grouping.{code_on};
 ghost use Rattle.cuboid_upkeep.specs.Members.{AreCodesAt, AreMembersOf, HaveCodes};
-ghost use Rattle.cuboid_upkeep.specs.Numbers.{digit_of};
+ghost use Rattle.cuboid_upkeep.specs.Numbers.{code_digit};
 
 use crate::codes::{LevelCodes, is_all};
 use cube_model::Axis;
@@ -97,7 +97,7 @@ impl MemberCodes {
         ensures apart { IfSome result (IsCodeAt grouped) }
         ensures known { IfSome result (λ code. (grouped ≡ level.All → ⊥)
             → IsKnownOn dims.now (row_at (F.rows rows.now) place) axis) }
-        ensures low { IfSome result (λ code. digit_of code < self.now.count) }
+        ensures low { IfSome result (λ code. code_digit code < self.now.count) }
         ensures fits { IfSome result (λ code. code < 2 ^ 16) }
         ensures none { IfNone result ((grouped ≡ level.All → ⊥)
             × (IsKnownOn dims.now (row_at (F.rows rows.now) place) axis → ⊥)) }

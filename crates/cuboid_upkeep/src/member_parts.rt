@@ -1,6 +1,7 @@
 //! What the members of a level give to the numbers of groups.
 ghost use Rattle.std.specs.Prelude.{◌≡◌, ◌↔◌, ◌+◌, ◌*◌, ◌<◌, ◌≤◌, ◌^◌, ℕ, All, IfNone, IfOk, IfSome, IsTrue, map};
-ghost use Rattle.cuboid_upkeep.specs.MemberParts.{AreParts, AreUnselected, IsOfRow, IsUnselected, given_by, part_by};
+ghost use Rattle.cuboid_upkeep.specs.MemberParts.{AreParts, AreUnselected, IsOfRow, IsUnselected, given_by};
+ghost use Rattle.cuboid_upkeep.specs.MemberParts.{member_part_by};
 ghost use Rattle.cuboid_upkeep.specs.MemberParts.{part_in};
 ghost use Rattle.cuboid_cells.specs.Limits.{all_code};
 ghost use Rattle.cuboid_upkeep.specs.declared.member_parts.MemberPart.TheVariants.{Nothing};
@@ -146,7 +147,7 @@ fn parts_by_code(
 ) -> Result<Vec<MemberPart>, AllocError>
     requires { All (IsOfRow plan.now.dimensions axis) keys.now }
     ensures { IfOk result (λ parts.
-        map given_by parts.items ≡ map (part_by plan.now.dimensions plan.now.query axis) keys.now) }
+        map given_by parts.items ≡ map (member_part_by plan.now.dimensions plan.now.query axis) keys.now) }
 {
     let mut parts = Vec::with_capacity(alloc, keys.len())?;
     for key in keys {
@@ -158,7 +159,7 @@ fn parts_by_code(
 // What the row with a key gives, if there is a key.
 fn part_of(plan: &GroupPlanOver, axis: Axis, key: Option<u32>) -> MemberPart
     requires { IsOfRow plan.now.dimensions axis key }
-    ensures { given_by result ≡ part_by plan.now.dimensions plan.now.query axis key }
+    ensures { given_by result ≡ member_part_by plan.now.dimensions plan.now.query axis key }
 {
     let Some(key) = key else {
         return MemberPart::NoMember;

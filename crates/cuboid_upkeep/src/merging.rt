@@ -5,7 +5,7 @@ ghost use Rattle.std.specs.List.Sorted.{IsNonDecreasingBy, IsPermutation};
 ghost use Rattle.cube_model.specs.declared.fault.Fault.{Fault};
 ghost use Rattle.cube_model.specs.declared.rows.LineOrder.{LineOrder};
 ghost use Rattle.cube_model.specs.Limits.{most_batch_rows};
-ghost use Rattle.cuboid_cells.specs.Cells.{number_of};
+ghost use Rattle.cuboid_cells.specs.Cells.{key_as_number};
 ghost use Rattle.cuboid_upkeep.specs.Codes.{modes_of};
 ghost use Rattle.cuboid_upkeep.specs.Grouping.{RepresentRows};
 ghost use Rattle.cuboid_upkeep.specs.Members.{AreMembersOf};
@@ -81,7 +81,7 @@ fn cells_of<F: ModeRows>(
 // Puts cells in the order of their keys.
 fn sort(cells: &mut Vec<Cell>) -> Result<(), AllocError>
     ensures same { IsPermutation cells.old.items cells.new.items }
-    ensures order { OnOk result (IsNonDecreasingBy (λ cell. number_of cell.key) cells.new.items) }
+    ensures order { OnOk result (IsNonDecreasingBy (λ cell. key_as_number cell.key) cells.new.items) }
 {
     cells.sort_by_cached_key(|cell| cell.key.number())
 }

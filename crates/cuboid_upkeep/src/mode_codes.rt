@@ -4,7 +4,7 @@ ghost use Rattle.std.specs.Option.{option_map};
 ghost use Rattle.group_plan.specs.Rows.{row_at};
 ghost use Rattle.cuboid_upkeep.specs.Codes.{IsMode, modes_of};
 ghost use Rattle.cuboid_upkeep.specs.Keys.{IsOwnMode};
-ghost use Rattle.cuboid_upkeep.specs.Modes.{AreCodesAmong, AreOwnCodes, code_among};
+ghost use Rattle.cuboid_upkeep.specs.Modes.{AreModeCodes, AreOwnCodes, code_among};
 
 use crate::member_codes::code_at;
 use cuboid_cells::limits::ALL_CODE;
@@ -35,7 +35,7 @@ pub(crate) fn own_codes<F: ModeRows>(
 // Puts the code among the modes of each text at the text's place.
 fn put_codes<F: ModeRows>(codes: &mut [u16], rows: &F, modes: Option<&Dictionary>)
     requires count { length codes.old ≡ length (F.modes rows.now) }
-    ensures { AreCodesAmong (modes_of (option_map (λ modes. modes.now) modes.entry)) (F.modes rows.now) codes.new }
+    ensures { AreModeCodes (modes_of (option_map (λ modes. modes.now) modes.entry)) (F.modes rows.now) codes.new }
 {
     for place in 0..codes.len() {
         codes[place] = code_in(modes, rows.mode_text(place));

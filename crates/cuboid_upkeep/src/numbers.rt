@@ -1,7 +1,7 @@
 //! The numbers of keys.
 ghost use Rattle.std.specs.Prelude.{◌≡◌, ◌+◌, ◌*◌, ◌<◌, ◌≤◌, ℕ, IfSome, IsTrue};
 ghost use Rattle.cuboid_cells.specs.Limits.{most_cells};
-ghost use Rattle.cuboid_upkeep.specs.Numbers.{AreFew, LiesIn, digit_of, place_of, size_of};
+ghost use Rattle.cuboid_upkeep.specs.Numbers.{AreFew, LiesIn, code_digit, key_place, numbers_count};
 
 use crate::member_codes::ViewMembers;
 use cuboid_cells::Key;
@@ -10,7 +10,7 @@ use cuboid_cells::limits::{ALL_CODE, MOST_CELLS};
 impl ViewMembers {
     // How many numbers the keys of a view have, if there are no more than a cuboid can have cells.
     pub(crate) fn size(&self) -> Option<usize>
-        ensures size { IfSome result (λ size. size ≡ size_of self.now) }
+        ensures size { IfSome result (λ size. size ≡ numbers_count self.now) }
         ensures few { IfSome result (λ _. AreFew self.now) }
     {
         let two = times(self.customers.count, self.suppliers.count)?;
@@ -23,8 +23,8 @@ impl ViewMembers {
     pub(crate) fn place(&self, key: Key) -> usize
         requires lies { LiesIn self.now key }
         requires few { AreFew self.now }
-        ensures is { result ≡ place_of self.now key }
-        ensures within { result < size_of self.now }
+        ensures is { result ≡ key_place self.now key }
+        ensures within { result < numbers_count self.now }
     {
         let two = joined(
             digit(key.customer),
@@ -51,7 +51,7 @@ fn times(one: usize, other: usize) -> Option<usize>
 // The digit of a code.
 #[inline(always)]
 fn digit(code: u16) -> usize
-    ensures { result ≡ digit_of code }
+    ensures { result ≡ code_digit code }
 {
     if code == ALL_CODE {
         0

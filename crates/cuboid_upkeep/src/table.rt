@@ -13,8 +13,8 @@ ghost use Rattle.cuboid_upkeep.specs.declared.member_codes.ViewMembers.{ViewMemb
 ghost use Rattle.cuboid_upkeep.specs.Growing.{IsTableOver};
 ghost use Rattle.cuboid_upkeep.specs.Keys.{AreRowNumbers, IsKeyOfRow, IsNumberOfRow};
 ghost use Rattle.cuboid_upkeep.specs.Members.{AreMembersOf};
-ghost use Rattle.cuboid_upkeep.specs.Numbers.{AreFew, size_of};
-ghost use Rattle.cuboid_upkeep.specs.Slots.{AreSlots, IsAt, IsTaken, cells_in, is_used, used};
+ghost use Rattle.cuboid_upkeep.specs.Numbers.{AreFew, numbers_count};
+ghost use Rattle.cuboid_upkeep.specs.Slots.{SlotsHaveCells, HasNumber, IsTaken, cells_in, slot_is_used, used};
 
 use crate::keys::{NO_KEY, row_key};
 use crate::member_codes::ViewMembers;
@@ -84,7 +84,7 @@ impl CellTable {
     ) -> Result<CellTable, AllocError>
         requires no_modes { view.ship_mode ≡ false }
         requires few { AreFew members }
-        requires size { size ≡ size_of members }
+        requires size { size ≡ numbers_count members }
         ensures over { IfOk result (λ table. (dimensions : DimRows) → AreMembersOf dimensions view members
             → IsTableOver dimensions table) }
         ensures none { IfOk result (λ table. cells_in table.view table.slots.items ≡ record {
@@ -149,7 +149,8 @@ impl CellTable {
 fn free_slots(alloc: Global, size: usize) -> Result<Vec<Cell>, AllocError>
     ensures size { IfOk result (λ slots. length slots.items ≡ size) }
     ensures free { IfOk result (λ slots. used slots.items ≡ []) }
-    ensures slots { IfOk result (λ slots. (view : View) (members : ViewMembers) → AreSlots view members 0 slots.items) }
+    ensures slots { IfOk result (λ slots. (view : View) (members : ViewMembers)
+        → SlotsHaveCells view members 0 slots.items) }
 {
     let mut slots = Vec::new(alloc);
     slots.resize(size, FREE)?;
@@ -168,8 +169,8 @@ fn take_in_rows<F: FactRows>(
 ) -> Result<usize, Fault>
     requires members { AreMembersOf dims.now view members.now }
     requires no_modes { view.ship_mode ≡ false }
-    requires size { length slots.old.items ≡ size_of members.now }
-    requires slots { AreSlots view members.now 0 slots.old.items }
+    requires size { length slots.old.items ≡ numbers_count members.now }
+    requires slots { SlotsHaveCells view members.now 0 slots.old.items }
     requires numbers { AreRowNumbers dims.now view members.now (F.rows rows.now) (length (F.rows rows.now))
         numbers.now }
     ensures ok { IfOk result
@@ -203,7 +204,7 @@ fn key_for<F: FactRows>(
 ) -> Key
     requires members { AreMembersOf dims.now view members.now }
     requires no_modes { view.ship_mode ≡ false }
-    requires slot { is_used slot.now ≡ true → IsAt view members.now number slot.now }
+    requires slot { slot_is_used slot.now ≡ true → HasNumber view members.now number slot.now }
     requires place { place < length (F.rows rows.now) }
     requires number { IsNumberOfRow dims.now view members.now (row_at (F.rows rows.now) place) number }
     ensures { IsKeyOfRow dims.now [] view members.now (row_at (F.rows rows.now) place) result }

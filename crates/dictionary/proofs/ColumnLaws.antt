@@ -14,7 +14,7 @@ use Rattle.wire.specs.Spelling.{spelling}
 use Rattle.wire.proofs.CallerLemmas.{spelling-one}
 use Rattle.dictionary.specs.Dictionary.{Adds, EachOnce, Texts, code_of, firsts}
 use Rattle.dictionary.specs.Spelling.{AreProper, AreShort, text_spelling, texts_spelling}
-use Rattle.dictionary.specs.Columns.{AreCodes, codes_of, first_codes, place_of, text_at}
+use Rattle.dictionary.specs.Columns.{AreCodes, codes_of, first_codes, place_of, text_of_code}
 use Rattle.dictionary.proofs.CallerLemmas.{EachOnce-firsts, absent, bytes_eq-refl, bytes_eq-same, firsts-again}
 use Rattle.dictionary.proofs.CallerLemmas.{firsts-new, list_any-firsts, place-kept, place_again, place_last}
 use Rattle.dictionary.proofs.CallerLemmas.{place_within, present, text_at_place}
@@ -72,10 +72,11 @@ AreCodes-below count codes are =
 
 module _ (texts : List (List ℕ)) (once : EachOnce texts) where
   -- the code of the text of a code is that code
-  place_back : (code : ℕ) → code < length texts → place_of texts (text_at texts code) ≡ code
-  place_back code lt = place_again texts code (text_at texts code) once (slice_get-get_or texts code [] lt)
+  place_back : (code : ℕ) → code < length texts → place_of texts (text_of_code texts code) ≡ code
+  place_back code lt = place_again texts code (text_of_code texts code) once (slice_get-get_or texts code [] lt)
 
-  pub places_back : (codes : List ℕ) → Below (length texts) codes → map (place_of texts) (map (text_at texts) codes)
+  pub places_back : (codes : List ℕ) → Below (length texts) codes
+      → map (place_of texts) (map (text_of_code texts) codes)
       ≡ codes
   places_back [] below = refl
   places_back (code ∷ codes) below = let head = place_back code below.0 in let tail = places_back codes below.1 in
@@ -83,65 +84,67 @@ module _ (texts : List (List ℕ)) (once : EachOnce texts) where
 
   -- texts of two codes are the same where the codes are
   text_same : (code found : ℕ) → code < length texts → found < length texts
-      → bytes_eq (text_at texts code) (text_at texts found) ≡ (found == code)
-  text_same code found lt found_lt = by (bytes_eq (text_at texts code) (text_at texts found)) refl
+      → bytes_eq (text_of_code texts code) (text_of_code texts found) ≡ (found == code)
+  text_same code found lt found_lt = by (bytes_eq (text_of_code texts code) (text_of_code texts found)) refl
     where
-      by_codes : (same : Bool) → (found == code) ≡ same → bytes_eq (text_at texts code) (text_at texts found) ≡ false
+      by_codes : (same : Bool) → (found == code) ≡ same → bytes_eq (text_of_code texts code) (text_of_code texts found)
+          ≡ false
           → false ≡ same
       by_codes true is differs =
           let same : found ≡ code = eqb-true found code is in
-          let alike : bytes_eq (text_at texts code) (text_at texts found) ≡ true =
-          ap (λ (n : ℕ). bytes_eq (text_at texts code) (text_at texts n)) same
-          ∙ bytes_eq-refl (text_at texts code) in
+          let alike : bytes_eq (text_of_code texts code) (text_of_code texts found) ≡ true =
+          ap (λ (n : ℕ). bytes_eq (text_of_code texts code) (text_of_code texts n)) same
+          ∙ bytes_eq-refl (text_of_code texts code) in
           sym differs ∙ alike
       by_codes false is differs = refl
 
-      by : (same : Bool) → bytes_eq (text_at texts code) (text_at texts found) ≡ same → same ≡ (found == code)
+      by : (same : Bool) → bytes_eq (text_of_code texts code) (text_of_code texts found) ≡ same → same ≡ (found == code)
       by true is =
-          let alike = bytes_eq-same (text_at texts code) (text_at texts found) is in
+          let alike = bytes_eq-same (text_of_code texts code) (text_of_code texts found) is in
           let same : found ≡ code = sym (place_back found found_lt) ∙ sym (ap (place_of texts) alike)
           ∙ place_back code lt in
           sym (eq-eqb found code same)
       by false is = by_codes (found == code) refl is
 
   others_map : (code : ℕ) (codes : List ℕ) → code < length texts → Below (length texts) codes
-      → filter (λ text. not (bytes_eq (text_at texts code) text)) (map (text_at texts) codes)
-      ≡ map (text_at texts) (filter (other code) codes)
+      → filter (λ text. not (bytes_eq (text_of_code texts code) text)) (map (text_of_code texts) codes)
+      ≡ map (text_of_code texts) (filter (other code) codes)
   others_map code [] lt below = refl
   others_map code (found ∷ codes) lt below =
       let rest = others_map code codes lt below.1 in
       ap (λ b. cond (not b)
-      (text_at texts found ∷ filter (λ text. not (bytes_eq (text_at texts code) text)) (map (text_at texts) codes))
-      (filter (λ text. not (bytes_eq (text_at texts code) text)) (map (text_at texts) codes)))
+      (text_of_code texts found ∷ filter (λ text. not (bytes_eq (text_of_code texts code) text))
+      (map (text_of_code texts) codes))
+      (filter (λ text. not (bytes_eq (text_of_code texts code) text)) (map (text_of_code texts) codes)))
       (text_same code found lt below.0)
-      ∙ ap (λ l. cond (not (found == code)) (text_at texts found ∷ l) l) rest
+      ∙ ap (λ l. cond (not (found == code)) (text_of_code texts found ∷ l) l) rest
       ∙ out (not (found == code))
     where
       out : (b : Bool)
-          → cond b (text_at texts found ∷ map (text_at texts) (filter (other code) codes))
-          (map (text_at texts) (filter (other code) codes))
-          ≡ map (text_at texts) (cond b (found ∷ filter (other code) codes) (filter (other code) codes))
+          → cond b (text_of_code texts found ∷ map (text_of_code texts) (filter (other code) codes))
+          (map (text_of_code texts) (filter (other code) codes))
+          ≡ map (text_of_code texts) (cond b (found ∷ filter (other code) codes) (filter (other code) codes))
       out true = refl
       out false = refl
 
   firsts_map : (codes : List ℕ) → Below (length texts) codes
-      → firsts (map (text_at texts) codes) ≡ map (text_at texts) (first_codes codes)
+      → firsts (map (text_of_code texts) codes) ≡ map (text_of_code texts) (first_codes codes)
   firsts_map [] below = refl
   firsts_map (code ∷ codes) below =
-      ap (λ l. text_at texts code ∷ filter (λ text. not (bytes_eq (text_at texts code) text)) l)
+      ap (λ l. text_of_code texts code ∷ filter (λ text. not (bytes_eq (text_of_code texts code) text)) l)
       (firsts_map codes below.1)
-      ∙ ap (λ l. text_at texts code ∷ l)
+      ∙ ap (λ l. text_of_code texts code ∷ l)
       (others_map code (first_codes codes) below.0 (below_firsts (length texts) codes below.1))
 
 -- codes in the order of first use, with every text used, represent one column: its texts are those of the dictionary,
 -- and its codes are these
 pub one_column : (texts : List (List ℕ)) (codes : List ℕ) → EachOnce texts → AreCodes (length texts) codes
-    → (firsts (map (text_at texts) codes) ≡ texts) × (codes_of (map (text_at texts) codes) ≡ codes)
+    → (firsts (map (text_of_code texts) codes) ≡ texts) × (codes_of (map (text_of_code texts) codes) ≡ codes)
 one_column texts codes once are =
     let below = AreCodes-below (length texts) codes are in
-    let same : firsts (map (text_at texts) codes) ≡ texts =
-    firsts_map texts once codes below ∙ ap (map (text_at texts)) are ∙ pick_l_whole [] texts (length texts) refl in
-    (same, ap (λ l. map (place_of l) (map (text_at texts) codes)) same ∙ places_back texts once codes below)
+    let same : firsts (map (text_of_code texts) codes) ≡ texts =
+    firsts_map texts once codes below ∙ ap (map (text_of_code texts)) are ∙ pick_l_whole [] texts (length texts) refl in
+    (same, ap (λ l. map (place_of l) (map (text_of_code texts) codes)) same ∙ places_back texts once codes below)
 
 -- ---- the codes of a column
 
@@ -180,10 +183,11 @@ seen_firsts texts (text ∷ column) seen =
 
 module _ (texts : List (List ℕ)) where
   -- the text of the code of a text is that text
-  text_back : (text : List ℕ) → list_any (bytes_eq text) texts ≡ true → text_at texts (place_of texts text) ≡ text
+  text_back : (text : List ℕ) → list_any (bytes_eq text) texts ≡ true → text_of_code texts (place_of texts text) ≡ text
   text_back text seen = text_at_place texts text (place_within (bytes_eq text) texts seen)
 
-  texts_back : (column : List (List ℕ)) → Seen texts column → map (text_at texts) (map (place_of texts) column) ≡ column
+  texts_back : (column : List (List ℕ)) → Seen texts column → map (text_of_code texts) (map (place_of texts) column)
+      ≡ column
   texts_back [] seen = refl
   texts_back (text ∷ column) seen = let head = text_back text seen.0 in let tail = texts_back column seen.1 in
       rw (head, tail) refl
@@ -195,7 +199,7 @@ module _ (texts : List (List ℕ)) where
       by_codes : (same : Bool) → (place_of texts later == place_of texts text) ≡ same → bytes_eq text later ≡ false
           → same ≡ false
       by_codes true is differs =
-          let alike = ap (text_at texts) (eqb-true (place_of texts later) (place_of texts text) is) in
+          let alike = ap (text_of_code texts) (eqb-true (place_of texts later) (place_of texts text) is) in
           let same : text ≡ later = sym (text_back text seen) ∙ sym alike ∙ text_back later later_seen in
           sym (bytes_eq-refl text) ∙ ap (bytes_eq text) same ∙ differs
       by_codes false is differs = refl
@@ -234,12 +238,12 @@ module _ (texts : List (List ℕ)) where
 
 -- a column has codes, which are in the order of first use and represent it
 pub column_has_codes : (column : List (List ℕ)) → AreCodes (length (firsts column)) (codes_of column)
-    × (map (text_at (firsts column)) (codes_of column) ≡ column)
+    × (map (text_of_code (firsts column)) (codes_of column) ≡ column)
 column_has_codes column =
     let texts : List (List ℕ) = firsts column in
     let count : ℕ = length texts in
     let seen = seen_column column in
-    let whole : map (text_at texts) (range_with_len 0 count) ≡ texts = pick_l_whole [] texts count refl in
+    let whole : map (text_of_code texts) (range_with_len 0 count) ≡ texts = pick_l_whole [] texts count refl in
     let places : map (place_of texts) texts ≡ range_with_len 0 count =
     ap (map (place_of texts)) (sym whole)
     ∙ places_back texts (EachOnce-firsts column) (range_with_len 0 count)

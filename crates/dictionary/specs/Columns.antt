@@ -20,8 +20,8 @@ abbrev pub place_of : List (List ℕ) → List ℕ → ℕ
 place_of texts text = position_or_len (bytes_eq text) texts
 
 -- the text of a code
-abbrev pub text_at : List (List ℕ) → ℕ → List ℕ
-text_at texts code = slice_index_or texts code []
+abbrev pub text_of_code : List (List ℕ) → ℕ → List ℕ
+text_of_code texts code = slice_index_or texts code []
 
 -- the code of each text of a column
 abbrev pub codes_of : List (List ℕ) → List ℕ

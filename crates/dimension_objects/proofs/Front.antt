@@ -7,7 +7,7 @@ use Rattle.cube_model.specs.declared.attr.Axis.{Axis}
 use Rattle.wire.specs.Spelling.{spelling}
 use Rattle.wire.proofs.CallerLemmas.{length-spelling, spelling-one}
 use Rattle.dictionary.specs.Columns.{codes_spelling}
-use Rattle.dimension_objects.specs.Spelled.{axis_number, codes_in_order, header_of}
+use Rattle.dimension_objects.specs.Spelled.{axis_number, codes_in_order, dimension_header}
 
 -- ---- numbers of the same width
 
@@ -35,24 +35,24 @@ numbers-one width (x ∷ xs) (y ∷ ys) rest other fit fit' many same =
 
 -- ---- a header
 
-header_of-append : (axis : Axis) (rows : ℕ) (rest : List ℕ) → header_of axis rows ++ rest ≡ codes "DIM1"
+header_of-append : (axis : Axis) (rows : ℕ) (rest : List ℕ) → dimension_header axis rows ++ rest ≡ codes "DIM1"
     ++ (spelling 4 (axis_number axis) ++ (spelling 4 rows ++ rest))
 header_of-append axis rows rest =
     append_assoc (codes "DIM1") (spelling 4 (axis_number axis) ++ spelling 4 rows) rest
     ∙ ap (λ (part : List ℕ). codes "DIM1" ++ part) (append_assoc (spelling 4 (axis_number axis)) (spelling 4 rows) rest)
 
-pub header_parts : (axis : Axis) (rows : ℕ) (bytes rest : List ℕ) → bytes ≡ header_of axis rows ++ rest
+pub header_parts : (axis : Axis) (rows : ℕ) (bytes rest : List ℕ) → bytes ≡ dimension_header axis rows ++ rest
     → bytes ≡ codes "DIM1" ++ (spelling 4 (axis_number axis) ++ (spelling 4 rows ++ rest))
 header_parts axis rows bytes rest is = is ∙ header_of-append axis rows rest
 
 pub header_whole : (axis : Axis) (rows : ℕ) (bytes rest : List ℕ)
     → bytes ≡ codes "DIM1" ++ (spelling 4 (axis_number axis) ++ (spelling 4 rows ++ rest))
-    → bytes ≡ header_of axis rows ++ rest
+    → bytes ≡ dimension_header axis rows ++ rest
 header_whole axis rows bytes rest is = is ∙ sym (header_of-append axis rows rest)
 
 -- bytes begin with one header at most
 pub header_of-one : (axis : Axis) (rows others : ℕ) (xs ys : List ℕ) → rows < 2 ^ 32 → others < 2 ^ 32
-    → header_of axis rows ++ xs ≡ header_of axis others ++ ys → (rows ≡ others) × (xs ≡ ys)
+    → dimension_header axis rows ++ xs ≡ dimension_header axis others ++ ys → (rows ≡ others) × (xs ≡ ys)
 header_of-one axis rows others xs ys fit fit' same =
     let parts = sym (header_of-append axis rows xs) ∙ same ∙ header_of-append axis others ys in
     let numbers = append_cancel_left (codes "DIM1") (spelling 4 (axis_number axis) ++ (spelling 4 rows ++ xs))

@@ -10,8 +10,8 @@ use Rattle.cube_model.specs.declared.attr.Axis.TheVariants.{Customer, Supplier, 
 use Rattle.wire.specs.Spelling.{spelling}
 use Rattle.wire.specs.Reading.{ReadsNumber, TakesBytes}
 use Rattle.wire.proofs.CallerLemmas.{length-spelling}
-use Rattle.dimension_objects.specs.Spelled.{axis_number, header_of}
-use Rattle.dimension_objects.specs.Columns.{BeginsWithNoHeader, ReadsHeader}
+use Rattle.dimension_objects.specs.Spelled.{axis_number, dimension_header}
+use Rattle.dimension_objects.specs.Columns.{BeginsWithNoHeader, ReadsDimensionHeader}
 use Rattle.dimension_objects.proofs.Front.{header_parts, header_whole}
 
 -- bytes that a comparison fact apart, or found to be the same
@@ -33,12 +33,12 @@ axis_fits Date = omega arith
 
 module _ (axis : Axis) (old r0 part : List ℕ) (taken : TakesBytes 4 old r0 part) where
   -- the first four bytes of a header, and those after them
-  name_is : (rows : ℕ) (rest : List ℕ) → old ≡ header_of axis rows ++ rest → part ≡ codes "DIM1"
+  name_is : (rows : ℕ) (rest : List ℕ) → old ≡ dimension_header axis rows ++ rest → part ≡ codes "DIM1"
   name_is rows rest is =
       sym (take-append_seam part r0) ∙ ap (λ (n : ℕ). take n (part ++ r0)) taken.many
       ∙ ap (take 4) (sym taken.spelled ∙ header_parts axis rows old rest is)
 
-  after_name : (rows : ℕ) (rest : List ℕ) → old ≡ header_of axis rows ++ rest
+  after_name : (rows : ℕ) (rest : List ℕ) → old ≡ dimension_header axis rows ++ rest
       → r0 ≡ spelling 4 (axis_number axis) ++ (spelling 4 rows ++ rest)
   after_name rows rest is =
       append_cancel_left (codes "DIM1") r0 (spelling 4 (axis_number axis) ++ (spelling 4 rows ++ rest))
@@ -55,7 +55,7 @@ module _ (axis : Axis) (old r0 part : List ℕ) (taken : TakesBytes 4 old r0 par
       absurd (omega (arith, long, length-spelling 4 (axis_number axis), short))
 
   module _ (r1 : List ℕ) (n : ℕ) (number : ReadsNumber 4 r0 r1 n) where
-    back : (rows : ℕ) (rest : List ℕ) → old ≡ header_of axis rows ++ rest → (n ≡ axis_number axis)
+    back : (rows : ℕ) (rest : List ℕ) → old ≡ dimension_header axis rows ++ rest → (n ≡ axis_number axis)
         × (r1 ≡ spelling 4 rows ++ rest)
     back rows rest is =
         number.reads_back (axis_number axis) (spelling 4 rows ++ rest) (axis_fits axis) (after_name rows rest is)
@@ -69,7 +69,7 @@ module _ (axis : Axis) (old r0 part : List ℕ) (taken : TakesBytes 4 old r0 par
         absurd (omega (arith, long, length-spelling 4 rows, short))
 
     pub header_is : (new : List ℕ) (rows : ℕ) → part ≡ codes "DIM1" → n ≡ axis_number axis → ReadsNumber 4 r1 new rows
-        → ReadsHeader axis old new rows
+        → ReadsDimensionHeader axis old new rows
     header_is new rows name own read = record {
       fits = read.fits;
       spelled = header_whole axis rows old new (

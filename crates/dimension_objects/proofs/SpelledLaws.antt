@@ -16,9 +16,11 @@ use Rattle.dimensions.specs.Shapes.{lowers_of, lower_of}
 use Rattle.dimensions.specs.Coded.{AreCodedRows, AreGoodRows, no_coded, place_total}
 use Rattle.dimensions.proofs.CallerLemmas.{few_good_rows, good_codes, good_places_above, good_places_of_rows}
 use Rattle.dimensions.proofs.CallerLemmas.{good_texts, lower_below}
-use Rattle.dimension_objects.specs.Spelled.{HaveKeys, codes_in_order, dimension_spelling, header_of, keys_spelling}
-use Rattle.dimension_objects.specs.Spelled.{linked_columns, parts_of, row_columns, stored_columns, texts_in_order}
-use Rattle.dimension_objects.specs.Columns.{IsSpelled, codes_in, texts_in}
+use Rattle.dimension_objects.specs.Spelled.{KeysFit, codes_in_order, dimension_spelling, dimension_header}
+use Rattle.dimension_objects.specs.Spelled.{keys_spelling}
+use Rattle.dimension_objects.specs.Spelled.{linked_columns, dimension_parts, row_columns, stored_columns}
+use Rattle.dimension_objects.specs.Spelled.{texts_in_order}
+use Rattle.dimension_objects.specs.Columns.{IsSpelled, column_codes_in, column_texts_in}
 use Rattle.dimension_objects.proofs.Front.{FitCodes, codes-one, header_of-one, in_order-one, in_order-same, numbers-one}
 use Rattle.dimension_objects.proofs.Steps.{all_get}
 
@@ -137,15 +139,15 @@ both_weaker P Q R (x ∷ xs) weaker ps qs = (weaker x ps.0 qs.0, both_weaker P Q
 
 -- ---- bytes that begin as those of rows do
 
-module _ (axis : Axis) (rows : List TextRow) (good : AreGoodRows axis rows) (have_keys : HaveKeys rows) where
+module _ (axis : Axis) (rows : List TextRow) (good : AreGoodRows axis rows) (have_keys : KeysFit rows) where
   abbrev keys : List ℕ
   keys = map (λ row. row.key) rows
 
   abbrev texts : ℕ → List (List ℕ)
-  texts = (parts_of axis rows).texts
+  texts = (dimension_parts axis rows).texts
 
   abbrev numbers : ℕ → List ℕ
-  numbers = (parts_of axis rows).codes
+  numbers = (dimension_parts axis rows).codes
 
   few_keys : length keys < 2 ^ 32
   few_keys = let few = few_good_rows axis rows good in omega (arith, few, length-map rows (λ row. row.key))
@@ -172,7 +174,7 @@ module _ (axis : Axis) (rows : List TextRow) (good : AreGoodRows axis rows) (hav
           good_places_above axis rows good i j lt e ∙ ap length (sym (same j (omega (arith, before, lt))))
     ] refl
 
-  pub after_header : (n : ℕ) (mid : List ℕ) → n < 2 ^ 32 → header_of axis n ++ mid ≡ dimension_spelling axis rows
+  pub after_header : (n : ℕ) (mid : List ℕ) → n < 2 ^ 32 → dimension_header axis n ++ mid ≡ dimension_spelling axis rows
       → (n ≡ length keys)
       × (mid ≡ texts_in_order texts (stored_columns axis)
       ++ (codes_in_order numbers (linked_columns axis)
@@ -210,8 +212,8 @@ module _ (axis : Axis) (rows : List TextRow) (good : AreGoodRows axis rows) (hav
   pub spelled_one : (bytes : List ℕ) (coded : CodedRows) → IsSpelled axis bytes coded
       → bytes ≡ dimension_spelling axis rows → AreCodedRows axis rows coded
   spelled_one bytes coded is spells =
-      let others : ℕ → List (List ℕ) = texts_in coded.columns in
-      let given : ℕ → List ℕ = codes_in coded.columns in
+      let others : ℕ → List (List ℕ) = column_texts_in coded.columns in
+      let given : ℕ → List ℕ = column_codes_in coded.columns in
       let counts : ℕ → ℕ = λ column. place_total coded (lower_of axis column) in
       let first = after_header (length coded.keys) _ is.rows_fit (sym is.spelled ∙ spells) in
       let proper : AllByRecursion (λ column. AreProper most_members (others column)) (stored_columns axis) =
@@ -249,7 +251,7 @@ module _ (axis : Axis) (rows : List TextRow) (good : AreGoodRows axis rows) (hav
         };
       }
     where
-      counted : (coded : CodedRows) (o : Option ℕ) → places (length coded.keys) (texts_in coded.columns) o
+      counted : (coded : CodedRows) (o : Option ℕ) → places (length coded.keys) (column_texts_in coded.columns) o
           ≡ place_total coded o
       counted coded None = refl
       counted coded (Some lower) = refl
@@ -258,32 +260,38 @@ module _ (axis : Axis) (rows : List TextRow) (good : AreGoodRows axis rows) (hav
 
 pub spelled_same : (axis : Axis) (rows : List TextRow) (bytes : List ℕ) (coded : CodedRows) → IsSpelled axis bytes coded
     → AreCodedRows axis rows coded
-    → (bytes ≡ dimension_spelling axis rows) × HaveKeys rows
+    → (bytes ≡ dimension_spelling axis rows) × KeysFit rows
 spelled_same axis rows bytes coded is are = (
   is.spelled
-      ∙ (λ i. header_of axis (length (are.keys_are i))
-      ++ (in_order-same texts_spelling (texts_in coded.columns) (parts_of axis rows).texts (stored_columns axis)
+      ∙ (λ i. dimension_header axis (length (are.keys_are i))
+      ++ (in_order-same texts_spelling (column_texts_in coded.columns) (dimension_parts axis rows).texts
+      (stored_columns axis)
       texts_same i
-      ++ (in_order-same codes_spelling (codes_in coded.columns) (parts_of axis rows).codes (linked_columns axis)
+      ++ (in_order-same codes_spelling (column_codes_in coded.columns) (dimension_parts axis rows).codes
+      (linked_columns axis)
       linked_same i
       ++ (keys_spelling (are.keys_are i)
-      ++ in_order-same codes_spelling (codes_in coded.columns) (parts_of axis rows).codes (row_columns axis) rows_same
+      ++ in_order-same codes_spelling (column_codes_in coded.columns) (dimension_parts axis rows).codes
+      (row_columns axis) rows_same
       i)))),
   all_unmap (λ key. key < 2 ^ 32) (λ row. row.key) rows
       (subst (AllByRecursion (λ key. key < 2 ^ 32)) are.keys_are is.keys_fit),
 )
   where
-    texts_same : AllByRecursion (λ c. texts_in coded.columns c ≡ (parts_of axis rows).texts c) (stored_columns axis)
+    texts_same : AllByRecursion (λ c. column_texts_in coded.columns c ≡ (dimension_parts axis rows).texts c)
+        (stored_columns axis)
     texts_same =
-        stored_all axis (λ c. texts_in coded.columns c ≡ (parts_of axis rows).texts c)
+        stored_all axis (λ c. column_texts_in coded.columns c ≡ (dimension_parts axis rows).texts c)
         (λ i lt. (are.columns i lt).texts_are)
 
-    linked_same : AllByRecursion (λ c. codes_in coded.columns c ≡ (parts_of axis rows).codes c) (linked_columns axis)
+    linked_same : AllByRecursion (λ c. column_codes_in coded.columns c ≡ (dimension_parts axis rows).codes c)
+        (linked_columns axis)
     linked_same =
-        linked_all axis (λ c. codes_in coded.columns c ≡ (parts_of axis rows).codes c)
+        linked_all axis (λ c. column_codes_in coded.columns c ≡ (dimension_parts axis rows).codes c)
         (λ i lt. (are.columns i lt).codes_are)
 
-    rows_same : AllByRecursion (λ c. codes_in coded.columns c ≡ (parts_of axis rows).codes c) (row_columns axis)
+    rows_same : AllByRecursion (λ c. column_codes_in coded.columns c ≡ (dimension_parts axis rows).codes c)
+        (row_columns axis)
     rows_same =
-        row_all axis (λ c. codes_in coded.columns c ≡ (parts_of axis rows).codes c)
+        row_all axis (λ c. column_codes_in coded.columns c ≡ (dimension_parts axis rows).codes c)
         (λ i lt. (are.columns i lt).codes_are)

@@ -11,11 +11,14 @@ use Rattle.dimensions.specs.TextRows.{TextRow}
 use Rattle.dimensions.specs.Shapes.{lowers_of, lower_of}
 use Rattle.dimensions.specs.Coded.{AreGoodRows, no_coded, place_total}
 use Rattle.dimensions.proofs.CallerLemmas.{good_codes}
-use Rattle.dimension_objects.specs.Spelled.{HaveKeys, codes_in_order, dimension_spelling, header_of, keys_spelling}
-use Rattle.dimension_objects.specs.Spelled.{linked_columns, parts_of, row_columns, stored_columns, texts_in_order}
+use Rattle.dimension_objects.specs.Spelled.{KeysFit, codes_in_order, dimension_spelling, dimension_header}
+use Rattle.dimension_objects.specs.Spelled.{keys_spelling}
+use Rattle.dimension_objects.specs.Spelled.{linked_columns, dimension_parts, row_columns, stored_columns}
+use Rattle.dimension_objects.specs.Spelled.{texts_in_order}
 use Rattle.dimension_objects.specs.Columns.{BeginsWithNoCodes, BeginsWithNoHeader, BeginsWithNoTexts, IsSpelled}
-use Rattle.dimension_objects.specs.Columns.{ReadsColumns, ReadsHeader, ReadsKeys, ReadsTexts, SpellsNoRows, codes_in}
-use Rattle.dimension_objects.specs.Columns.{places_of, texts_in}
+use Rattle.dimension_objects.specs.Columns.{ReadsColumns, ReadsDimensionHeader, ReadsKeys, ReadsColumnTexts}
+use Rattle.dimension_objects.specs.Columns.{SpellsNoRows, column_codes_in}
+use Rattle.dimension_objects.specs.Columns.{places_of, column_texts_in}
 use Rattle.dimension_objects.proofs.Front.{FitCodes, in_order-same, length-numbers, numbers-one}
 use Rattle.dimension_objects.proofs.Steps.{all_get, all_weaker}
 use Rattle.dimension_objects.proofs.SpelledLaws.{after_codes, after_header, after_texts, both_weaker, each_stored}
@@ -25,49 +28,51 @@ use Rattle.dimension_objects.proofs.SpelledLaws.{row_all, stored_all}
 pub none_header : (axis : Axis) (bytes : List ℕ) → BeginsWithNoHeader axis bytes → SpellsNoRows axis bytes
 none_header axis bytes none = λ rows good have_keys is. none (length (map (λ row. row.key) rows)) _ is
 
-module _ (axis : Axis) (bytes mid : List ℕ) (n : ℕ) (header : ReadsHeader axis bytes mid n) where
+module _ (axis : Axis) (bytes mid : List ℕ) (n : ℕ) (header : ReadsDimensionHeader axis bytes mid n) where
   pub none_texts : BeginsWithNoTexts (stored_columns axis) mid → SpellsNoRows axis bytes
   none_texts none = λ rows good have_keys is.
-      none (parts_of axis rows).texts _ (proper_texts axis rows good have_keys)
+      none (dimension_parts axis rows).texts _ (proper_texts axis rows good have_keys)
       (after_header axis rows good have_keys n mid header.fits (sym header.spelled ∙ is)).1
 
   module _ (mid2 : List ℕ) (old columns : List CodedColumn) (old_count : length old ≡ length (lowers_of axis))
-      (texts : ReadsTexts (stored_columns axis) mid mid2 old columns) where
+      (texts : ReadsColumnTexts (stored_columns axis) mid mid2 old columns) where
     count : length columns ≡ length (lowers_of axis)
     count = texts.count ∙ old_count
 
     -- the texts, the number of rows and what is left are those of the rows
-    module _ (rows : List TextRow) (good : AreGoodRows axis rows) (have_keys : HaveKeys rows)
+    module _ (rows : List TextRow) (good : AreGoodRows axis rows) (have_keys : KeysFit rows)
         (is : bytes ≡ dimension_spelling axis rows) where
       abbrev numbers : ℕ → List ℕ
-      numbers = (parts_of axis rows).codes
+      numbers = (dimension_parts axis rows).codes
 
       abbrev keys : List ℕ
       keys = map (λ row. row.key) rows
 
       first : (n ≡ length keys)
-          × (mid ≡ texts_in_order (parts_of axis rows).texts (stored_columns axis)
+          × (mid ≡ texts_in_order (dimension_parts axis rows).texts (stored_columns axis)
           ++ (codes_in_order numbers (linked_columns axis)
           ++ (keys_spelling keys ++ codes_in_order numbers (row_columns axis))))
       first = after_header axis rows good have_keys n mid header.fits (sym header.spelled ∙ is)
 
-      second : AllByRecursion (λ c. texts_in columns c ≡ (parts_of axis rows).texts c) (stored_columns axis)
+      second : AllByRecursion (λ c. column_texts_in columns c ≡ (dimension_parts axis rows).texts c)
+          (stored_columns axis)
           × (mid2 ≡ codes_in_order numbers (linked_columns axis)
           ++ (keys_spelling keys ++ codes_in_order numbers (row_columns axis)))
-      second = after_texts axis rows good have_keys (texts_in columns) mid2
-          (stored_all axis (λ c. AreProper most_members (texts_in columns c))
+      second = after_texts axis rows good have_keys (column_texts_in columns) mid2
+          (stored_all axis (λ c. AreProper most_members (column_texts_in columns c))
           (λ i lt. all_get (λ c. AreProper most_members c.texts.texts) columns i no_coded (omega (arith, lt, count))
           texts.have.proper))
           (sym texts.spelled ∙ first.1)
 
-      counted : (others : List CodedColumn) → ((c : ℕ) → texts_in others c ≡ texts_in columns c) → (i : ℕ)
+      counted : (others : List CodedColumn) → ((c : ℕ) → column_texts_in others c ≡ column_texts_in columns c) → (i : ℕ)
           → i < length (lowers_of axis) → length (numbers i) ≡ places_of n others (lower_of axis i)
       counted others stay i lt =
-          many axis rows good have_keys n first.0 (texts_in columns)
-          (each_stored axis (λ c. texts_in columns c ≡ (parts_of axis rows).texts c) second.0) i lt
+          many axis rows good have_keys n first.0 (column_texts_in columns)
+          (each_stored axis (λ c. column_texts_in columns c ≡ (dimension_parts axis rows).texts c) second.0) i lt
           ∙ by_lower (lower_of axis i)
         where
-          by_lower : (o : Option ℕ) → places axis rows good have_keys n (texts_in columns) o ≡ places_of n others o
+          by_lower : (o : Option ℕ) → places axis rows good have_keys n (column_texts_in columns) o
+              ≡ places_of n others o
           by_lower None = refl
           by_lower (Some j) = ap length (sym (stay j))
 
@@ -76,22 +81,23 @@ module _ (axis : Axis) (bytes mid : List ℕ) (n : ℕ) (header : ReadsHeader ax
 
     pub none_linked : BeginsWithNoCodes axis n (linked_columns axis) columns mid2 → SpellsNoRows axis bytes
     none_linked none = λ rows good have_keys is.
-        none (parts_of axis rows).codes _
-        (linked_all axis (λ i. length ((parts_of axis rows).codes i) ≡ places_of n columns (lower_of axis i))
+        none (dimension_parts axis rows).codes _
+        (linked_all axis (λ i. length ((dimension_parts axis rows).codes i) ≡ places_of n columns (lower_of axis i))
         (counted rows good have_keys is columns (λ c. refl)))
         (second rows good have_keys is).1
 
     module _ (mid3 : List ℕ) (linked_columns_read : List CodedColumn)
         (linked : ReadsColumns axis n (linked_columns axis) mid2 mid3 columns linked_columns_read) where
-      third : (rows : List TextRow) (good : AreGoodRows axis rows) (have_keys : HaveKeys rows)
+      third : (rows : List TextRow) (good : AreGoodRows axis rows) (have_keys : KeysFit rows)
           → bytes ≡ dimension_spelling axis rows
           → mid3 ≡ keys_spelling (map (λ row. row.key) rows)
-          ++ codes_in_order (parts_of axis rows).codes (row_columns axis)
+          ++ codes_in_order (dimension_parts axis rows).codes (row_columns axis)
       third rows good have_keys is =
           (after_codes axis rows good have_keys (λ c. places_of n columns (lower_of axis c)) (linked_columns axis)
-          (codes_in linked_columns_read) mid3 _
+          (column_codes_in linked_columns_read) mid3 _
           (both_weaker _ _ _ (linked_columns axis) (λ c p q. (p, q)) linked.many linked.fit)
-          (linked_all axis (λ i. FitCodes (λ c. places_of n columns (lower_of axis c)) i ((parts_of axis rows).codes i))
+          (linked_all axis
+          (λ i. FitCodes (λ c. places_of n columns (lower_of axis c)) i ((dimension_parts axis rows).codes i))
           (fits rows good have_keys is))
           (sym linked.spelled ∙ (second rows good have_keys is).1)).1
 
@@ -100,58 +106,60 @@ module _ (axis : Axis) (bytes mid : List ℕ) (n : ℕ) (header : ReadsHeader ax
           let keys : List ℕ = map (λ row. row.key) rows in
           let whole = ap length (third rows good have_keys is)
           ∙ length-append (keys_spelling (map (λ row. row.key) rows))
-          (codes_in_order (parts_of axis rows).codes (row_columns axis)) in
+          (codes_in_order (dimension_parts axis rows).codes (row_columns axis)) in
           let long = length-numbers 4 (map (λ row. row.key) rows) in
           let same = (first rows good have_keys is).0 in
           absurd (omega (arith, whole, long, same, short))
 
       module _ (mid4 keys_read : List ℕ) (keyed : ReadsKeys n mid3 mid4 keys_read) where
-        fourth : (rows : List TextRow) (good : AreGoodRows axis rows) (have_keys : HaveKeys rows)
+        fourth : (rows : List TextRow) (good : AreGoodRows axis rows) (have_keys : KeysFit rows)
             → bytes ≡ dimension_spelling axis rows
-            → mid4 ≡ codes_in_order (parts_of axis rows).codes (row_columns axis)
+            → mid4 ≡ codes_in_order (dimension_parts axis rows).codes (row_columns axis)
         fourth rows good have_keys is =
             (numbers-one 4 keys_read (map (λ row. row.key) rows) mid4
-            (codes_in_order (parts_of axis rows).codes (row_columns axis)) keyed.fit
+            (codes_in_order (dimension_parts axis rows).codes (row_columns axis)) keyed.fit
             (keys_fit axis rows good have_keys)
             (keyed.many ∙ (first rows good have_keys is).0) (sym keyed.spelled ∙ third rows good have_keys is)).1
 
         pub none_rows : BeginsWithNoCodes axis n (row_columns axis) linked_columns_read mid4 → SpellsNoRows axis bytes
         none_rows none = λ rows good have_keys is.
-            none (parts_of axis rows).codes []
+            none (dimension_parts axis rows).codes []
             (row_all axis
-            (λ i. length ((parts_of axis rows).codes i) ≡ places_of n linked_columns_read (lower_of axis i))
+            (λ i. length ((dimension_parts axis rows).codes i) ≡ places_of n linked_columns_read (lower_of axis i))
             (counted rows good have_keys is linked_columns_read linked.texts_stay))
             (fourth rows good have_keys is
-            ∙ sym (append-nil (codes_in_order (parts_of axis rows).codes (row_columns axis))))
+            ∙ sym (append-nil (codes_in_order (dimension_parts axis rows).codes (row_columns axis))))
 
         module _ (left : List ℕ) (last : List CodedColumn)
             (by_row : ReadsColumns axis n (row_columns axis) mid4 left linked_columns_read last) where
           pub none_end : left ≢ [] → SpellsNoRows axis bytes
           none_end more = λ rows good have_keys is.
               more ((after_codes axis rows good have_keys (λ c. places_of n linked_columns_read (lower_of axis c))
-              (row_columns axis) (codes_in last) left []
+              (row_columns axis) (column_codes_in last) left []
               (both_weaker _ _ _ (row_columns axis) (λ c p q. (p, q)) by_row.many by_row.fit)
               (row_all axis
               (λ i. FitCodes (λ c. places_of n linked_columns_read (lower_of axis c)) i
-              ((parts_of axis rows).codes i))
+              ((dimension_parts axis rows).codes i))
               (λ i lt. (
                 counted rows good have_keys is linked_columns_read linked.texts_stay i lt,
                 good_codes axis rows good i lt,
               )))
               (sym by_row.spelled ∙ fourth rows good have_keys is
-              ∙ sym (append-nil (codes_in_order (parts_of axis rows).codes (row_columns axis))))).1)
+              ∙ sym (append-nil (codes_in_order (dimension_parts axis rows).codes (row_columns axis))))).1)
 
-          texts_stay : (c : ℕ) → texts_in last c ≡ texts_in columns c
+          texts_stay : (c : ℕ) → column_texts_in last c ≡ column_texts_in columns c
           texts_stay c = by_row.texts_stay c ∙ linked.texts_stay c
 
-          linked_stay : AllByRecursion (λ c. codes_in last c ≡ codes_in linked_columns_read c) (linked_columns axis)
+          linked_stay : AllByRecursion (λ c. column_codes_in last c ≡ column_codes_in linked_columns_read c)
+              (linked_columns axis)
           linked_stay =
               all_weaker (λ c. AllByRecursion (λ other. other ≢ c) (row_columns axis))
-              (λ c. codes_in last c ≡ codes_in linked_columns_read c) (linked_columns axis) by_row.others_stay
+              (λ c. column_codes_in last c ≡ column_codes_in linked_columns_read c) (linked_columns axis)
+              by_row.others_stay
               (linked_apart axis)
 
           total : (ks : List ℕ) → length ks ≡ n → (others : List CodedColumn)
-              → ((c : ℕ) → texts_in last c ≡ texts_in others c) → (o : Option ℕ)
+              → ((c : ℕ) → column_texts_in last c ≡ column_texts_in others c) → (o : Option ℕ)
               → places_of n others o ≡ place_total (record { keys = ks; columns = last }) o
           total ks long others same None = sym long
           total ks long others same (Some j) = ap length (sym (same j))
@@ -160,16 +168,18 @@ module _ (axis : Axis) (bytes mid : List ℕ) (n : ℕ) (header : ReadsHeader ax
           whole empty = record {
             spelled =
                 header.spelled
-                ∙ (λ i. header_of axis (sym keyed.many i) ++ (texts.spelled ∙ (
-                λ j. in_order-same texts_spelling (texts_in columns) (texts_in last) (stored_columns axis)
-                (stored_all axis (λ c. texts_in columns c ≡ texts_in last c) (λ c lt. sym (texts_stay c))) j
+                ∙ (λ i. dimension_header axis (sym keyed.many i) ++ (texts.spelled ∙ (
+                λ j. in_order-same texts_spelling (column_texts_in columns) (column_texts_in last) (stored_columns axis)
+                (stored_all axis (λ c. column_texts_in columns c ≡ column_texts_in last c) (λ c lt. sym (texts_stay c)))
+                j
                 ++ (linked.spelled ∙ (
-                λ k. in_order-same codes_spelling (codes_in linked_columns_read) (codes_in last) (linked_columns axis)
+                λ k. in_order-same codes_spelling (column_codes_in linked_columns_read) (column_codes_in last)
+                (linked_columns axis)
                 (all_weaker _ _ (linked_columns axis) (λ c same. sym same) linked_stay) k
                 ++ (keyed.spelled
                 ∙ ap (λ part. keys_spelling keys_read ++ part)
-                (by_row.spelled ∙ ap (λ part. codes_in_order (codes_in last) (row_columns axis) ++ part) empty
-                ∙ append-nil (codes_in_order (codes_in last) (row_columns axis)))) k
+                (by_row.spelled ∙ ap (λ part. codes_in_order (column_codes_in last) (row_columns axis) ++ part) empty
+                ∙ append-nil (codes_in_order (column_codes_in last) (row_columns axis)))) k
                 )) j
                 )) i);
             rows_fit = omega (arith, header.fits, keyed.many);

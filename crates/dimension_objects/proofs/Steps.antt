@@ -14,9 +14,10 @@ use Rattle.dictionary.specs.Columns.{codes_spelling}
 use Rattle.dictionary.proofs.ColumnLaws.{texts_spelling-one}
 use Rattle.dimensions.specs.declared.coded.CodedColumn.{CodedColumn}
 use Rattle.dimensions.specs.Shapes.{lower_of}
-use Rattle.dimensions.specs.Coded.{HaveTexts, no_coded}
+use Rattle.dimensions.specs.Coded.{ColumnsHaveTexts, no_coded}
 use Rattle.dimension_objects.specs.Spelled.{codes_in_order, texts_in_order}
-use Rattle.dimension_objects.specs.Columns.{texts_in, codes_in, places_of, AreColumns, ReadsTexts, BeginsWithNoTexts}
+use Rattle.dimension_objects.specs.Columns.{column_texts_in, column_codes_in, places_of, IsOrderOfColumns}
+use Rattle.dimension_objects.specs.Columns.{ReadsColumnTexts, BeginsWithNoTexts}
 use Rattle.dimension_objects.specs.Columns.{ReadsCodes, ReadsColumns, BeginsWithNoCodes}
 use Rattle.dimension_objects.proofs.Front.{in_order-one, total_of, length-codes, total-append}
 
@@ -63,20 +64,22 @@ before_differ (x ∷ xs) (suc i) pairs lt =
 -- ---- a column that is set
 
 module _ (columns : List CodedColumn) (column : ℕ) (new : CodedColumn) where
-  pub texts_set : column < length columns → texts_in (set columns column new) column ≡ new.texts.texts
+  pub texts_set : column < length columns → column_texts_in (set columns column new) column ≡ new.texts.texts
   texts_set lt = ap (λ c. c.texts.texts) (get_or-set_same columns column new no_coded lt)
 
-  pub codes_set : column < length columns → codes_in (set columns column new) column ≡ new.codes
+  pub codes_set : column < length columns → column_codes_in (set columns column new) column ≡ new.codes
   codes_set lt = ap (λ c. c.codes) (get_or-set_same columns column new no_coded lt)
 
-  pub texts_other : (other : ℕ) → other ≢ column → texts_in (set columns column new) other ≡ texts_in columns other
+  pub texts_other : (other : ℕ) → other ≢ column
+      → column_texts_in (set columns column new) other ≡ column_texts_in columns other
   texts_other other apart = ap (λ c. c.texts.texts) (get_or-set_other columns column other new no_coded apart)
 
-  pub codes_other : (other : ℕ) → other ≢ column → codes_in (set columns column new) other ≡ codes_in columns other
+  pub codes_other : (other : ℕ) → other ≢ column
+      → column_codes_in (set columns column new) other ≡ column_codes_in columns other
   codes_other other apart = ap (λ c. c.codes) (get_or-set_other columns column other new no_coded apart)
 
-  pub have_set : HaveTexts columns → new.texts.limit ≡ most_members → AreProper most_members new.texts.texts
-      → HaveTexts (set columns column new)
+  pub have_set : ColumnsHaveTexts columns → new.texts.limit ≡ most_members → AreProper most_members new.texts.texts
+      → ColumnsHaveTexts (set columns column new)
   have_set have limit proper = record {
     limits = all_set (λ c. c.texts.limit ≡ most_members) columns column new have.limits limit;
     proper = all_set (λ c. AreProper most_members c.texts.texts) columns column new have.proper proper;
@@ -123,8 +126,8 @@ order_split (x ∷ order) (suc i) lt =
 -- ---- texts
 
 module _ (order : List ℕ) (i : ℕ) (lt : i < length order) (bytes mid : List ℕ) (old columns : List CodedColumn)
-    (reads : ReadsTexts (take i order) bytes mid old columns)
-    (are : AreColumns (length old) order) where
+    (reads : ReadsColumnTexts (take i order) bytes mid old columns)
+    (are : IsOrderOfColumns (length old) order) where
   abbrev column : ℕ
   column = get_or order i 0
 
@@ -133,20 +136,21 @@ module _ (order : List ℕ) (i : ℕ) (lt : i < length order) (bytes mid : List 
 
   pub texts_step : (new : CodedColumn) (left : List ℕ) → mid ≡ texts_spelling new.texts.texts ++ left
       → AreProper most_members new.texts.texts → new.texts.limit ≡ most_members
-      → ReadsTexts (take (i + 1) order) bytes left old (set columns column new)
+      → ReadsColumnTexts (take (i + 1) order) bytes left old (set columns column new)
   texts_step new left is proper limit = record {
-    spelled = grows texts_spelling (texts_in columns) (texts_in (set columns column new)) (take i order) column
+    spelled = grows texts_spelling (column_texts_in columns) (column_texts_in (set columns column new)) (take i order)
+        column
         new.texts.texts bytes mid left
         reads.spelled is (texts_set columns column new column_lt) (texts_other columns column new)
         (before_differ order i are.distinct lt)
-        ∙ ap (λ l. texts_in_order (texts_in (set columns column new)) l ++ left) (sym (take_more order i 0 lt));
+        ∙ ap (λ l. texts_in_order (column_texts_in (set columns column new)) l ++ left) (sym (take_more order i 0 lt));
     count = length-set columns column new ∙ reads.count;
     have = have_set columns column new reads.have limit proper;
   }
 
   -- the texts of the columns so far are proper
-  so_far : AllByRecursion (λ c. AreProper most_members (texts_in columns c)) (take i order)
-  so_far = all_weaker (λ c. c < length old) (λ c. AreProper most_members (texts_in columns c)) (take i order)
+  so_far : AllByRecursion (λ c. AreProper most_members (column_texts_in columns c)) (take i order)
+  so_far = all_weaker (λ c. c < length old) (λ c. AreProper most_members (column_texts_in columns c)) (take i order)
       (λ c c_lt. all_get (λ own. AreProper most_members own.texts.texts) columns c no_coded
       (omega (arith, c_lt, reads.count)) reads.have.proper)
       (all_front (λ c. c < length old) (take i order) (column ∷ drop (i + 1) order)
@@ -170,7 +174,7 @@ module _ (order : List ℕ) (i : ℕ) (lt : i < length order) (bytes mid : List 
       (append_assoc (texts_spelling (texts column)) (texts_in_order texts (drop (i + 1) order)) rest) in
       let one = in_order-one texts_spelling (λ c x. AreProper most_members x)
       (λ c x y xs ys p q same. texts_spelling-one most_members x y xs ys (omega arith) p q same)
-      (texts_in columns) texts (take i order) mid
+      (column_texts_in columns) texts (take i order) mid
       (texts_spelling (texts column) ++ (texts_in_order texts (drop (i + 1) order) ++ rest)) so_far
       (all_front (λ c. AreProper most_members (texts c)) (take i order) (column ∷ drop (i + 1) order) parts)
       (sym reads.spelled ∙ whole) in
@@ -180,93 +184,103 @@ module _ (order : List ℕ) (i : ℕ) (lt : i < length order) (bytes mid : List 
 
 module _ (axis : Axis) (rows : ℕ) (order : List ℕ) (i : ℕ) (lt : i < length order) (bytes mid : List ℕ)
     (old columns : List CodedColumn)
-    (reads : ReadsColumns axis rows (take i order) bytes mid old columns) (are : AreColumns (length old) order) where
-  abbrev next_column : ℕ
-  next_column = get_or order i 0
+    (reads : ReadsColumns axis rows (take i order) bytes mid old columns) (are : IsOrderOfColumns (length old) order)
+  where
+    abbrev next_column : ℕ
+    next_column = get_or order i 0
 
-  pub next_lt : next_column < length columns
-  next_lt = let own = all_get (λ c. c < length old) order i 0 lt are.within in omega (arith, own, reads.count)
+    pub next_lt : next_column < length columns
+    next_lt = let own = all_get (λ c. c < length old) order i 0 lt are.within in omega (arith, own, reads.count)
 
-  places_stay : (o : Option ℕ) → places_of rows columns o ≡ places_of rows old o
-  places_stay None = refl
-  places_stay (Some lower) = ap length (reads.texts_stay lower)
+    places_stay : (o : Option ℕ) → places_of rows columns o ≡ places_of rows old o
+    places_stay None = refl
+    places_stay (Some lower) = ap length (reads.texts_stay lower)
 
-  pub codes_step : (new : CodedColumn) (left : List ℕ) → new.texts ≡ (get_or columns next_column no_coded).texts
-      → ReadsCodes (places_of rows columns (lower_of axis next_column)) mid left new.codes
-      → ReadsColumns axis rows (take (i + 1) order) bytes left old (set columns next_column new)
-  codes_step new left texts read =
-      let apart = before_differ order i are.distinct lt in
-      let front : take (i + 1) order ≡ take i order ++ next_column ∷ [] = take_more order i 0 lt in
-      let here : codes_in (set columns next_column new) next_column ≡ new.codes =
-      codes_set columns next_column new next_lt in record {
-        spelled = grows codes_spelling (codes_in columns) (codes_in (set columns next_column new)) (take i order)
-            next_column new.codes bytes mid left
-            reads.spelled read.spelled here (codes_other columns next_column new) apart
-            ∙ ap (λ l. codes_in_order (codes_in (set columns next_column new)) l ++ left) (sym front);
-        many = subst
-            (AllByRecursion
-            (λ c. length (codes_in (set columns next_column new) c) ≡ places_of rows old (lower_of axis c))) (sym front)
-            (all_append (λ c. length (codes_in (set columns next_column new) c) ≡ places_of rows old (lower_of axis c))
-            (take i order) (next_column ∷ [])
-            (both_weaker (λ c. c ≢ next_column)
-            (λ c. length (codes_in columns c) ≡ places_of rows old (lower_of axis c)) _ (take i order)
-            (λ c differs many. ap length (codes_other columns next_column new c differs) ∙ many) apart reads.many)
-            (ap length here ∙ read.many ∙ places_stay (lower_of axis next_column), tt));
-        fit = subst
-            (AllByRecursion (λ c. AllByRecursion (λ code. code < 2 ^ 16) (codes_in (set columns next_column new) c)))
-            (sym front)
-            (all_append (λ c. AllByRecursion (λ code. code < 2 ^ 16) (codes_in (set columns next_column new) c))
-            (take i order) (next_column ∷ [])
-            (both_weaker (λ c. c ≢ next_column) (λ c. AllByRecursion (λ code. code < 2 ^ 16) (codes_in columns c)) _
-            (take i order)
-            (λ c differs fit. subst (AllByRecursion (λ code. code < 2 ^ 16))
-            (sym (codes_other columns next_column new c differs)) fit) apart reads.fit)
-            (subst (AllByRecursion (λ code. code < 2 ^ 16)) (sym here) read.fit, tt));
-        count = length-set columns next_column new ∙ reads.count;
-        have = have_set columns next_column new reads.have
-            (ap (λ t. t.limit) texts ∙ all_get (λ c. c.texts.limit ≡ most_members) columns next_column no_coded next_lt
-            reads.have.limits)
-            (subst (λ t. AreProper most_members t.texts) (sym texts)
-            (all_get (λ c. AreProper most_members c.texts.texts) columns next_column no_coded next_lt
-            reads.have.proper));
-        texts_stay = λ c. texts_kept c ∙ reads.texts_stay c;
-        others_stay = λ c out.
-            let parts = subst (AllByRecursion (λ other. other ≢ c)) front out in
-            codes_other columns next_column new c
-            (λ same. (all_after (λ other. other ≢ c) (take i order) (next_column ∷ []) parts).0 (sym same))
-            ∙ reads.others_stay c (all_front (λ other. other ≢ c) (take i order) (next_column ∷ []) parts);
-      }
-    where
-      both_weaker : {X : Type 0} (P Q R : X → Type 0) (xs : List X) → ((x : X) → P x → Q x → R x) → AllByRecursion P xs
-          → AllByRecursion Q xs → AllByRecursion R xs
-      both_weaker P Q R [] weaker ps qs = tt
-      both_weaker P Q R (x ∷ xs) weaker ps qs = (weaker x ps.0 qs.0, both_weaker P Q R xs weaker ps.1 qs.1)
+    pub codes_step : (new : CodedColumn) (left : List ℕ) → new.texts ≡ (get_or columns next_column no_coded).texts
+        → ReadsCodes (places_of rows columns (lower_of axis next_column)) mid left new.codes
+        → ReadsColumns axis rows (take (i + 1) order) bytes left old (set columns next_column new)
+    codes_step new left texts read =
+        let apart = before_differ order i are.distinct lt in
+        let front : take (i + 1) order ≡ take i order ++ next_column ∷ [] = take_more order i 0 lt in
+        let here : column_codes_in (set columns next_column new) next_column ≡ new.codes =
+        codes_set columns next_column new next_lt in record {
+          spelled = grows codes_spelling (column_codes_in columns) (column_codes_in (set columns next_column new))
+              (take i order)
+              next_column new.codes bytes mid left
+              reads.spelled read.spelled here (codes_other columns next_column new) apart
+              ∙ ap (λ l. codes_in_order (column_codes_in (set columns next_column new)) l ++ left) (sym front);
+          many = subst
+              (AllByRecursion
+              (λ c. length (column_codes_in (set columns next_column new) c) ≡ places_of rows old (lower_of axis c)))
+              (sym front)
+              (all_append
+              (λ c. length (column_codes_in (set columns next_column new) c) ≡ places_of rows old (lower_of axis c))
+              (take i order) (next_column ∷ [])
+              (both_weaker (λ c. c ≢ next_column)
+              (λ c. length (column_codes_in columns c) ≡ places_of rows old (lower_of axis c)) _ (take i order)
+              (λ c differs many. ap length (codes_other columns next_column new c differs) ∙ many) apart reads.many)
+              (ap length here ∙ read.many ∙ places_stay (lower_of axis next_column), tt));
+          fit = subst
+              (AllByRecursion
+              (λ c. AllByRecursion (λ code. code < 2 ^ 16) (column_codes_in (set columns next_column new) c)))
+              (sym front)
+              (all_append
+              (λ c. AllByRecursion (λ code. code < 2 ^ 16) (column_codes_in (set columns next_column new) c))
+              (take i order) (next_column ∷ [])
+              (both_weaker (λ c. c ≢ next_column)
+              (λ c. AllByRecursion (λ code. code < 2 ^ 16) (column_codes_in columns c)) _
+              (take i order)
+              (λ c differs fit. subst (AllByRecursion (λ code. code < 2 ^ 16))
+              (sym (codes_other columns next_column new c differs)) fit) apart reads.fit)
+              (subst (AllByRecursion (λ code. code < 2 ^ 16)) (sym here) read.fit, tt));
+          count = length-set columns next_column new ∙ reads.count;
+          have = have_set columns next_column new reads.have
+              (ap (λ t. t.limit) texts
+              ∙ all_get (λ c. c.texts.limit ≡ most_members) columns next_column no_coded next_lt
+              reads.have.limits)
+              (subst (λ t. AreProper most_members t.texts) (sym texts)
+              (all_get (λ c. AreProper most_members c.texts.texts) columns next_column no_coded next_lt
+              reads.have.proper));
+          texts_stay = λ c. texts_kept c ∙ reads.texts_stay c;
+          others_stay = λ c out.
+              let parts = subst (AllByRecursion (λ other. other ≢ c)) front out in
+              codes_other columns next_column new c
+              (λ same. (all_after (λ other. other ≢ c) (take i order) (next_column ∷ []) parts).0 (sym same))
+              ∙ reads.others_stay c (all_front (λ other. other ≢ c) (take i order) (next_column ∷ []) parts);
+        }
+      where
+        both_weaker : {X : Type 0} (P Q R : X → Type 0) (xs : List X) → ((x : X) → P x → Q x → R x)
+            → AllByRecursion P xs
+            → AllByRecursion Q xs → AllByRecursion R xs
+        both_weaker P Q R [] weaker ps qs = tt
+        both_weaker P Q R (x ∷ xs) weaker ps qs = (weaker x ps.0 qs.0, both_weaker P Q R xs weaker ps.1 qs.1)
 
-      texts_kept : (c : ℕ) → texts_in (set columns next_column new) c ≡ texts_in columns c
-      texts_kept c =
-          elim (c == next_column) as
-          (λ b. (c == next_column) ≡ b → texts_in (set columns next_column new) c ≡ texts_in columns c) [
-            | true ↦ λ e.
-                let is : next_column ≡ c = sym (eqb-true c next_column e) in
-                subst (λ k. texts_in (set columns next_column new) k ≡ texts_in columns k) is
-                (texts_set columns next_column new next_lt ∙ ap (λ t. t.texts) texts)
-            | false ↦ λ e. texts_other columns next_column new c (eqb-false c next_column e)
-          ] refl
+        texts_kept : (c : ℕ) → column_texts_in (set columns next_column new) c ≡ column_texts_in columns c
+        texts_kept c =
+            elim (c == next_column) as
+            (λ b. (c == next_column) ≡ b
+            → column_texts_in (set columns next_column new) c ≡ column_texts_in columns c) [
+              | true ↦ λ e.
+                  let is : next_column ≡ c = sym (eqb-true c next_column e) in
+                  subst (λ k. column_texts_in (set columns next_column new) k ≡ column_texts_in columns k) is
+                  (texts_set columns next_column new next_lt ∙ ap (λ t. t.texts) texts)
+              | false ↦ λ e. texts_other columns next_column new c (eqb-false c next_column e)
+            ] refl
 
-  pub codes_none : length mid < 2 * places_of rows columns (lower_of axis next_column)
-      → BeginsWithNoCodes axis rows order old bytes
-  codes_none short = λ numbers rest many is.
-      let places : ℕ → ℕ = λ c. places_of rows old (lower_of axis c) in
-      let split = order_split order i lt in
-      let totals : total_of places order ≡ total_of places (take i order)
-      + (places next_column + total_of places (drop (i + 1) order)) =
-      ap (total_of places) split ∙ total-append places (take i order) (next_column ∷ drop (i + 1) order) in
-      let asked : length bytes ≡ 2 * total_of places order + length rest = ap length is
-      ∙ length-append (codes_in_order numbers order) rest
-      ∙ ap (λ n. n + length rest) (length-codes places numbers order many) in
-      let given : length bytes ≡ 2 * total_of places (take i order) + length mid =
-      ap length reads.spelled ∙ length-append (codes_in_order (codes_in columns) (take i order)) mid
-      ∙ ap (λ n. n + length mid) (length-codes places (codes_in columns) (take i order) reads.many) in
-      let here : places_of rows columns (lower_of axis next_column) ≡ places next_column =
-      places_stay (lower_of axis next_column) in
-      absurd (omega (arith, totals, asked, given, here, short))
+    pub codes_none : length mid < 2 * places_of rows columns (lower_of axis next_column)
+        → BeginsWithNoCodes axis rows order old bytes
+    codes_none short = λ numbers rest many is.
+        let places : ℕ → ℕ = λ c. places_of rows old (lower_of axis c) in
+        let split = order_split order i lt in
+        let totals : total_of places order ≡ total_of places (take i order)
+        + (places next_column + total_of places (drop (i + 1) order)) =
+        ap (total_of places) split ∙ total-append places (take i order) (next_column ∷ drop (i + 1) order) in
+        let asked : length bytes ≡ 2 * total_of places order + length rest = ap length is
+        ∙ length-append (codes_in_order numbers order) rest
+        ∙ ap (λ n. n + length rest) (length-codes places numbers order many) in
+        let given : length bytes ≡ 2 * total_of places (take i order) + length mid =
+        ap length reads.spelled ∙ length-append (codes_in_order (column_codes_in columns) (take i order)) mid
+        ∙ ap (λ n. n + length mid) (length-codes places (column_codes_in columns) (take i order) reads.many) in
+        let here : places_of rows columns (lower_of axis next_column) ≡ places next_column =
+        places_stay (lower_of axis next_column) in
+        absurd (omega (arith, totals, asked, given, here, short))

@@ -47,8 +47,8 @@ row_columns Part = 0 ∷ []
 row_columns Date = 0 ∷ 3 ∷ []
 
 -- what is before the columns
-abbrev pub header_of : Axis → ℕ → List ℕ
-header_of axis rows = codes "DIM1" ++ (spelling 4 (axis_number axis) ++ spelling 4 rows)
+abbrev pub dimension_header : Axis → ℕ → List ℕ
+dimension_header axis rows = codes "DIM1" ++ (spelling 4 (axis_number axis) ++ spelling 4 rows)
 
 -- the texts of columns, and the codes of columns
 abbrev pub texts_in_order : (ℕ → List (List ℕ)) → List ℕ → List ℕ
@@ -69,15 +69,15 @@ pub record Parts : Type 0 where
 
 abbrev pub parts_spelling : Axis → Parts → List ℕ
 parts_spelling axis parts =
-    header_of axis (length parts.keys)
+    dimension_header axis (length parts.keys)
     ++ (texts_in_order parts.texts (stored_columns axis)
     ++ (codes_in_order parts.codes (linked_columns axis)
     ++ (keys_spelling parts.keys
     ++ codes_in_order parts.codes (row_columns axis))))
 
 -- the parts of some rows
-abbrev pub parts_of : Axis → List TextRow → Parts
-parts_of axis rows = record {
+abbrev pub dimension_parts : Axis → List TextRow → Parts
+dimension_parts axis rows = record {
   keys = map (λ row. row.key) rows;
   texts = λ column. firsts (texts_at_places axis column rows);
   codes = λ column. codes_of (texts_at_places axis column rows);
@@ -85,11 +85,11 @@ parts_of axis rows = record {
 
 -- the bytes of some rows
 abbrev pub dimension_spelling : Axis → List TextRow → List ℕ
-dimension_spelling axis rows = parts_spelling axis (parts_of axis rows)
+dimension_spelling axis rows = parts_spelling axis (dimension_parts axis rows)
 
 -- the keys of rows fit their fields
-abbrev pub HaveKeys : List TextRow → Type 0
-HaveKeys rows = AllByRecursion (λ row. row.key < 2 ^ 32) rows
+abbrev pub KeysFit : List TextRow → Type 0
+KeysFit rows = AllByRecursion (λ row. row.key < 2 ^ 32) rows
 
 -- four objects are the bytes of the four dimensions, whose rows are valid and have short texts
 pub record AreDimensionObjects (customers suppliers parts dates : List ℕ) (rows : DimRows) : Type 0 where
@@ -97,9 +97,9 @@ pub record AreDimensionObjects (customers suppliers parts dates : List ℕ) (row
   pub suppliers_are : suppliers ≡ dimension_spelling Supplier (rows_on rows Supplier)
   pub parts_are : parts ≡ dimension_spelling Part (rows_on rows Part)
   pub dates_are : dates ≡ dimension_spelling Date (rows_on rows Date)
-  pub customer_keys : HaveKeys (rows_on rows Customer)
-  pub supplier_keys : HaveKeys (rows_on rows Supplier)
-  pub part_keys : HaveKeys (rows_on rows Part)
-  pub date_keys : HaveKeys (rows_on rows Date)
+  pub customer_keys : KeysFit (rows_on rows Customer)
+  pub supplier_keys : KeysFit (rows_on rows Supplier)
+  pub part_keys : KeysFit (rows_on rows Part)
+  pub date_keys : KeysFit (rows_on rows Date)
   pub valid : IsValid rows
   pub short : HaveShortTexts rows

@@ -3,7 +3,7 @@ ghost use Rattle.std.specs.Prelude.{◌≡◌, ◌<◌, ◌^◌, ◌≤◌, leng
 ghost use Rattle.cube_model.specs.declared.fault.Fault.{Fault};
 ghost use Rattle.cube_model.specs.Limits.{most_members};
 ghost use Rattle.dimensions.specs.Shapes.{lowers_of, lower_of};
-ghost use Rattle.dimensions.specs.Coded.{HaveTexts};
+ghost use Rattle.dimensions.specs.Coded.{ColumnsHaveTexts};
 ghost use Rattle.dimension_objects.specs.Columns.{places_of};
 
 use cube_model::limits::MOST_MEMBERS;
@@ -15,7 +15,7 @@ use std::alloc::Global;
 // The columns of a dimension with no text and no code. It can only fail when out of memory.
 pub(crate) fn empty_columns(alloc: Global, axis: Axis) -> Result<Vec<CodedColumn>, Fault>
     ensures count { IfOk result (λ columns. length columns.items ≡ length (lowers_of axis)) }
-    ensures have { IfOk result (λ columns. HaveTexts columns.items) }
+    ensures have { IfOk result (λ columns. ColumnsHaveTexts columns.items) }
     ensures memory { IfErr result (λ fault. fault ≡ Fault.Memory) }
 {
     let count = column_count(axis);

@@ -2,10 +2,10 @@
 ghost use Rattle.std.specs.Prelude.{◌≡◌, ◌≢◌, ◌⊎◌, ℕ, List, [], length, IfErr, IfOk};
 ghost use Rattle.cube_model.specs.declared.fault.Fault.{Fault};
 ghost use Rattle.cube_model.specs.declared.rows.DimRows.{DimRows};
-ghost use Rattle.dimensions.specs.Coded.{HaveTexts};
+ghost use Rattle.dimensions.specs.Coded.{ColumnsHaveTexts};
 ghost use Rattle.dimensions.specs.Shapes.{lowers_of};
 ghost use Rattle.dimension_objects.specs.Spelled.{AreDimensionObjects};
-ghost use Rattle.dimension_objects.specs.Columns.{IsSpelled, ReadsHeader, SpellsNoRows};
+ghost use Rattle.dimension_objects.specs.Columns.{IsSpelled, ReadsDimensionHeader, SpellsNoRows};
 
 use crate::columns::empty_columns;
 use crate::order::{linked_columns, row_columns, stored_columns};
@@ -75,13 +75,15 @@ fn read_parts(
     columns: &mut Vec<CodedColumn>,
 ) -> Result<Items<u32>, Fault>
     requires count { length columns.old.items ≡ length (lowers_of axis) }
-    requires have { HaveTexts columns.old.items }
-    ensures ok { IfOk result (λ keys. (bytes : List ℕ) → ReadsHeader axis bytes cursor.old rows → cursor.new ≡ []
+    requires have { ColumnsHaveTexts columns.old.items }
+    ensures ok { IfOk result (λ keys. (bytes : List ℕ) → ReadsDimensionHeader axis bytes cursor.old rows
+        → cursor.new ≡ []
         → IsSpelled axis bytes (record { keys = keys; columns = columns.new.items })) }
-    ensures after { IfOk result (λ _. (bytes : List ℕ) → ReadsHeader axis bytes cursor.old rows → cursor.new ≢ []
+    ensures after { IfOk result (λ _. (bytes : List ℕ) → ReadsDimensionHeader axis bytes cursor.old rows
+        → cursor.new ≢ []
         → SpellsNoRows axis bytes) }
     ensures refused { IfErr result (λ fault. (fault ≡ Fault.Memory) ⊎ ((fault ≡ Fault.BadLayout)
-        × ((bytes : List ℕ) → ReadsHeader axis bytes cursor.old rows → SpellsNoRows axis bytes))) }
+        × ((bytes : List ℕ) → ReadsDimensionHeader axis bytes cursor.old rows → SpellsNoRows axis bytes))) }
 {
     read_texts(alloc, cursor, stored_columns(axis), columns)?;
     read_columns(alloc, cursor, axis, rows, linked_columns(axis), columns)?;

@@ -5,8 +5,8 @@ ghost use Rattle.cube_model.specs.declared.fault.Fault.{Fault};
 ghost use Rattle.dictionary.specs.Columns.{codes_spelling};
 ghost use Rattle.dimensions.specs.Shapes.{lowers_of};
 ghost use Rattle.dimensions.specs.Shown.{rows_on};
-ghost use Rattle.dimension_objects.specs.Spelled.{codes_in_order, dimension_spelling, header_of, keys_spelling};
-ghost use Rattle.dimension_objects.specs.Spelled.{parts_of, texts_in_order};
+ghost use Rattle.dimension_objects.specs.Spelled.{codes_in_order, dimension_spelling, dimension_header, keys_spelling};
+ghost use Rattle.dimension_objects.specs.Spelled.{dimension_parts, texts_in_order};
 
 use crate::order::{axis_number, linked_columns, row_columns, stored_columns};
 use cube_model::{Axis, Fault};
@@ -34,7 +34,7 @@ pub fn encode(alloc: Global, dims: &Dims, axis: Axis) -> Result<Vec<u8>, Fault>
 
 // Adds what is before the columns.
 fn push_header(out: &mut Vec<u8>, axis: Axis, rows: u32) -> Result<(), Fault>
-    ensures ok { OnOk result (out.new.items ≡ out.old.items ++ header_of axis rows) }
+    ensures ok { OnOk result (out.new.items ≡ out.old.items ++ dimension_header axis rows) }
     ensures memory { IfErr result (λ fault. fault ≡ Fault.Memory) }
 {
     push_bytes(out, NAME)?;
@@ -46,7 +46,8 @@ fn push_header(out: &mut Vec<u8>, axis: Axis, rows: u32) -> Result<(), Fault>
 fn push_texts(out: &mut Vec<u8>, dims: &Dims, axis: Axis, columns: &[usize]) -> Result<(), Fault>
     requires { AllByRecursion (λ column. column < length (lowers_of axis)) columns.now }
     ensures ok { OnOk result
-        (out.new.items ≡ out.old.items ++ texts_in_order (parts_of axis (rows_on dims.now axis)).texts columns.now) }
+        (out.new.items ≡ out.old.items ++ texts_in_order (dimension_parts axis (rows_on dims.now axis)).texts
+        columns.now) }
     ensures memory { IfErr result (λ fault. fault ≡ Fault.Memory) }
 {
     for column in columns {
@@ -59,7 +60,8 @@ fn push_texts(out: &mut Vec<u8>, dims: &Dims, axis: Axis, columns: &[usize]) -> 
 fn push_columns(out: &mut Vec<u8>, dims: &Dims, axis: Axis, columns: &[usize]) -> Result<(), Fault>
     requires { AllByRecursion (λ column. column < length (lowers_of axis)) columns.now }
     ensures ok { OnOk result
-        (out.new.items ≡ out.old.items ++ codes_in_order (parts_of axis (rows_on dims.now axis)).codes columns.now) }
+        (out.new.items ≡ out.old.items ++ codes_in_order (dimension_parts axis (rows_on dims.now axis)).codes
+        columns.now) }
     ensures memory { IfErr result (λ fault. fault ≡ Fault.Memory) }
 {
     for column in columns {

@@ -1,10 +1,12 @@
 //! Reading the parts of a dimension from the front of bytes.
 ghost use Rattle.std.specs.Prelude.{◌≡◌, ◌⊎◌, ◌<◌, ◌^◌, ◌*◌, [], length, IfErr, IfOk, IsErr, IsOkUnless, OnOk};
 ghost use Rattle.cube_model.specs.declared.fault.Fault.{Fault};
-ghost use Rattle.dimensions.specs.Coded.{HaveTexts};
+ghost use Rattle.dimensions.specs.Coded.{ColumnsHaveTexts};
 ghost use Rattle.dimensions.specs.Shapes.{lowers_of};
-ghost use Rattle.dimension_objects.specs.Columns.{AreColumns, BeginsWithNoCodes, BeginsWithNoHeader, BeginsWithNoTexts};
-ghost use Rattle.dimension_objects.specs.Columns.{ReadsCodes, ReadsColumns, ReadsHeader, ReadsKeys, ReadsTexts};
+ghost use Rattle.dimension_objects.specs.Columns.{IsOrderOfColumns, BeginsWithNoCodes, BeginsWithNoHeader};
+ghost use Rattle.dimension_objects.specs.Columns.{BeginsWithNoTexts};
+ghost use Rattle.dimension_objects.specs.Columns.{ReadsCodes, ReadsColumns, ReadsDimensionHeader, ReadsKeys};
+ghost use Rattle.dimension_objects.specs.Columns.{ReadsColumnTexts};
 
 use crate::columns::place_count;
 use crate::encoding::NAME;
@@ -19,7 +21,7 @@ use wire::Cursor;
 
 // Reads what is before the columns, and answers how many rows there are.
 pub(crate) fn read_header(cursor: &mut Cursor<'_>, axis: Axis) -> Result<u32, Fault>
-    ensures ok { IfOk result (ReadsHeader axis cursor.old cursor.new) }
+    ensures ok { IfOk result (ReadsDimensionHeader axis cursor.old cursor.new) }
     ensures fault { IsOkUnless result Fault.BadLayout }
     ensures none { IsErr result → BeginsWithNoHeader axis cursor.old }
 {
@@ -39,9 +41,9 @@ pub(crate) fn read_texts(
     order: &[usize],
     columns: &mut Vec<CodedColumn>,
 ) -> Result<(), Fault>
-    requires order { AreColumns (length columns.old.items) order.now }
-    requires have { HaveTexts columns.old.items }
-    ensures ok { OnOk result (ReadsTexts order.now cursor.old cursor.new columns.old.items columns.new.items) }
+    requires order { IsOrderOfColumns (length columns.old.items) order.now }
+    requires have { ColumnsHaveTexts columns.old.items }
+    ensures ok { OnOk result (ReadsColumnTexts order.now cursor.old cursor.new columns.old.items columns.new.items) }
     ensures refused { IfErr result (λ fault. (fault ≡ Fault.Memory) ⊎ ((fault ≡ Fault.BadLayout)
         × BeginsWithNoTexts order.now cursor.old)) }
 {
@@ -61,9 +63,9 @@ pub(crate) fn read_columns(
     order: &[usize],
     columns: &mut Vec<CodedColumn>,
 ) -> Result<(), Fault>
-    requires order { AreColumns (length (lowers_of axis)) order.now }
+    requires order { IsOrderOfColumns (length (lowers_of axis)) order.now }
     requires count { length columns.old.items ≡ length (lowers_of axis) }
-    requires have { HaveTexts columns.old.items }
+    requires have { ColumnsHaveTexts columns.old.items }
     ensures ok { OnOk result
         (ReadsColumns axis rows order.now cursor.old cursor.new columns.old.items columns.new.items) }
     ensures refused { IfErr result (λ fault. (fault ≡ Fault.Memory) ⊎ ((fault ≡ Fault.BadLayout)

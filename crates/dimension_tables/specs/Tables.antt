@@ -6,7 +6,7 @@ use Rattle.batch_loader.specs.Unread.{Unread}
 use Rattle.cube_model.specs.declared.attr.Axis.{Axis}
 use Rattle.cube_model.specs.declared.attr.Axis.TheVariants.{Customer, Supplier, Part, Date}
 use Rattle.cube_model.specs.declared.fault.Fault.{Fault}
-use Rattle.dimension_tables.specs.Texts.{Texts}
+use Rattle.dimension_tables.specs.Texts.{TableTexts}
 
 -- what is known of the tables of the dimensions
 pub record DimensionLines : Type 0 where
@@ -28,7 +28,7 @@ pub record IsUnread (lines : Unread) (text : List ℕ) : Type 0 where
   pub number : lines.number ≡ 0
   pub fault : lines.fault ≡ None
 
-pub record AreUnread (lines : DimensionLines) (texts : Texts) : Type 0 where
+pub record AreUnread (lines : DimensionLines) (texts : TableTexts) : Type 0 where
   pub customer : IsUnread lines.customer texts.customer
   pub supplier : IsUnread lines.supplier texts.supplier
   pub part : IsUnread lines.part texts.part

@@ -10,7 +10,7 @@ use Rattle.cube_model.specs.declared.rows.DimRows.{DimRows}
 use Rattle.cube_model.specs.Validity.{invalid_cause}
 
 -- the texts of the five tables
-pub record Texts : Type 0 where
+pub record TableTexts : Type 0 where
   pub customer : List ℕ
   pub supplier : List ℕ
   pub part : List ℕ
@@ -26,7 +26,7 @@ abbrev pub valid_rows : DimRows → Result DimRows Fault
 valid_rows rows = unless (invalid_cause rows) (Ok rows)
 
 -- the rows of the four tables, whether they keep the rules or not
-abbrev pub tables_of : Texts → Result DimRows Fault
+abbrev pub tables_of : TableTexts → Result DimRows Fault
 tables_of texts =
     and_then (table_rows customer_row texts.customer) (λ customers.
     and_then (table_rows supplier_row texts.supplier) (λ suppliers.
@@ -35,10 +35,10 @@ tables_of texts =
     Ok (record { customers = customers; suppliers = suppliers; parts = parts; dates = dates })))))
 
 -- the rows of the four dimensions: all texts are read before the rules are looked at
-abbrev pub dimensions_of : Texts → Result DimRows Fault
+abbrev pub dimensions_of : TableTexts → Result DimRows Fault
 dimensions_of texts = and_then (tables_of texts) valid_rows
 
 -- a call found what a definition says, or its refusal; or memory was refused, or a reader failed
-abbrev pub Gives : {A : Type 0} → Result A Fault → Result A Fault → Type 0
-Gives outcome (Ok value) = outcome ≡ Ok value
-Gives outcome (Err fault) = (fault ≡ Memory) ⊎ ((fault ≡ Input) ⊎ (outcome ≡ Err fault))
+abbrev pub GivesUnlessFailed : {A : Type 0} → Result A Fault → Result A Fault → Type 0
+GivesUnlessFailed outcome (Ok value) = outcome ≡ Ok value
+GivesUnlessFailed outcome (Err fault) = (fault ≡ Memory) ⊎ ((fault ≡ Input) ⊎ (outcome ≡ Err fault))

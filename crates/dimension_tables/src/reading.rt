@@ -1,6 +1,6 @@
 //! The dimensions from the texts of their tables.
 ghost use Rattle.std.specs.Prelude.{◌≡◌, Some};
-ghost use Rattle.dimension_tables.specs.Texts.{Gives, Texts, dimensions_of};
+ghost use Rattle.dimension_tables.specs.Texts.{GivesUnlessFailed, TableTexts, dimensions_of};
 
 use crate::tables::DimensionTables;
 use cube_model::Fault;
@@ -16,8 +16,10 @@ pub fn read_dimensions<C: Read + Drop, S: Read + Drop, P: Read + Drop, D: Read +
     part: P,
     date: D,
 ) -> Result<Dims, Fault>
-    ensures { (texts : Texts) → C.remaining customer ≡ Some texts.customer → S.remaining supplier ≡ Some texts.supplier
-        → P.remaining part ≡ Some texts.part → D.remaining date ≡ Some texts.date → Gives (dimensions_of texts) result }
+    ensures { (texts : TableTexts) → C.remaining customer ≡ Some texts.customer
+        → S.remaining supplier ≡ Some texts.supplier
+        → P.remaining part ≡ Some texts.part → D.remaining date ≡ Some texts.date
+        → GivesUnlessFailed (dimensions_of texts) result }
 {
     let mut tables = DimensionTables::new(alloc, customer, supplier, part, date)?;
     let rows = tables.rows(alloc)?;

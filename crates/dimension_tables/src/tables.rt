@@ -2,7 +2,7 @@
 ghost use Rattle.std.specs.Prelude.{◌≡◌, Some, IfErr, IfNone, IfOk, IfSome};
 ghost use Rattle.cube_model.specs.Validity.{HaveShortTexts};
 ghost use Rattle.dimension_tables.specs.Tables.{AreFresh, AreUnread, IsRefusedFor, KeepLines};
-ghost use Rattle.dimension_tables.specs.Texts.{Gives, Texts, tables_of};
+ghost use Rattle.dimension_tables.specs.Texts.{GivesUnlessFailed, TableTexts, tables_of};
 
 use batch_loader::{Lines, read_customers, read_dates, read_parts, read_suppliers};
 use cube_model::{Axis, DimRows, Fault};
@@ -46,7 +46,7 @@ impl<C: Read + Drop, S: Read + Drop, P: Read + Drop, D: Read + Drop> Model
 impl<C: Read + Drop, S: Read + Drop, P: Read + Drop, D: Read + Drop> DimensionTables<C, S, P, D> {
     /// The tables that four readers give. It can only fail when out of memory.
     pub fn new(alloc: Global, customer: C, supplier: S, part: P, date: D) -> Result<Self, Fault>
-        ensures unread { IfOk result (λ tables. (texts : Texts) → C.remaining customer ≡ Some texts.customer
+        ensures unread { IfOk result (λ tables. (texts : TableTexts) → C.remaining customer ≡ Some texts.customer
             → S.remaining supplier ≡ Some texts.supplier
             → P.remaining part ≡ Some texts.part → D.remaining date ≡ Some texts.date → AreUnread tables texts) }
         ensures fresh { IfOk result AreFresh }
@@ -63,7 +63,7 @@ impl<C: Read + Drop, S: Read + Drop, P: Read + Drop, D: Read + Drop> DimensionTa
     /// The rows of the four tables, whether they keep the rules of dimensions or not. The tables are read in this
     /// order, each to its end. That a text is too long is never found here: its table refuses it.
     pub fn rows(&mut self, alloc: Global) -> Result<DimRows, Fault>
-        ensures tables { (texts : Texts) → AreUnread self.old texts → Gives (tables_of texts) result }
+        ensures tables { (texts : TableTexts) → AreUnread self.old texts → GivesUnlessFailed (tables_of texts) result }
         ensures short { IfOk result HaveShortTexts }
         ensures lines { AreFresh self.old → KeepLines self.new }
     {
@@ -76,7 +76,7 @@ impl<C: Read + Drop, S: Read + Drop, P: Read + Drop, D: Read + Drop> DimensionTa
 
     // The same of texts of any length.
     fn all_rows(&mut self, alloc: Global) -> Result<DimRows, Fault>
-        ensures tables { (texts : Texts) → AreUnread self.old texts → Gives (tables_of texts) result }
+        ensures tables { (texts : TableTexts) → AreUnread self.old texts → GivesUnlessFailed (tables_of texts) result }
         ensures lines { AreFresh self.old → KeepLines self.new }
     {
         let customers = read_customers(alloc, &mut self.customer)?;

@@ -18,9 +18,9 @@ use Rattle.dimensions.specs.TextRows.{TextRow, text_in, column_of}
 use Rattle.dimensions.specs.Shapes.{lowers_of, lower_of, row_limit_of, text_rules, texts_from, links_from}
 use Rattle.dimensions.specs.ShortTexts.{IsShortRow}
 use Rattle.dimensions.specs.Coded.{text_next_to, place_texts, texts_below, texts_at_places, coded_at, AreCodedRows}
-use Rattle.dimensions.specs.Coded.{AreGoodRows, place_total, HaveProperColumns, AreDistinct}
+use Rattle.dimensions.specs.Coded.{AreGoodRows, place_total, HaveProperColumns, KeysAreDistinct}
 use Rattle.dimensions.specs.Tables.{column_at}
-use Rattle.dimensions.specs.Shown.{text_up, each_row, table_row, table_rows}
+use Rattle.dimensions.specs.Shown.{text_up, each_row, table_row, rows_of_table}
 use Rattle.dimensions.proofs.MemberLaws.{length-members}
 use Rattle.dimensions.proofs.ShapeLaws.{lower_below}
 use Rattle.dimensions.proofs.ShortLaws.{all_at, all_map}
@@ -146,7 +146,7 @@ no_row = record { key = 0; texts = [] }
 
 module _ (axis : Axis) (table : Table) (are : AreInOrder axis table) where
   abbrev rows : List TextRow
-  rows = table_rows axis table
+  rows = rows_of_table axis table
 
   row_count : length rows ≡ length table.keys
   row_count = each_row-length (table_row axis table) (length table.keys)
@@ -166,7 +166,7 @@ module _ (axis : Axis) (table : Table) (are : AreInOrder axis table) where
       → AllByRecursion (λ text. length text ≤ longest_text) (column_at table i).texts.texts)
       (members : (i : ℕ) → i < length (lowers_of axis)
       → AllByRecursion (λ text. text ≢ codes "ALL") (column_at table i).texts.texts)
-      (few : length table.keys ≤ row_limit_of axis) (distinct : AreDistinct table.keys) where
+      (few : length table.keys ≤ row_limit_of axis) (distinct : KeysAreDistinct table.keys) where
     short_row : (k : ℕ) → k < length rows → IsShortRow (get_or rows k no_row)
     short_row k k_lt =
         let k_n : k < length table.keys = omega (arith, k_lt, row_count) in
@@ -209,7 +209,7 @@ module _ (axis : Axis) (table : Table) (are : AreInOrder axis table) where
         few_rows = omega (arith, few, row_count);
         keys_differ =
             pairs_unmap (λ key other. key ≢ other) (λ row. row.key) rows
-            (subst AreDistinct
+            (subst KeysAreDistinct
             (sym (each_row-map (λ row. row.key) (table_row axis table) (length table.keys) ∙ each_row-of table.keys 0))
             distinct);
         none_reserved =
@@ -326,7 +326,7 @@ module _ (axis : Axis) (rows : List TextRow) (keep : KeepsRules (text_rules axis
           };
     }
 
-    pub distinct_keys : AreDistinct coded_rows.keys
+    pub distinct_keys : KeysAreDistinct coded_rows.keys
     distinct_keys =
-        subst AreDistinct (sym is.keys_are)
+        subst KeysAreDistinct (sym is.keys_are)
         (pairs_map (λ key other. key ≢ other) (λ row. row.key) rows keep.keys_differ)

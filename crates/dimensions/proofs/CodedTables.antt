@@ -9,7 +9,7 @@ use Rattle.cube_model.specs.declared.attr.Axis.{Axis}
 use Rattle.cube_model.specs.declared.attr.Axis.TheVariants.{Customer, Supplier, Part, Date}
 use Rattle.cube_model.specs.Limits.{most_members}
 use Rattle.dictionary.specs.Dictionary.{EachOnce, firsts}
-use Rattle.dictionary.specs.Columns.{AreCodes, codes_of, text_at}
+use Rattle.dictionary.specs.Columns.{AreCodes, codes_of, text_of_code}
 use Rattle.dimensions.specs.declared.column.Column.{Column}
 use Rattle.dimensions.specs.declared.table.Table.{Table}
 use Rattle.dimensions.specs.TextRows.{text_in, column_of}
@@ -17,7 +17,7 @@ use Rattle.dimensions.specs.Shapes.{lowers_of, lower_of}
 use Rattle.dimensions.specs.Columns.{code_at, IsColumn}
 use Rattle.dimensions.specs.Coded.{place_texts, texts_below, texts_at_places}
 use Rattle.dimensions.specs.Tables.{column_at, lower_texts, IsTable}
-use Rattle.dimensions.specs.Shown.{code_up, text_up, each_row, table_row, table_rows}
+use Rattle.dimensions.specs.Shown.{code_up, text_up, each_row, table_row, rows_of_table}
 use Rattle.dimensions.proofs.ColumnLaws.{code_at-within}
 use Rattle.dimensions.proofs.ShapeLaws.{lower_below}
 use Rattle.dimensions.proofs.CodeLaws.{decoded}
@@ -97,7 +97,7 @@ module _ (axis : Axis) (table : Table) (are : AreInOrder axis table) where
 
   -- the texts at its places
   abbrev pub placed : ℕ → List (List ℕ)
-  placed i = map (text_at (texts i)) (codes i)
+  placed i = map (text_of_code (texts i)) (codes i)
 
   -- ---- steps up
 
@@ -150,10 +150,10 @@ module _ (axis : Axis) (table : Table) (are : AreInOrder axis table) where
     placed_codes = (decoded (texts i) (codes i) own.once own.order).1
 
     placed_count : length (placed i) ≡ length (codes i)
-    placed_count = length-map (codes i) (text_at (texts i))
+    placed_count = length-map (codes i) (text_of_code (texts i))
 
     placed_at : (k : ℕ) → k < length (codes i) → get_or (placed i) k [] ≡ get_or (texts i) (get_or (codes i) k 0) []
-    placed_at k k_lt = get_or-map (text_at (texts i)) (codes i) k 0 [] k_lt
+    placed_at k k_lt = get_or-map (text_of_code (texts i)) (codes i) k 0 [] k_lt
 
     -- each code is that of a text
     code_within : (k : ℕ) → k < length (codes i) → get_or (codes i) k 0 < length (texts i)
@@ -281,22 +281,23 @@ module _ (axis : Axis) (table : Table) (are : AreInOrder axis table) where
 
   -- ---- the rows
 
-  pub column_is : (i : ℕ) → i < length (lowers_of axis) → column_of i (table_rows axis table) ≡ column_up i
+  pub column_is : (i : ℕ) → i < length (lowers_of axis) → column_of i (rows_of_table axis table) ≡ column_up i
   column_is i lt =
       each_row-map (text_in i) (table_row axis table) n
       ∙ each_row-same _ _ n
       (λ row row_lt. each_row-get (λ column. text_up table column row) (length (lowers_of axis)) i [] lt)
 
-  pub table_is : IsTable axis (table_rows axis table) table
+  pub table_is : IsTable axis (rows_of_table axis table) table
   table_is = record {
     keys = sym (each_row-map (λ row. row.key) (table_row axis table) n ∙ each_row-of table.keys 0);
     count = are.count;
     lowers = are.lowers;
     columns = λ i lt.
-        subst (λ l. IsColumn l (lower_texts axis i (table_rows axis table)) (column_at table i)) (sym (column_is i lt))
+        subst (λ l. IsColumn l (lower_texts axis i (rows_of_table axis table)) (column_at table i))
+        (sym (column_is i lt))
         (elim (lower_of axis i) as
         (λ o. lower_of axis i ≡ o → IsColumn (column_up i) (option_map column_up o) (column_at table i)
-        → IsColumn (column_up i) (option_map (λ lower. column_of lower (table_rows axis table)) o)
+        → IsColumn (column_up i) (option_map (λ lower. column_of lower (rows_of_table axis table)) o)
         (column_at table i)) [
           | None ↦ λ e is. is
           | Some j ↦ λ e is. let before = lower_below axis i j e in
@@ -306,11 +307,11 @@ module _ (axis : Axis) (table : Table) (are : AreInOrder axis table) where
   }
 
   -- the texts at the places of a column are those of its codes
-  pub places_are : (i : ℕ) → i < length (lowers_of axis) → texts_at_places axis i (table_rows axis table) ≡ placed i
+  pub places_are : (i : ℕ) → i < length (lowers_of axis) → texts_at_places axis i (rows_of_table axis table) ≡ placed i
   places_are i lt =
       elim (lower_of axis i) as
       (λ o. lower_of axis i ≡ o
-      → place_texts (texts_below o (table_rows axis table)) (column_of i (table_rows axis table)) ≡ placed i) [
+      → place_texts (texts_below o (rows_of_table axis table)) (column_of i (rows_of_table axis table)) ≡ placed i) [
         | None ↦ λ e. column_is i lt ∙ (good_above_rows i lt e).0
         | Some j ↦ λ e.
             let before = lower_below axis i j e in

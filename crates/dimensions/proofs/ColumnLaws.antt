@@ -12,7 +12,7 @@ use Rattle.dictionary.proofs.CallerLemmas.{place-kept, place-own, place_within, 
 use Rattle.dictionary.proofs.CallerLemmas.{place_unseen, text_at_place}
 use Rattle.hierarchy.specs.Hierarchy.{PutsUpper}
 use Rattle.dimensions.specs.declared.column.Column.{Column}
-use Rattle.dimensions.specs.Columns.{code_at, place_of, place_count, IsColumn, HasCode, learned, Enters}
+use Rattle.dimensions.specs.Columns.{code_at, code_place, place_count, IsColumn, HasCode, learned, Enters}
 
 -- ---- one more link
 
@@ -136,7 +136,7 @@ module _ (texts : List (List ℕ)) (old new : Column) (text : List ℕ) (code pl
     grown : (lower lower' : Option (List (List ℕ))) → IsColumn texts lower old → Enters old place text code true new
         → length new.codes ≡ place_count lower' (length (texts ++ text ∷ []))
         → ((row : ℕ) → row < length (texts ++ text ∷ [])
-        → get_or new.codes (place_of lower' row) 0 ≡ code_at (texts ++ text ∷ []) row)
+        → get_or new.codes (code_place lower' row) 0 ≡ code_at (texts ++ text ∷ []) row)
         → IsColumn (texts ++ text ∷ []) lower' new
     grown lower lower' is enters count reads = record {
       limit = ap (λ t. t.limit) enters.texts ∙ learned-limit old.texts text ∙ is.limit;

@@ -8,7 +8,7 @@ use Rattle.std.proofs.lemmas.Bool.{cases_lt}
 use Rattle.std.proofs.lemmas.Bool.Decides.{nat_tests}
 use Rattle.std.proofs.lemmas.List.{length-append}
 use Rattle.std.proofs.lemmas.List.Sums.{position_or_len_is}
-use Rattle.dimensions.specs.Coded.{AreDistinct}
+use Rattle.dimensions.specs.Coded.{KeysAreDistinct}
 use Rattle.dimensions.specs.KeyMaps.{CountOn}
 use Rattle.dimensions.proofs.KeyLaws.{places_distinct}
 
@@ -39,7 +39,7 @@ place_before first key keys counted before =
     (λ below. absurd (omega (arith, below))))
 
 -- such keys are all different
-pub counted_distinct : (first : ℕ) (keys : List ℕ) → CountOn first keys → AreDistinct keys
+pub counted_distinct : (first : ℕ) (keys : List ℕ) → CountOn first keys → KeysAreDistinct keys
 counted_distinct first keys counted =
     places_distinct keys (λ row lt.
     let at : get_or keys row 0 ≡ first + row = counted row lt in

@@ -14,7 +14,7 @@ use Rattle.dictionary.specs.Dictionary.{firsts}
 use Rattle.dictionary.proofs.CallerLemmas.{bytes_eq-refl, list_any-firsts, list_any_place, place_append, place_within}
 use Rattle.dimensions.specs.Added.{joined}
 use Rattle.dimensions.specs.Coded.{place_texts, text_next_to, texts_at_places, texts_below}
-use Rattle.dimensions.specs.KeptCodes.{GoesOn, KeepCodes}
+use Rattle.dimensions.specs.KeptCodes.{GoesOnFrom, KeepCodes}
 use Rattle.dimensions.specs.Shapes.{lower_of}
 use Rattle.dimensions.specs.Shown.{rows_on}
 use Rattle.dimensions.specs.TextRows.{TextRow, text_in, column_of, row_of_customer, row_of_supplier, row_of_part}
@@ -42,7 +42,7 @@ get_front (x ∷ xs) ys (suc k) d lt = get_front xs ys k d (omega (arith, lt))
 
 -- ---- texts in the order of their first use
 
-pub firsts_go_on : (texts others : List (List ℕ)) → GoesOn (firsts texts) (firsts (texts ++ others))
+pub firsts_go_on : (texts others : List (List ℕ)) → GoesOnFrom (firsts texts) (firsts (texts ++ others))
 firsts_go_on [] others = (firsts others, refl)
 firsts_go_on (text ∷ texts) others =
     let rest = firsts_go_on texts others in (
@@ -52,7 +52,7 @@ firsts_go_on (text ∷ texts) others =
     )
 
 -- the codes of a column of texts go on
-pub codes_go_on : (texts others : List (List ℕ)) → GoesOn (codes_of texts) (codes_of (texts ++ others))
+pub codes_go_on : (texts others : List (List ℕ)) → GoesOnFrom (codes_of texts) (codes_of (texts ++ others))
 codes_go_on texts others =
     let more = firsts_go_on texts others in
     let same : map (place_of (firsts (texts ++ others))) texts ≡ codes_of texts =
@@ -67,7 +67,7 @@ codes_go_on texts others =
 
 -- the texts next_to those of a lower column go on
 next_to_go_on : (lowers texts more_lowers more : List (List ℕ)) → length texts ≡ length lowers
-    → GoesOn (place_texts (Some lowers) texts) (place_texts (Some (lowers ++ more_lowers)) (texts ++ more))
+    → GoesOnFrom (place_texts (Some lowers) texts) (place_texts (Some (lowers ++ more_lowers)) (texts ++ more))
 next_to_go_on lowers texts more_lowers more many =
     let next = firsts_go_on lowers more_lowers in
     let next_to : List ℕ → List ℕ = text_next_to (lowers ++ more_lowers) (texts ++ more) in
@@ -86,10 +86,11 @@ next_to_go_on lowers texts more_lowers more many =
 -- ---- columns
 
 module _ (axis : Axis) (old new : List TextRow) where
-  pub places_go_on : (column : ℕ) → GoesOn (texts_at_places axis column old) (texts_at_places axis column (old ++ new))
+  pub places_go_on : (column : ℕ)
+      → GoesOnFrom (texts_at_places axis column old) (texts_at_places axis column (old ++ new))
   places_go_on column =
       elim (lower_of axis column) as
-      (λ o. GoesOn (place_texts (texts_below o old) (column_of column old))
+      (λ o. GoesOnFrom (place_texts (texts_below o old) (column_of column old))
       (place_texts (texts_below o (old ++ new)) (column_of column (old ++ new)))) [
         | None ↦ (column_of column new, map-append (text_in column) old new)
         | Some lower ↦
@@ -103,14 +104,14 @@ module _ (axis : Axis) (old new : List TextRow) where
       ]
 
   pub texts_stay : (column : ℕ)
-      → GoesOn (firsts (texts_at_places axis column old)) (firsts (texts_at_places axis column (old ++ new)))
+      → GoesOnFrom (firsts (texts_at_places axis column old)) (firsts (texts_at_places axis column (old ++ new)))
   texts_stay column =
       let on = places_go_on column in
       let more = firsts_go_on (texts_at_places axis column old) on.0 in
       (more.0, ap firsts on.1 ∙ more.1)
 
   pub codes_stay : (column : ℕ)
-      → GoesOn (codes_of (texts_at_places axis column old)) (codes_of (texts_at_places axis column (old ++ new)))
+      → GoesOnFrom (codes_of (texts_at_places axis column old)) (codes_of (texts_at_places axis column (old ++ new)))
   codes_stay column =
       let on = places_go_on column in
       let more = codes_go_on (texts_at_places axis column old) on.0 in
@@ -142,11 +143,11 @@ index_stays old new Date key lt = first_stays (λ row. row.key == key) old.dates
 pub keep_codes : (old new : DimRows) → KeepCodes old (joined old new)
 keep_codes old new = record {
   texts = λ axis column lt. subst
-      (λ rows. GoesOn (firsts (texts_at_places axis column (rows_on old axis)))
+      (λ rows. GoesOnFrom (firsts (texts_at_places axis column (rows_on old axis)))
       (firsts (texts_at_places axis column rows))) (sym (rows_on-joined old new axis))
       (texts_stay axis (rows_on old axis) (rows_on new axis) column);
   codes = λ axis column lt. subst
-      (λ rows. GoesOn (codes_of (texts_at_places axis column (rows_on old axis)))
+      (λ rows. GoesOnFrom (codes_of (texts_at_places axis column (rows_on old axis)))
       (codes_of (texts_at_places axis column rows))) (sym (rows_on-joined old new axis))
       (codes_stay axis (rows_on old axis) (rows_on new axis) column);
   keys = λ axis. (

@@ -6,7 +6,7 @@ use Rattle.std.specs.List.{position_or_len}
 use Rattle.std.proofs.lemmas.Bool.{eqb-true, eq-eqb}
 use Rattle.std.proofs.lemmas.Grind.{common_steps}
 use Rattle.std.proofs.lemmas.List.{take_more}
-use Rattle.dimensions.specs.Coded.{AreDistinct}
+use Rattle.dimensions.specs.Coded.{KeysAreDistinct}
 use Rattle.dimensions.proofs.CodedTexts.{all_from_get}
 use Rattle.dimensions.proofs.KeyMapLaws.{position-push_kept, position-push_new, position-push_same}
 use Rattle.dimensions.proofs.ShortLaws.{all_at}
@@ -34,7 +34,7 @@ some_of_place p xs k is lt =
 -- ---- keys that differ
 
 -- each of them has its own row as its first
-pub distinct_place : (keys : List ℕ) (row : ℕ) → AreDistinct keys → row < length keys
+pub distinct_place : (keys : List ℕ) (row : ℕ) → KeysAreDistinct keys → row < length keys
     → position_or_len (has (get_or keys row 0)) keys ≡ row
 distinct_place [] row distinct lt = absurd (omega (arith, lt))
 distinct_place (key ∷ keys) zero distinct lt =
@@ -48,7 +48,7 @@ distinct_place (key ∷ keys) (suc row) distinct lt =
     ∙ ap (λ n. 1 + n) (distinct_place keys row distinct.1 lt') ∙ next
 
 pub places_distinct : (keys : List ℕ)
-    → ((row : ℕ) → row < length keys → position_or_len (has (get_or keys row 0)) keys ≡ row) → AreDistinct keys
+    → ((row : ℕ) → row < length keys → position_or_len (has (get_or keys row 0)) keys ≡ row) → KeysAreDistinct keys
 places_distinct [] own = tt
 places_distinct (key ∷ keys) own = (
   all_from_get (λ other. key ≢ other) keys 0 differs,

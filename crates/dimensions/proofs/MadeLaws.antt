@@ -26,11 +26,11 @@ use Rattle.dimensions.specs.declared.table.Table.{Table}
 use Rattle.dimensions.specs.TextRows.{row_of_customer, row_of_supplier, row_of_part, row_of_date}
 use Rattle.dimensions.specs.Shapes.{lowers_of, lower_of, text_rules}
 use Rattle.dimensions.specs.ShortTexts.{IsShortRow}
-use Rattle.dimensions.specs.Coded.{no_coded, coded_at, AreCodedRows, AreGoodRows, HaveTexts, place_total}
-use Rattle.dimensions.specs.Coded.{HaveProperColumns, AreDistinct}
+use Rattle.dimensions.specs.Coded.{no_coded, coded_at, AreCodedRows, AreGoodRows, ColumnsHaveTexts, place_total}
+use Rattle.dimensions.specs.Coded.{HaveProperColumns, KeysAreDistinct}
 use Rattle.dimensions.specs.Made.{IsTableOf, IsDimensionOf, IsRefusal, AreCodedDims, EncodeNone, EncodeNoRows}
 use Rattle.dimensions.specs.Tables.{no_column, column_at, columns_from, IsTable}
-use Rattle.dimensions.specs.Shown.{IsDimension, rows_on, table_rows, shown_customer, shown_supplier, shown_part}
+use Rattle.dimensions.specs.Shown.{IsDimension, rows_on, rows_of_table, shown_customer, shown_supplier, shown_part}
 use Rattle.dimensions.specs.Shown.{shown_date, shown_rows, AreDimensions}
 use Rattle.dimensions.proofs.Refusals.{rules_through}
 use Rattle.dimensions.proofs.ShapeLaws.{lower_below}
@@ -79,8 +79,9 @@ columns_from-push axis n (other ∷ coded) column new is =
     (columns_from-push axis (suc n) coded column new
     (is ∙ ap (λ k. record { lower = lower_of axis k; texts = column.texts; codes = column.codes }) next))
 
-module _ (axis : Axis) (coded : CodedRows) (have : HaveTexts coded.columns) (proper : HaveProperColumns axis coded)
-    (distinct : AreDistinct coded.keys)
+module _ (axis : Axis) (coded : CodedRows) (have : ColumnsHaveTexts coded.columns)
+    (proper : HaveProperColumns axis coded)
+    (distinct : KeysAreDistinct coded.keys)
     (table : Table) (keys : table.keys ≡ coded.keys) (columns : table.columns.items ≡ columns_from axis 0 coded.columns)
   where
     column_is : (i : ℕ) → i < length (lowers_of axis) → column_at table i ≡ record {
@@ -143,7 +144,7 @@ module _ (axis : Axis) (coded : CodedRows) (have : HaveTexts coded.columns) (pro
           (short_all (coded_at coded i).texts.texts (proper_at i lt).short))
           (λ i lt. subst (λ t. AllByRecursion (λ text. text ≢ codes "ALL") t.texts) (sym (texts_is i lt))
           (proper.columns i lt).members)
-          (omega (arith, proper.few_rows, ap length keys)) (subst AreDistinct (sym keys) distinct);
+          (omega (arith, proper.few_rows, ap length keys)) (subst KeysAreDistinct (sym keys) distinct);
       codes_are = record {
         keys_are = sym keys ∙ keys_of_rows;
         count = proper.count;
@@ -156,14 +157,14 @@ module _ (axis : Axis) (coded : CodedRows) (have : HaveTexts coded.columns) (pro
       };
     }
       where
-        keys_of_rows : table.keys ≡ map (λ row. row.key) (table_rows axis table)
+        keys_of_rows : table.keys ≡ map (λ row. row.key) (rows_of_table axis table)
         keys_of_rows = (table_is axis table in_order).keys
 
 -- codes that break a rule represent no rows
 pub refused_columns : (axis : Axis) (coded : CodedRows) → (HaveProperColumns axis coded → ⊥) → EncodeNone axis coded
 refused_columns axis coded bad = λ rows good is. bad (proper_columns axis rows good.keep coded is)
 
-pub refused_keys : (axis : Axis) (coded : CodedRows) → (AreDistinct coded.keys → ⊥) → EncodeNone axis coded
+pub refused_keys : (axis : Axis) (coded : CodedRows) → (KeysAreDistinct coded.keys → ⊥) → EncodeNone axis coded
 refused_keys axis coded bad = λ rows good is. bad (distinct_keys axis rows good.keep coded is)
 
 -- ---- rules of rows seen through a function
@@ -320,7 +321,7 @@ few_coded_days coded dates made keys are =
       arith,
       ap length are,
       ap length made.is.table.keys,
-      length-map (table_rows Date dates.table)
+      length-map (rows_of_table Date dates.table)
           (λ row. row.key),
       made.good.keep.few_rows,
     )
@@ -336,19 +337,21 @@ days_of rows table is = ap (map decimal) is.keys ∙ days rows
     days (row ∷ rows) = ap (λ l. decimal row.key ∷ l) (days rows)
 
 module _ (customers suppliers parts dates : Dimension) where
-  pub on_customers : rows_on (shown_rows customers suppliers parts dates) Customer ≡ table_rows Customer customers.table
+  pub on_customers : rows_on (shown_rows customers suppliers parts dates) Customer
+      ≡ rows_of_table Customer customers.table
   unfolding shown_rows
   on_customers = each_row-map row_of_customer (shown_customer customers.table) (length customers.table.keys)
 
-  pub on_suppliers : rows_on (shown_rows customers suppliers parts dates) Supplier ≡ table_rows Supplier suppliers.table
+  pub on_suppliers : rows_on (shown_rows customers suppliers parts dates) Supplier
+      ≡ rows_of_table Supplier suppliers.table
   unfolding shown_rows
   on_suppliers = each_row-map row_of_supplier (shown_supplier suppliers.table) (length suppliers.table.keys)
 
-  pub on_parts : rows_on (shown_rows customers suppliers parts dates) Part ≡ table_rows Part parts.table
+  pub on_parts : rows_on (shown_rows customers suppliers parts dates) Part ≡ rows_of_table Part parts.table
   unfolding shown_rows
   on_parts = each_row-map row_of_part (shown_part parts.table) (length parts.table.keys)
 
-  pub on_dates : rows_on (shown_rows customers suppliers parts dates) Date ≡ table_rows Date dates.table
+  pub on_dates : rows_on (shown_rows customers suppliers parts dates) Date ≡ rows_of_table Date dates.table
   unfolding shown_rows
   on_dates = each_row-map row_of_date (shown_date dates.table) (length dates.table.keys)
 

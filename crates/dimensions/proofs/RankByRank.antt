@@ -5,7 +5,7 @@ use Rattle.std.proofs.Math.ListN.{get_or-append}
 use Rattle.std.proofs.Math.Seq.{get_or-append_seam}
 use Rattle.std.proofs.lemmas.Bool.{cases_lt}
 use Rattle.std.proofs.lemmas.List.{length-append, map-append, take_more}
-use Rattle.dimensions.specs.Ranked.{AreCodes, texts_of_ranks}
+use Rattle.dimensions.specs.Ranked.{AreCodesBelow, texts_of_ranks}
 
 -- the texts of one rank more
 pub rank_more : (members texts : List (List ℕ)) (ranks more : List ℕ) (k rank : ℕ) (text : List ℕ)
@@ -20,8 +20,8 @@ rank_more members texts ranks more k rank text so_far within at found is =
     ∙ sym (take_more texts k text within)
 
 -- one more code
-pub codes_more : (count : ℕ) (codes more : List ℕ) (code : ℕ) → AreCodes count codes → code < count
-    → more ≡ codes ++ code ∷ [] → AreCodes count more
+pub codes_more : (count : ℕ) (codes more : List ℕ) (code : ℕ) → AreCodesBelow count codes → code < count
+    → more ≡ codes ++ code ∷ [] → AreCodesBelow count more
 codes_more count codes more code all below is k within =
     let longer : length more ≡ length codes + 1 = ap length is ∙ length-append codes (code ∷ []) in
     subst (λ l. get_or l k 0 < count) (sym is) (elim (cases_lt k (length codes)) [

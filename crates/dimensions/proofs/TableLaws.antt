@@ -19,7 +19,7 @@ use Rattle.dimensions.specs.declared.column.Column.{Column}
 use Rattle.dimensions.specs.declared.table.Table.{Table}
 use Rattle.dimensions.specs.TextRows.{TextRow, text_in, column_of}
 use Rattle.dimensions.specs.Shapes.{lowers_of, lower_of, text_rules}
-use Rattle.dimensions.specs.Columns.{IsColumn, LacksRoom, Enters}
+use Rattle.dimensions.specs.Columns.{IsColumn, HasNoCodeLeft, Enters}
 use Rattle.dimensions.specs.Tables.{column_at, lower_texts, IsTable, Numbers, HasNoRoom, place_for, EntersAt, AddsRow}
 use Rattle.dimensions.proofs.MemberLaws.{length-members}
 use Rattle.dimensions.proofs.ColumnLaws.{has_room, grows_above_rows, fits_above_rows, grows_above, agrees_above}
@@ -108,7 +108,7 @@ module _ (axis : Axis) (rows : List TextRow) (old : Table) (row : TextRow) (is :
         no_name = texts_none (λ text. bytes_eq (codes "ALL") (text row)) (lowers_of axis)
             (λ i lt. unnamed i (omega (arith, lt, is.count)))
 
-        overflow_at : (i : ℕ) → i < length old.columns.items → LacksRoom (column_at old i).texts (text_in i row)
+        overflow_at : (i : ℕ) → i < length old.columns.items → HasNoCodeLeft (column_at old i).texts (text_in i row)
             → nat_lt 65535 (length (members_of (map (text_in i) (rows ++ row ∷ [])))) ≡ true
         overflow_at i lt lacks =
             let column = is.columns i (omega (arith, lt, is.count)) in

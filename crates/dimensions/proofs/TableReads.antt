@@ -9,7 +9,7 @@ use Rattle.dimensions.specs.declared.table.Table.{Table}
 use Rattle.dimensions.specs.declared.dimension.Dimension.{Dimension}
 use Rattle.dimensions.specs.TextRows.{TextRow, text_in, column_of}
 use Rattle.dimensions.specs.Shapes.{lowers_of, lower_of}
-use Rattle.dimensions.specs.Columns.{IsColumn, code_at, place_of}
+use Rattle.dimensions.specs.Columns.{IsColumn, code_at, code_place}
 use Rattle.dimensions.specs.Tables.{column_at, lower_texts, IsTable}
 use Rattle.dimensions.specs.Shown.{IsDimension}
 use Rattle.dimensions.specs.Ranked.{IsRankAt}
@@ -28,18 +28,18 @@ module _ (axis : Axis) (rows : List TextRow) (table : Table) (is : IsTable axis 
   in_column = omega (arith, row_lt, length-map rows (text_in column))
 
   -- the code at the place of a row
-  pub code_within : get_or (column_at table column).codes (place_of (lower_texts axis column rows) row) 0
+  pub code_within : get_or (column_at table column).codes (code_place (lower_texts axis column rows) row) 0
       ≡ code_at (column_of column rows) row
   code_within = (is.columns column column_lt).reads row in_column
 
-  pub place_within : place_of (lower_texts axis column rows) row < length (column_at table column).codes
+  pub place_within : code_place (lower_texts axis column rows) row < length (column_at table column).codes
   place_within =
       let step : (o : Option ℕ)
       → IsColumn (column_of column rows) (option_map (λ j. column_of j rows) o) (column_at table column)
-      → place_of (option_map (λ j. column_of j rows) o) row < length (column_at table column).codes =
+      → code_place (option_map (λ j. column_of j rows) o) row < length (column_at table column).codes =
       λ o. elim o as
       (λ p. IsColumn (column_of column rows) (option_map (λ j. column_of j rows) p) (column_at table column)
-      → place_of (option_map (λ j. column_of j rows) p) row < length (column_at table column).codes) [
+      → code_place (option_map (λ j. column_of j rows) p) row < length (column_at table column).codes) [
         | None ↦ λ col. let r = in_column in omega (arith, r, col.count)
         | Some j ↦ λ col.
             let inside = code_at-within (column_of j rows) row (omega (arith, row_lt, length-map rows (text_in j))) in

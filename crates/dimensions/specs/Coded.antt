@@ -58,7 +58,7 @@ pub record AreGoodRows (axis : Axis) (rows : List TextRow) : Type 0 where
   pub short : AreShortRows rows
 
 -- each column has distinct short texts, and room for just as many as there may be members
-pub record HaveTexts (columns : List CodedColumn) : Type 0 where
+pub record ColumnsHaveTexts (columns : List CodedColumn) : Type 0 where
   pub limits : AllByRecursion (λ column. column.texts.limit ≡ most_members) columns
   pub proper : AllByRecursion (λ column. AreProper most_members column.texts.texts) columns
 
@@ -82,5 +82,5 @@ pub record HaveProperColumns (axis : Axis) (coded : CodedRows) : Type 0 where
       → IsProperColumn (place_total coded (lower_of axis i)) (coded_at coded i)
 
 -- no key occurs twice
-abbrev pub AreDistinct : List ℕ → Type 0
-AreDistinct keys = EachPair (λ key other. key ≢ other) keys
+abbrev pub KeysAreDistinct : List ℕ → Type 0
+KeysAreDistinct keys = EachPair (λ key other. key ≢ other) keys

@@ -14,9 +14,9 @@ abbrev pub code_at : List (List ℕ) → ℕ → ℕ
 code_at texts row = position_or_len (bytes_eq (slice_index_or texts row [])) (firsts texts)
 
 -- where the code of a row is: at the row, or at the row's code in the lower column
-abbrev pub place_of : Option (List (List ℕ)) → ℕ → ℕ
-place_of None row = row
-place_of (Some lower) row = code_at lower row
+abbrev pub code_place : Option (List (List ℕ)) → ℕ → ℕ
+code_place None row = row
+code_place (Some lower) row = code_at lower row
 
 -- how many places there are
 abbrev pub place_count : Option (List (List ℕ)) → ℕ → ℕ
@@ -29,15 +29,15 @@ pub record IsColumn (texts : List (List ℕ)) (lower : Option (List (List ℕ)))
   pub texts_are : column.texts.texts ≡ firsts texts
   pub room : length (firsts texts) ≤ most_members
   pub count : length column.codes ≡ place_count lower (length texts)
-  pub reads : (row : ℕ) → row < length texts → slice_index_or column.codes (place_of lower row) 0 ≡ code_at texts row
+  pub reads : (row : ℕ) → row < length texts → slice_index_or column.codes (code_place lower row) 0 ≡ code_at texts row
 
 -- a code is the one that a text has among texts, or would get
 abbrev pub HasCode : Texts → List ℕ → ℕ → Type 0
 HasCode texts text code = (code ≡ position_or_len (bytes_eq text) texts.texts) × (code < most_members)
 
 -- a text is new, and there is no room for it
-abbrev pub LacksRoom : Texts → List ℕ → Type 0
-LacksRoom texts text = (list_any (bytes_eq text) texts.texts ≡ false) × (most_members ≤ length texts.texts)
+abbrev pub HasNoCodeLeft : Texts → List ℕ → Type 0
+HasNoCodeLeft texts text = (list_any (bytes_eq text) texts.texts ≡ false) × (most_members ≤ length texts.texts)
 
 -- the texts with one that may be new
 abbrev pub learned : Texts → List ℕ → Texts

@@ -11,18 +11,19 @@ use Rattle.dimensions.specs.Shown.{rows_on}
 
 module _ {X : Type 0} where
   -- a list goes on from another
-  abbrev pub GoesOn : List X → List X → Type 0
-  GoesOn start list = (rest : List X) × (list ≡ start ++ rest)
+  abbrev pub GoesOnFrom : List X → List X → Type 0
+  GoesOnFrom start list = (rest : List X) × (list ≡ start ++ rest)
 
 -- Rows keep their codes: each column's texts go on from those that it had, its codes at its places too, and so do the
 -- keys. A key has the row index that it had.
 pub record KeepCodes (old new : DimRows) : Type 0 where
   pub texts : (axis : Axis) (column : ℕ) → column < length (lowers_of axis)
-      → GoesOn (firsts (texts_at_places axis column (rows_on old axis)))
+      → GoesOnFrom (firsts (texts_at_places axis column (rows_on old axis)))
       (firsts (texts_at_places axis column (rows_on new axis)))
   pub codes : (axis : Axis) (column : ℕ) → column < length (lowers_of axis)
-      → GoesOn (codes_of (texts_at_places axis column (rows_on old axis)))
+      → GoesOnFrom (codes_of (texts_at_places axis column (rows_on old axis)))
       (codes_of (texts_at_places axis column (rows_on new axis)))
-  pub keys : (axis : Axis) → GoesOn (map (λ row. row.key) (rows_on old axis)) (map (λ row. row.key) (rows_on new axis))
+  pub keys : (axis : Axis)
+      → GoesOnFrom (map (λ row. row.key) (rows_on old axis)) (map (λ row. row.key) (rows_on new axis))
   pub row_indexes : (axis : Axis) (key : ℕ) → row_index_of old axis key < row_count_of old axis
       → row_index_of new axis key ≡ row_index_of old axis key

@@ -11,8 +11,8 @@ use Rattle.dimensions.specs.declared.coded.CodedRows.{CodedRows}
 use Rattle.dimensions.specs.declared.dimension.Dimension.{Dimension}
 use Rattle.dimensions.specs.declared.table.Table.{Table}
 use Rattle.dimensions.specs.TextRows.{TextRow}
-use Rattle.dimensions.specs.Coded.{AreCodedRows, AreGoodRows, HaveTexts}
-use Rattle.dimensions.specs.Shown.{IsDimension, rows_on, table_rows}
+use Rattle.dimensions.specs.Coded.{AreCodedRows, AreGoodRows, ColumnsHaveTexts}
+use Rattle.dimensions.specs.Shown.{IsDimension, rows_on, rows_of_table}
 use Rattle.dimensions.specs.Tables.{IsTable}
 
 -- no rows that keep the rules are those of the codes
@@ -25,9 +25,9 @@ IsRefusal axis coded fault = (fault ≡ Memory) ⊎ ((fault ≡ BadLayout) × En
 
 -- a table is that of rows by codes, which keep the rules
 pub record IsTableOf (axis : Axis) (coded : CodedRows) (table : Table) : Type 0 where
-  pub is : IsTable axis (table_rows axis table) table
-  pub good : AreGoodRows axis (table_rows axis table)
-  pub codes_are : AreCodedRows axis (table_rows axis table) coded
+  pub is : IsTable axis (rows_of_table axis table) table
+  pub good : AreGoodRows axis (rows_of_table axis table)
+  pub codes_are : AreCodedRows axis (rows_of_table axis table) coded
 
 -- a table of rows by codes, or why they are refused
 abbrev pub MakesTable : Axis → CodedRows → Result Table Fault → Type 0
@@ -35,9 +35,9 @@ MakesTable axis coded result = MatchResult result (IsTableOf axis coded) (IsRefu
 
 -- a dimension is that of rows by codes, which keep the rules
 pub record IsDimensionOf (axis : Axis) (coded : CodedRows) (dimension : Dimension) : Type 0 where
-  pub is : IsDimension axis (table_rows axis dimension.table) dimension
-  pub good : AreGoodRows axis (table_rows axis dimension.table)
-  pub codes_are : AreCodedRows axis (table_rows axis dimension.table) coded
+  pub is : IsDimension axis (rows_of_table axis dimension.table) dimension
+  pub good : AreGoodRows axis (rows_of_table axis dimension.table)
+  pub codes_are : AreCodedRows axis (rows_of_table axis dimension.table) coded
 
 -- a dimension of rows by codes, or why they are refused
 abbrev pub MakesDimension : Axis → CodedRows → Result Dimension Fault → Type 0
@@ -52,10 +52,10 @@ pub record AreCodedDims (rows : DimRows) (coded : CodedDims) : Type 0 where
 
 -- the columns of the four dimensions have texts
 pub record HaveAllTexts (coded : CodedDims) : Type 0 where
-  pub customers : HaveTexts coded.customers.columns
-  pub suppliers : HaveTexts coded.suppliers.columns
-  pub parts : HaveTexts coded.parts.columns
-  pub dates : HaveTexts coded.dates.columns
+  pub customers : ColumnsHaveTexts coded.customers.columns
+  pub suppliers : ColumnsHaveTexts coded.suppliers.columns
+  pub parts : ColumnsHaveTexts coded.parts.columns
+  pub dates : ColumnsHaveTexts coded.dates.columns
 
 -- no valid rows with short texts are those of the codes
 abbrev pub EncodeNoRows : CodedDims → Type 0

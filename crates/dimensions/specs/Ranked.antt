@@ -4,8 +4,8 @@ use Rattle.cube_model.specs.Limits.{most_members}
 use Rattle.cube_model.specs.Validity.{members_of}
 
 -- codes are all below a number
-abbrev pub AreCodes : ℕ → List ℕ → Type 0
-AreCodes count codes = (k : ℕ) → k < length codes → slice_index_or codes k 0 < count
+abbrev pub AreCodesBelow : ℕ → List ℕ → Type 0
+AreCodesBelow count codes = (k : ℕ) → k < length codes → slice_index_or codes k 0 < count
 
 -- the texts at some ranks
 abbrev pub texts_of_ranks : List (List ℕ) → List ℕ → List (List ℕ)
@@ -14,7 +14,7 @@ texts_of_ranks members ranks = map (λ rank. slice_index_or members rank []) ran
 -- the members are those of the texts at the ranks, and not too many
 pub record AreRanks (members : List (List ℕ)) (ranks : List ℕ) : Type 0 where
   pub few : length members ≤ most_members
-  pub within : AreCodes (length members) ranks
+  pub within : AreCodesBelow (length members) ranks
   pub members_are : members ≡ members_of (texts_of_ranks members ranks)
 
 -- the rank of the text at a row of a column among the column's members

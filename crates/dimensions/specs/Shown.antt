@@ -81,8 +81,8 @@ table_row axis table row = record {
   texts = each_row (λ column. text_up table column row) (length (lowers_of axis));
 }
 
-abbrev pub table_rows : Axis → Table → List TextRow
-table_rows axis table = each_row (table_row axis table) (length table.keys)
+abbrev pub rows_of_table : Axis → Table → List TextRow
+rows_of_table axis table = each_row (table_row axis table) (length table.keys)
 
 abbrev pub shown_customer : Table → ℕ → CustomerRow
 shown_customer table row =

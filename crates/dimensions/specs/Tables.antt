@@ -13,7 +13,7 @@ use Rattle.dimensions.specs.declared.table.Table.{Table}
 use Rattle.dimensions.specs.Added.{added_cause}
 use Rattle.dimensions.specs.TextRows.{TextRow, text_in, column_of}
 use Rattle.dimensions.specs.Shapes.{lowers_of, lower_of, text_rules}
-use Rattle.dimensions.specs.Columns.{IsColumn, HasCode, LacksRoom, Enters}
+use Rattle.dimensions.specs.Columns.{IsColumn, HasCode, HasNoCodeLeft, Enters}
 
 -- the column with a number (an empty one after the last)
 abbrev pub no_column : Column
@@ -51,7 +51,8 @@ Numbers table row codes = (i : ℕ) → i < length table.columns.items
 
 -- some column has no room for a row's text
 abbrev pub HasNoRoom : Table → TextRow → Type 0
-HasNoRoom table row = (i : ℕ) × (i < length table.columns.items) × LacksRoom (column_at table i).texts (text_in i row)
+HasNoRoom table row = (i : ℕ) × (i < length table.columns.items)
+    × HasNoCodeLeft (column_at table i).texts (text_in i row)
 
 -- where a row's code is in a column: at the row, or at the row's code in the lower column
 abbrev pub place_for : Option ℕ → ℕ → List ℕ → ℕ

@@ -30,7 +30,7 @@ impl Drop for Column {
 }
 
 impl Column {
-    ghost use Rattle.dimensions.specs.Columns.{HasCode, LacksRoom, Enters};
+    ghost use Rattle.dimensions.specs.Columns.{HasCode, HasNoCodeLeft, Enters};
 
     /// The column with no text, above the rows or above a lower column.
     pub fn new(alloc: Global, lower: Option<usize>) -> Column
@@ -90,7 +90,7 @@ impl Column {
     /// The code that a text has, or that it would get. Nothing where it is new and there is no room for it.
     pub fn code_for(&self, text: &[u8]) -> Option<u16>
         requires { self.now.texts.limit ≡ most_members }
-        ensures { MatchOption result (LacksRoom self.now.texts text.now) (HasCode self.now.texts text.now) }
+        ensures { MatchOption result (HasNoCodeLeft self.now.texts text.now) (HasCode self.now.texts text.now) }
     {
         if let Some(code) = self.texts.code(text) {
             return Some(code as u16);

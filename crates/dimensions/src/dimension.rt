@@ -29,7 +29,7 @@ impl Drop for Dimension {
 
 impl Dimension {
     ghost use Rattle.dimensions.specs.Tables.{column_at};
-    ghost use Rattle.dimensions.specs.Coded.{HaveTexts};
+    ghost use Rattle.dimensions.specs.Coded.{ColumnsHaveTexts};
     ghost use Rattle.dimensions.specs.Made.{MakesDimension};
     ghost use Rattle.dimensions.specs.Shown.{IsDimension, IsSomeDimension, BuildsDimension, ExtendsDimension};
     ghost use Rattle.dimensions.specs.Shown.{HoldsDimension, HoldsSomeDimension};
@@ -47,7 +47,7 @@ impl Dimension {
     /// The dimension of rows by codes, or `BadLayout` where they are those of no rows that keep the rules. It can also
     /// fail when out of memory.
     pub fn of_coded(alloc: Global, axis: Axis, coded: CodedRows) -> Result<Dimension, Fault>
-        requires { HaveTexts coded.columns }
+        requires { ColumnsHaveTexts coded.columns }
         ensures { MakesDimension axis coded result }
     {
         let table = Table::of_coded(alloc, axis, coded)?;

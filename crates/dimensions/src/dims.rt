@@ -11,7 +11,7 @@ ghost use Rattle.dictionary.specs.Spelling.{AreShort};
 ghost use Rattle.dimensions.specs.Added.{addition_cause, joined};
 ghost use Rattle.dimensions.specs.KeptCodes.{KeepCodes};
 ghost use Rattle.dimensions.specs.Shapes.{lowers_of};
-ghost use Rattle.dimensions.specs.Coded.{HaveTexts, texts_at_places};
+ghost use Rattle.dimensions.specs.Coded.{ColumnsHaveTexts, texts_at_places};
 ghost use Rattle.dimensions.specs.Made.{AreCodedDims, HaveAllTexts, IsDimensionOf, IsRefusal, EncodeNoRows};
 ghost use Rattle.dimensions.specs.Shown.{IsDimension, rows_on};
 
@@ -270,8 +270,8 @@ fn two_of_coded(
     other_axis: Axis,
     other: CodedRows,
 ) -> Result<(Dimension, Dimension), Fault>
-    requires texts { HaveTexts coded.columns }
-    requires other_texts { HaveTexts other.columns }
+    requires texts { ColumnsHaveTexts coded.columns }
+    requires other_texts { ColumnsHaveTexts other.columns }
     ensures ok { IfOk result (λ made. IsDimensionOf axis coded made.0 × IsDimensionOf other_axis other made.1) }
     ensures refused { IfErr result (λ fault. IsRefusal axis coded fault ⊎ IsRefusal other_axis other fault) }
 {

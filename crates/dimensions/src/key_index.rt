@@ -4,7 +4,7 @@ ghost use Rattle.std.specs.Prelude.{OnOk, OnErr, IfErr};
 ghost use Rattle.std.specs.Bool.{OnTrue, OnFalse};
 ghost use Rattle.std.specs.List.{position_or_len};
 ghost use Rattle.cube_model.specs.Limits.{most_dimension_rows};
-ghost use Rattle.dimensions.specs.Coded.{AreDistinct};
+ghost use Rattle.dimensions.specs.Coded.{KeysAreDistinct};
 ghost use Rattle.dimensions.specs.KeyMaps.{row_index_in};
 
 use crate::counted::{counts_next, first_counted, place_counted};
@@ -55,8 +55,8 @@ impl KeyIndex {
     pub fn of(alloc: Global, keys: Vec<u32>) -> Result<Option<KeyIndex>, Fault>
         requires few { length keys.items ≤ most_dimension_rows }
         ensures ok { IfOk result
-            (λ found. MatchOption found (¬ AreDistinct keys.items)
-            (λ index. (index ≡ keys.items) × AreDistinct keys.items)) }
+            (λ found. MatchOption found (¬ KeysAreDistinct keys.items)
+            (λ index. (index ≡ keys.items) × KeysAreDistinct keys.items)) }
         ensures memory { IfErr result (λ fault. fault ≡ Fault.Memory) }
     {
         match first_counted(&keys) {
@@ -73,8 +73,8 @@ impl KeyIndex {
     fn mapped(alloc: Global, keys: Vec<u32>) -> Result<Option<KeyIndex>, Fault>
         requires few { length keys.items ≤ most_dimension_rows }
         ensures ok { IfOk result
-            (λ found. MatchOption found (¬ AreDistinct keys.items)
-            (λ index. (index ≡ keys.items) × AreDistinct keys.items)) }
+            (λ found. MatchOption found (¬ KeysAreDistinct keys.items)
+            (λ index. (index ≡ keys.items) × KeysAreDistinct keys.items)) }
         ensures memory { IfErr result (λ fault. fault ≡ Fault.Memory) }
     {
         let map = KeyMap::of(alloc, keys.as_slice())?;

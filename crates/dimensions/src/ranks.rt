@@ -8,7 +8,7 @@ ghost use Rattle.std.specs.Cmp.Lexicographic.{slice_cmp};
 ghost use Rattle.cube_model.specs.Limits.{most_members};
 ghost use Rattle.cube_model.specs.Ascending.{IsAscending};
 ghost use Rattle.cube_model.specs.Validity.{members_of};
-ghost use Rattle.dimensions.specs.Ranked.{AreCodes, texts_of_ranks};
+ghost use Rattle.dimensions.specs.Ranked.{AreCodesBelow, texts_of_ranks};
 
 use crate::members::copied_texts;
 use cube_model::{Fault, Items, Text};
@@ -114,7 +114,7 @@ fn ascend(texts: &[Text]) -> bool
 fn own_ranks(alloc: Global, texts: &[Text]) -> Result<Vec<u16>, AllocError>
     requires few { length texts.now ≤ most_members }
     ensures texts { IfOk result (λ ranks. texts_of_ranks texts.now ranks.items ≡ texts.now) }
-    ensures within { IfOk result (λ ranks. AreCodes (length texts.now) ranks.items) }
+    ensures within { IfOk result (λ ranks. AreCodesBelow (length texts.now) ranks.items) }
 {
     let mut ranks = Vec::with_capacity(alloc, texts.len())?;
     for rank in 0..texts.len() {
@@ -151,7 +151,7 @@ fn ranks_among(alloc: Global, members: &[Text], texts: &[Text]) -> Result<Vec<u1
     requires members { members.now ≡ members_of texts.now }
     requires few { length members.now ≤ most_members }
     ensures texts { IfOk result (λ ranks. texts_of_ranks members.now ranks.items ≡ texts.now) }
-    ensures within { IfOk result (λ ranks. AreCodes (length members.now) ranks.items) }
+    ensures within { IfOk result (λ ranks. AreCodesBelow (length members.now) ranks.items) }
 {
     let mut ranks = Vec::with_capacity(alloc, texts.len())?;
     for text in texts {

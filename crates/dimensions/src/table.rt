@@ -42,7 +42,7 @@ impl Table {
     ghost use Rattle.dimensions.specs.Tables.{column_at, IsTable, IsSomeTable, Numbers, HasNoRoom, EntersAt, AddsRow};
     ghost use Rattle.dimensions.specs.Tables.{AddsRows, BuildsTable, HoldsRows, HoldsSomeRows};
     ghost use Rattle.dimensions.specs.Made.{MakesTable};
-    ghost use Rattle.dimensions.specs.Coded.{HaveTexts};
+    ghost use Rattle.dimensions.specs.Coded.{ColumnsHaveTexts};
     ghost use Rattle.dimensions.specs.declared.column.Column.{Column};
 
     /// The table of some rows of a dimension, or the first cause to refuse them: first for too many rows, and then row
@@ -96,7 +96,7 @@ impl Table {
     /// The table of rows by codes, or `BadLayout` where they are those of no rows that keep the rules. It can also
     /// fail when out of memory.
     pub fn of_coded(alloc: Global, axis: Axis, coded: CodedRows) -> Result<Table, Fault>
-        requires { HaveTexts coded.columns }
+        requires { ColumnsHaveTexts coded.columns }
         ensures { MakesTable axis coded result }
     {
         if !coded.has_proper_columns(axis) {

@@ -1,7 +1,7 @@
 -- Neighbouring sectors that were read at once change nothing, and are what reads give.
 use Rattle.std.proofs.Common.{Result, Ok, Err, MatchResult, OnOk, is_ok, ◌≡◌, ℕ, zero, suc, ◌+◌, ◌/◌, ◌<◌, List, []}
 use Rattle.std.proofs.Common.{◌∷◌, length, take, get_or, refl, add-one, sym, ◌∙◌, ap, subst, inl, true≢false, arith}
-use Rattle.sector_device.specs.Device.{Image, Stays, HasRun}
+use Rattle.sector_device.specs.Device.{Image, CandidatesStay, HasRun}
 use Rattle.sector_device.specs.Moments.{stays_then}
 use Rattle.sector_device.proofs.CallerLemmas.{length-chunks, chunk_at}
 use Rattle.file_device.specs.History.{reads_after, IsHonest, file_state}
@@ -72,7 +72,7 @@ module _ (start : Image) where
 
 module _ (size : ℕ) (start : Image) (at_first : ℕ → List ℕ → Type 0) where
   stays_read : (events : List Event) (i : ℕ) (bytes : List ℕ)
-      → Stays (file_state size start at_first events) (file_state size start at_first (Read i bytes ∷ events))
+      → CandidatesStay (file_state size start at_first events) (file_state size start at_first (Read i bytes ∷ events))
   stays_read events i bytes =
       record {
         reads = λ i. refl;
@@ -82,7 +82,7 @@ module _ (size : ℕ) (start : Image) (at_first : ℕ → List ℕ → Type 0) w
       }
 
   stays_same : (events : List Event)
-      → Stays (file_state size start at_first events) (file_state size start at_first events)
+      → CandidatesStay (file_state size start at_first events) (file_state size start at_first events)
   stays_same events =
       record {
         reads = λ i. refl;
@@ -96,17 +96,20 @@ module _ (size : ℕ) (start : Image) (at_first : ℕ → List ℕ → Type 0) w
       }
 
   stays_reads : (first : ℕ) (sectors : List (List ℕ)) (events : List Event)
-      → Stays (file_state size start at_first events) (file_state size start at_first (with_reads first sectors events))
+      → CandidatesStay (file_state size start at_first events)
+      (file_state size start at_first (with_reads first sectors events))
   stays_reads first [] events = stays_same events
   stays_reads first (b ∷ others) events =
       stays_then _ _ _ (stays_read events first b) (stays_reads (suc first) others (Read first b ∷ events))
 
   pub stays_if_run_read : {T E : Type 0} (r : Result T E) (first : ℕ) (sectors : List (List ℕ)) (old new : List Event)
       → MatchResult r (λ _. new ≡ with_reads first sectors old) (λ _. new ≡ old)
-      → Stays (file_state size start at_first old) (file_state size start at_first new)
+      → CandidatesStay (file_state size start at_first old) (file_state size start at_first new)
   stays_if_run_read (Ok x) first sectors old new is =
-      subst (λ (l : List Event). Stays (file_state size start at_first old) (file_state size start at_first l)) (sym is)
+      subst (λ (l : List Event). CandidatesStay (file_state size start at_first old) (file_state size start at_first l))
+      (sym is)
       (stays_reads first sectors old)
   stays_if_run_read (Err e) first sectors old new is =
-      subst (λ (l : List Event). Stays (file_state size start at_first old) (file_state size start at_first l)) (sym is)
+      subst (λ (l : List Event). CandidatesStay (file_state size start at_first old) (file_state size start at_first l))
+      (sym is)
       (stays_same old)

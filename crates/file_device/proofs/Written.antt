@@ -3,11 +3,11 @@ use Rattle.std.proofs.lemmas.Bool.{ne_eqb, eq-eqb}
 use Rattle.std.proofs.Common.{Bool, true, false, if◌then◌else◌, ◌≡◌, ℕ, zero, suc, ◌+◌, ◌/◌, ◌<◌, List, [], ◌∷◌, length}
 use Rattle.std.proofs.Common.{take, get_or, refl, add-one, sym, ◌∙◌, ap, subst, inl, Result, Ok, Err, OnOk, is_ok}
 use Rattle.std.proofs.Common.{arith}
-use Rattle.sector_device.specs.Device.{Image, Writes, WritesWithin, HasRun, IsInRun}
+use Rattle.sector_device.specs.Device.{Image, WritesSector, WritesWithin, HasRun, IsInRun}
 use Rattle.sector_device.specs.Moments.{none_written, one_written, within_then}
 use Rattle.sector_device.proofs.CallerLemmas.{length-chunks, chunk_at}
 use Rattle.file_device.specs.History.{reads_after, IsHonest, file_state}
-use Rattle.file_device.specs.Laws.{only_now}
+use Rattle.file_device.specs.Laws.{file_only_now}
 use Rattle.file_device.specs.Runs.{sectors_in, with_writes}
 use Rattle.file_device.specs.declared.event.Event.{Event}
 use Rattle.file_device.specs.declared.event.Event.TheVariants.{Written}
@@ -51,7 +51,7 @@ module _ (start : Image) where
 
 module _ (size : ℕ) (start : Image) (at_first : ℕ → List ℕ → Type 0) where
   writes_one : (events : List Event) (i : ℕ) (bytes : List ℕ) (ok : Bool)
-      → Writes i bytes (file_state size start at_first events)
+      → WritesSector i bytes (file_state size start at_first events)
       (file_state size start at_first (Written i bytes ok ∷ events))
   writes_one events i bytes true = record {
     others = λ j ne. ap (λ (b : Bool). if b then bytes else reads_after start events j) (ne_eqb j i ne);
@@ -70,7 +70,7 @@ module _ (size : ℕ) (start : Image) (at_first : ℕ → List ℕ → Type 0) w
       → WritesWithin (IsInRun first (length sectors)) (file_state size start at_first events)
       (file_state size start at_first (with_writes first sectors ok events))
   within_run first [] ok events =
-      none_written (IsInRun first 0) (file_state size start at_first events) (only_now start at_first events)
+      none_written (IsInRun first 0) (file_state size start at_first events) (file_only_now start at_first events)
   within_run first (b ∷ others) ok events =
       let next = Written first b ok ∷ events in
       let all : ℕ → Type 0 = IsInRun first (suc (length others)) in
@@ -78,7 +78,7 @@ module _ (size : ℕ) (start : Image) (at_first : ℕ → List ℕ → Type 0) w
       let mid = file_state size start at_first next in
       let one : WritesWithin all now mid =
       one_written all now now mid first b (omega arith, omega arith)
-      (none_written all now (only_now start at_first events)) (writes_one events first b ok) in
+      (none_written all now (file_only_now start at_first events)) (writes_one events first b ok) in
       within_then all (IsInRun (suc first) (length others)) now mid
       (file_state size start at_first (with_writes (suc first) others ok next))
       (λ i in_it. (omega (arith, in_it.0), omega (arith, in_it.1))) one

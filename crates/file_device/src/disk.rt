@@ -1,7 +1,8 @@
 // A device over an open file.
 ghost use Rattle.std.specs.Prelude.{◌≡◌, ◌+◌, ◌/◌, ◌%◌, ◌<◌, ◌≤◌, ◌-◌, ◌^◌, length, true, false, min, is_ok, IsTrue};
 ghost use Rattle.std.specs.Prelude.{IsErr, OnOk, OnErr};
-ghost use Rattle.sector_device.specs.Device.{HasRun, IsInRun, IsSettled, Stays, Writes, WritesWithin, Syncs};
+ghost use Rattle.sector_device.specs.Device.{HasRun, IsInRun, IsSettled, CandidatesStay, WritesSector, WritesWithin};
+ghost use Rattle.sector_device.specs.Device.{Syncs};
 ghost use Rattle.sector_device.specs.Device.{CountsFailure};
 
 use crate::{RawFile, Start};
@@ -27,12 +28,12 @@ pub struct FileDisk<F: RawFile, S: Start> {
 }
 
 impl<F: RawFile, S: Start> FileDisk<F, S> {
-    ghost use Rattle.file_device.specs.FileDisk.{file_of, count_of, failures_of, has_broken, is_read_only};
+    ghost use Rattle.file_device.specs.FileDisk.{file_of, sector_count_of, failures_of, has_broken, is_read_only};
 
     /// A device over an open file of so many sectors.
     pub fn over(file: F, count: u32) -> FileDisk<F, S>
         ensures file { file_of result ≡ file }
-        ensures count { count_of result ≡ count }
+        ensures count { sector_count_of result ≡ count }
         ensures failures { failures_of result ≡ 0 }
         ensures whole { has_broken result ≡ false }
         ensures writable { is_read_only result ≡ false }
@@ -50,7 +51,7 @@ impl<F: RawFile, S: Start> FileDisk<F, S> {
     /// Such a device that is read alone: a write fails, and makes no call of the file.
     pub fn over_to_read(file: F, count: u32) -> FileDisk<F, S>
         ensures file { file_of result ≡ file }
-        ensures count { count_of result ≡ count }
+        ensures count { sector_count_of result ≡ count }
         ensures failures { failures_of result ≡ 0 }
         ensures whole { has_broken result ≡ false }
         ensures read_only { is_read_only result ≡ true }
@@ -88,9 +89,10 @@ fn refused(failures: &mut u64) -> DeviceError
 }
 
 impl<F: RawFile, S: Start> Sectors for FileDisk<F, S> {
-    ghost use Rattle.file_device.specs.FileDisk.{calls_of, failures_of, has_broken, is_read_only, state_of, KeepsWord};
-    ghost use Rattle.file_device.specs.FileDisk.{Breaks};
-    ghost use Rattle.file_device.specs.Laws.{read_may_stay, whole, counts_now, only_now};
+    ghost use Rattle.file_device.specs.FileDisk.{recorded_calls, failures_of, has_broken, is_read_only, state_of};
+    ghost use Rattle.file_device.specs.FileDisk.{KeepsWord};
+    ghost use Rattle.file_device.specs.FileDisk.{BreaksDisk};
+    ghost use Rattle.file_device.specs.Laws.{file_read_may_stay, file_whole, file_counts_now, file_only_now};
 
     ghost state = { λ f. state_of F.RawFile S.Start f };
 
@@ -100,16 +102,18 @@ impl<F: RawFile, S: Start> Sectors for FileDisk<F, S> {
 
     ghost failed = { λ f. f.failures };
 
-    ghost read_may_stay = { λ f i word. read_may_stay S.Start.reads S.Start.may_hold S.Start.stays
-        (calls_of F.RawFile S.Start f) i };
+    ghost read_may_stay = { λ f i word. file_read_may_stay S.Start.reads S.Start.may_hold S.Start.stays
+        (recorded_calls F.RawFile S.Start f) i };
 
-    ghost whole = { λ f i b word lt. whole S.Start.reads S.Start.may_hold S.Start.stays S.Start.whole
-        (calls_of F.RawFile S.Start f) i b word };
+    ghost whole = { λ f i b word lt. file_whole S.Start.reads S.Start.may_hold S.Start.stays S.Start.whole
+        (recorded_calls F.RawFile S.Start f) i b word };
 
-    ghost counts_now = { λ f t image word le. counts_now S.Start.reads S.Start.may_hold (calls_of F.RawFile S.Start f) t
+    ghost counts_now = { λ f t image word le. file_counts_now S.Start.reads S.Start.may_hold
+        (recorded_calls F.RawFile S.Start f) t
         image };
 
-    ghost only_now = { λ f image word. only_now S.Start.reads S.Start.may_hold (calls_of F.RawFile S.Start f) image };
+    ghost only_now = { λ f image word. file_only_now S.Start.reads S.Start.may_hold (recorded_calls F.RawFile S.Start f)
+        image };
 
     fn count(&self) -> u32 {
         self.count
@@ -127,7 +131,7 @@ impl<F: RawFile, S: Start> Sectors for FileDisk<F, S> {
         ensures bytes { OnOk result (KeepsWord F.RawFile S.Start self.new
             → to.new ≡ (state_of F.RawFile S.Start self.old).reads i) }
         ensures stays { KeepsWord F.RawFile S.Start self.new
-            → Stays (state_of F.RawFile S.Start self.old) (state_of F.RawFile S.Start self.new) }
+            → CandidatesStay (state_of F.RawFile S.Start self.old) (state_of F.RawFile S.Start self.new) }
 
         ensures refuses { IsTrue (has_broken self.old) → IsErr result }
         ensures broken { has_broken self.new ≡ has_broken self.old }
@@ -148,12 +152,12 @@ impl<F: RawFile, S: Start> Sectors for FileDisk<F, S> {
         ensures written { OnOk result (KeepsWord F.RawFile S.Start self.new
             → (state_of F.RawFile S.Start self.new).reads i ≡ from.now) }
         ensures writes { KeepsWord F.RawFile S.Start self.new
-            → Writes i from.now (state_of F.RawFile S.Start self.old) (state_of F.RawFile S.Start self.new) }
+            → WritesSector i from.now (state_of F.RawFile S.Start self.old) (state_of F.RawFile S.Start self.new) }
 
-        ensures breaks { Breaks result self.old self.new }
+        ensures breaks { BreaksDisk result self.old self.new }
         ensures read_only { is_read_only self.new ≡ is_read_only self.old }
         ensures no_call { IsTrue (is_read_only self.old)
-            → IsErr result × (calls_of F.RawFile S.Start self.new ≡ calls_of F.RawFile S.Start self.old) }
+            → IsErr result × (recorded_calls F.RawFile S.Start self.new ≡ recorded_calls F.RawFile S.Start self.old) }
     {
         if self.is_broken || self.is_read_only {
             self.is_broken = true;
@@ -174,7 +178,7 @@ impl<F: RawFile, S: Start> Sectors for FileDisk<F, S> {
         ensures bytes { OnOk result (KeepsWord F.RawFile S.Start self.new
             → HasRun (state_of F.RawFile S.Start self.old).reads first to.new) }
         ensures stays { KeepsWord F.RawFile S.Start self.new
-            → Stays (state_of F.RawFile S.Start self.old) (state_of F.RawFile S.Start self.new) }
+            → CandidatesStay (state_of F.RawFile S.Start self.old) (state_of F.RawFile S.Start self.new) }
 
         ensures refuses { IsTrue (has_broken self.old) → IsErr result }
         ensures broken { has_broken self.new ≡ has_broken self.old }
@@ -200,10 +204,10 @@ impl<F: RawFile, S: Start> Sectors for FileDisk<F, S> {
             → WritesWithin (IsInRun first (length from.now / 512)) (state_of F.RawFile S.Start self.old)
             (state_of F.RawFile S.Start self.new) }
 
-        ensures breaks { Breaks result self.old self.new }
+        ensures breaks { BreaksDisk result self.old self.new }
         ensures read_only { is_read_only self.new ≡ is_read_only self.old }
         ensures no_call { IsTrue (is_read_only self.old)
-            → IsErr result × (calls_of F.RawFile S.Start self.new ≡ calls_of F.RawFile S.Start self.old) }
+            → IsErr result × (recorded_calls F.RawFile S.Start self.new ≡ recorded_calls F.RawFile S.Start self.old) }
     {
         if self.is_read_only || self.is_broken {
             self.is_broken = true;
@@ -223,9 +227,9 @@ impl<F: RawFile, S: Start> Sectors for FileDisk<F, S> {
         ensures syncs { KeepsWord F.RawFile S.Start self.new
             → Syncs (state_of F.RawFile S.Start self.old) (state_of F.RawFile S.Start self.new) }
         ensures unchanged { OnErr result (KeepsWord F.RawFile S.Start self.new
-            → Stays (state_of F.RawFile S.Start self.old) (state_of F.RawFile S.Start self.new)) }
+            → CandidatesStay (state_of F.RawFile S.Start self.old) (state_of F.RawFile S.Start self.new)) }
 
-        ensures breaks { Breaks result self.old self.new }
+        ensures breaks { BreaksDisk result self.old self.new }
         ensures read_only { is_read_only self.new ≡ is_read_only self.old }
     {
         if self.is_broken {

@@ -22,7 +22,7 @@ pub struct Made<D> {
 }
 
 impl<F: FileExt + OpenFile + LockFile + Drop, S: Start> FileDisk<Host<F>, S> {
-    ghost use Rattle.file_device.specs.FileDisk.{file_of, count_of, failures_of, has_broken, is_read_only};
+    ghost use Rattle.file_device.specs.FileDisk.{file_of, sector_count_of, failures_of, has_broken, is_read_only};
 
     /// Makes an absent or empty file one of so many sectors of zeros, or takes a file of just that length that holds
     /// what it may. The file is locked against all other programs first, until the device is dropped.
@@ -36,7 +36,7 @@ impl<F: FileExt + OpenFile + LockFile + Drop, S: Start> FileDisk<Host<F>, S> {
         sectors: u32,
         existing: Existing,
     ) -> Result<Made<FileDisk<Host<F>, S>>, OpenError>
-        ensures count { IfOk result (λ made. (count_of made.disk ≡ sectors) × (64 ≤ sectors)) }
+        ensures count { IfOk result (λ made. (sector_count_of made.disk ≡ sectors) × (64 ≤ sectors)) }
         ensures made { IfOk result
             (λ made. IsClaimedBy existing sectors (Event.Locked LockKind.Exclusive ∷ [])
             (events_of (file_of made.disk))) }
@@ -71,9 +71,10 @@ impl<F: FileExt + OpenFile + LockFile + Drop, S: Start> FileDisk<Host<F>, S> {
     /// `Length` for another length; `Locked` where another program holds a lock; `NotRegular`; `System` where a call
     /// fails.
     pub fn open<R: Files<File = F>>(rt: &R, path: &str) -> Result<FileDisk<Host<F>, S>, OpenError>
-        ensures count { IfOk result (λ d. 64 ≤ count_of d) }
+        ensures count { IfOk result (λ d. 64 ≤ sector_count_of d) }
         ensures measured { IfOk result
-            (λ d. events_of (file_of d) ≡ Event.Measured (count_of d * 512) ∷ Event.Locked LockKind.Exclusive ∷ []) }
+            (λ d. events_of (file_of d) ≡ Event.Measured (sector_count_of d * 512) ∷ Event.Locked LockKind.Exclusive
+            ∷ []) }
         ensures fresh { IfOk result (λ d. (failures_of d ≡ 0) × (has_broken d ≡ false)) }
         ensures writable { IfOk result (λ d. is_read_only d ≡ false) }
         ensures err { IfErr result (λ e. (fault_of e ≡ Fault.Device) ⊎ (e ≡ OpenError.Length)) }
@@ -94,9 +95,10 @@ impl<F: FileExt + OpenFile + LockFile + Drop, S: Start> FileDisk<Host<F>, S> {
         rt: &R,
         path: &str,
     ) -> Result<FileDisk<Host<F>, S>, OpenError>
-        ensures count { IfOk result (λ d. 64 ≤ count_of d) }
+        ensures count { IfOk result (λ d. 64 ≤ sector_count_of d) }
         ensures measured { IfOk result
-            (λ d. events_of (file_of d) ≡ Event.Measured (count_of d * 512) ∷ Event.Locked LockKind.Shared ∷ []) }
+            (λ d. events_of (file_of d) ≡ Event.Measured (sector_count_of d * 512) ∷ Event.Locked LockKind.Shared
+            ∷ []) }
         ensures fresh { IfOk result (λ d. (failures_of d ≡ 0) × (has_broken d ≡ false)) }
         ensures read_only { IfOk result (λ d. is_read_only d ≡ true) }
         ensures err { IfErr result (λ e. (fault_of e ≡ Fault.Device) ⊎ (e ≡ OpenError.Length)) }

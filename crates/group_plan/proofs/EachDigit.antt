@@ -14,8 +14,8 @@ use Rattle.cube_model.specs.declared.attr.Attr.{Attr}
 use Rattle.cube_model.specs.declared.rows.DimRows.{DimRows}
 use Rattle.cube_model.specs.Places.{attr_members}
 use Rattle.group_plan.specs.declared.column.Column.{Column}
-use Rattle.group_plan.specs.Numbers.{digit_count, group_count, member_at, key_at}
-use Rattle.group_plan.specs.Columns.{is_all, digit_of, with_highest, attr_at, weight_at, AreColumns, IsColumn}
+use Rattle.group_plan.specs.Numbers.{digit_count, group_count, digit_member, group_key_at}
+use Rattle.group_plan.specs.Columns.{is_all, digit_of, with_highest, attr_at, weight_at, AreColumns, IsColumnAt}
 use Rattle.group_plan.proofs.Numbers.{positive, member_at-all, member_at-rank}
 
 -- ---- a whole that is taken some times, with something after it
@@ -93,13 +93,14 @@ module _ (dimensions : DimRows) where
 
   -- what the digit of a column means is what the key has there
   key_digit : (columns : List Attr) (i number : ℕ) → i < length columns → number < group_count dimensions columns
-      → get_or (key_at dimensions columns number) i All ≡ member_at dimensions (attr_at columns i)
+      → get_or (group_key_at dimensions columns number) i All ≡ digit_member dimensions (attr_at columns i)
       (digit_of (digit_count dimensions (attr_at columns i)) (group_count dimensions (drop (suc i) columns)) number)
   key_digit [] i number h below = absurd (omega (arith, h))
   key_digit (column ∷ columns) zero number h below =
       let digits = digit_count dimensions column in
       let count = group_count dimensions columns in
-      ap (member_at dimensions column) (sym (mod-eq_of_lt (div_below number count digits (some_groups columns) below)))
+      ap (digit_member dimensions column)
+      (sym (mod-eq_of_lt (div_below number count digits (some_groups columns) below)))
   key_digit (column ∷ columns) (suc i) number h below =
       let count = group_count dimensions columns in
       let d = digit_count dimensions (attr_at columns i) in
@@ -109,16 +110,16 @@ module _ (dimensions : DimRows) where
       let m = whole_is columns i (omega (arith, h)) in
       let split : number ≡ q * (m.0 * (d * w)) + r = sym (div-add-mod' number count) ∙ ap (λ n. q * n + r) m.1 in
       key_digit columns i r (omega (arith, h)) (mod_below number count (some_groups columns))
-      ∙ ap (member_at dimensions (attr_at columns i))
+      ∙ ap (digit_member dimensions (attr_at columns i))
       (sym (ap (digit_of d w) split ∙ digit_more q m.0 d w r (some_groups (drop (suc i) columns))))
 
   -- the number with the digit of ALL has the key with ALL
   key_all : (columns : List Attr) (i number : ℕ) → i < length columns → number < group_count dimensions columns
       → (with_highest (digit_count dimensions (attr_at columns i)) (group_count dimensions (drop (suc i) columns))
       number < group_count dimensions columns)
-      × (key_at dimensions columns
+      × (group_key_at dimensions columns
       (with_highest (digit_count dimensions (attr_at columns i)) (group_count dimensions (drop (suc i) columns))
-      number) ≡ slice_set (key_at dimensions columns number) i All)
+      number) ≡ slice_set (group_key_at dimensions columns number) i All)
   key_all [] i number h below = absurd (omega (arith, h))
   key_all (column ∷ columns) zero number h below =
       let members = length (attr_members dimensions column) in
@@ -131,10 +132,11 @@ module _ (dimensions : DimRows) where
       let top : digits - 1 ≡ members = omega arith in (
         subst (λ n. n < digits * count) (sym is)
             (omega (arith, mul-add-lt (digits - 1) count r digits (omega arith) small, mul_comm digits count)),
-        ap (key_at dimensions (column ∷ columns)) is
-            ∙ (λ j. member_at dimensions column (div-mul-add (digits - 1) count r small j)
-            ∷ key_at dimensions columns (mod-mul-add (digits - 1) count r small j))
-            ∙ (λ j. member_at-all dimensions column (digits - 1) (omega (arith, top)) j ∷ key_at dimensions columns r),
+        ap (group_key_at dimensions (column ∷ columns)) is
+            ∙ (λ j. digit_member dimensions column (div-mul-add (digits - 1) count r small j)
+            ∷ group_key_at dimensions columns (mod-mul-add (digits - 1) count r small j))
+            ∙ (λ j. member_at-all dimensions column (digits - 1) (omega (arith, top)) j
+            ∷ group_key_at dimensions columns r),
       )
   key_all (column ∷ columns) (suc i) number h below =
       let digits = digit_count dimensions column in
@@ -154,10 +156,10 @@ module _ (dimensions : DimRows) where
       let high : q < digits = div_below number count digits (some_groups columns) below in (
         subst (λ n. n < digits * count) (sym is)
             (omega (arith, mul-add-lt q count image digits high rest.0, mul_comm digits count)),
-        ap (key_at dimensions (column ∷ columns)) is
-            ∙ (λ j. member_at dimensions column (div-mul-add q count image rest.0 j)
-            ∷ key_at dimensions columns (mod-mul-add q count image rest.0 j))
-            ∙ ap (λ others. member_at dimensions column q ∷ others) rest.1,
+        ap (group_key_at dimensions (column ∷ columns)) is
+            ∙ (λ j. digit_member dimensions column (div-mul-add q count image rest.0 j)
+            ∷ group_key_at dimensions columns (mod-mul-add q count image rest.0 j))
+            ∙ ap (λ others. digit_member dimensions column q ∷ others) rest.1,
       )
     where
       positive_of : (a b : ℕ) → 0 < a * b → 0 < b
@@ -165,29 +167,29 @@ module _ (dimensions : DimRows) where
 
   -- the same in the words of columns
   pub digit_at : (columns : List Attr) (i number : ℕ) → i < length columns → number < group_count dimensions columns
-      → get_or (key_at dimensions columns number) i All ≡ member_at dimensions (attr_at columns i)
+      → get_or (group_key_at dimensions columns number) i All ≡ digit_member dimensions (attr_at columns i)
       (digit_of (digit_count dimensions (attr_at columns i)) (weight_at dimensions columns i) number)
   digit_at columns i number h below =
-      subst (λ k. get_or (key_at dimensions columns number) i All ≡ member_at dimensions (attr_at columns i)
+      subst (λ k. get_or (group_key_at dimensions columns number) i All ≡ digit_member dimensions (attr_at columns i)
       (digit_of (digit_count dimensions (attr_at columns i)) (group_count dimensions (drop k columns)) number))
       (sym (add-one i)) (key_digit columns i number h below)
 
   pub all_at : (columns : List Attr) (i number : ℕ) → i < length columns → number < group_count dimensions columns
       → (with_highest (digit_count dimensions (attr_at columns i)) (weight_at dimensions columns i) number < group_count
       dimensions columns)
-      × (key_at dimensions columns
+      × (group_key_at dimensions columns
       (with_highest (digit_count dimensions (attr_at columns i)) (weight_at dimensions columns i) number)
-      ≡ slice_set (key_at dimensions columns number) i All)
+      ≡ slice_set (group_key_at dimensions columns number) i All)
   all_at columns i number h below =
       subst (λ k.
       (with_highest (digit_count dimensions (attr_at columns i)) (group_count dimensions (drop k columns)) number <
       group_count dimensions columns)
-      × (key_at dimensions columns
+      × (group_key_at dimensions columns
       (with_highest (digit_count dimensions (attr_at columns i)) (group_count dimensions (drop k columns)) number)
-      ≡ slice_set (key_at dimensions columns number) i All))
+      ≡ slice_set (group_key_at dimensions columns number) i All))
       (sym (add-one i)) (key_all columns i number h below)
 
-  pub key_length : (columns : List Attr) (number : ℕ) → length (key_at dimensions columns number) ≡ length columns
+  pub key_length : (columns : List Attr) (number : ℕ) → length (group_key_at dimensions columns number) ≡ length columns
   key_length [] number = refl
   key_length (column ∷ columns) number = ap suc (key_length columns (number % group_count dimensions columns))
 
@@ -208,7 +210,7 @@ module _ (dimensions : DimRows) where
 
   -- ---- in the words of a column that is kept
   module _ (columns : List Attr) (i : ℕ) (column : Column) (within : i < length columns)
-      (is : IsColumn dimensions columns i column) where
+      (is : IsColumnAt dimensions columns i column) where
     pub column_digits : 0 < column.digits
     column_digits = omega (arith, is.digits)
 
@@ -219,12 +221,13 @@ module _ (dimensions : DimRows) where
     column_whole = rw (is.digits, is.weight) (weight_within columns i within)
 
     module _ (number : ℕ) (below : number < group_count dimensions columns) where
-      pub column_digit : get_or (key_at dimensions columns number) i All ≡ member_at dimensions (attr_at columns i)
+      pub column_digit : get_or (group_key_at dimensions columns number) i All
+          ≡ digit_member dimensions (attr_at columns i)
           (digit_of column.digits column.weight number)
       column_digit = rw (is.digits, is.weight) (digit_at columns i number within below)
 
       pub column_is_all : nat_eq (digit_of column.digits column.weight number) (column.digits - 1)
-          ≡ is_all (get_or (key_at dimensions columns number) i All)
+          ≡ is_all (get_or (group_key_at dimensions columns number) i All)
       column_is_all =
           let attr = attr_at columns i in
           let members = length (attr_members dimensions attr) in
@@ -244,24 +247,24 @@ module _ (dimensions : DimRows) where
       pub column_all_below : with_highest column.digits column.weight number < group_count dimensions columns
       column_all_below = rw (is.digits, is.weight) (all_at columns i number within below).0
 
-      pub column_all : key_at dimensions columns (with_highest column.digits column.weight number)
-          ≡ slice_set (key_at dimensions columns number) i All
+      pub column_all : group_key_at dimensions columns (with_highest column.digits column.weight number)
+          ≡ slice_set (group_key_at dimensions columns number) i All
       column_all = rw (is.digits, is.weight) (all_at columns i number within below).1
 
 -- one column more
 pub AreColumns-next : (dimensions : DimRows) (attrs : List Attr) (i : ℕ) (columns : List Column) (column : Column)
-    → AreColumns dimensions attrs i columns → IsColumn dimensions attrs i column
+    → AreColumns dimensions attrs i columns → IsColumnAt dimensions attrs i column
     → AreColumns dimensions attrs (i + 1) (columns ++ column ∷ [])
 AreColumns-next dimensions attrs i columns column before is = record {
   counted = omega (arith, length-append columns (column ∷ []), before.counted);
   each = λ k below default. elim (cases_lt k i) [
     | inl low ↦
-        subst (IsColumn dimensions attrs k)
+        subst (IsColumnAt dimensions attrs k)
         (sym (get_or_append_left columns (column ∷ []) default k (omega (arith, low, before.counted))))
         (before.each k low default)
     | inr high ↦
         let here : k ≡ i = omega (arith, below, high) in
-        subst (IsColumn dimensions attrs k) (sym (get_or_push columns column default k (before.counted ∙ sym here)))
-        (subst (λ n. IsColumn dimensions attrs n column) (sym here) is)
+        subst (IsColumnAt dimensions attrs k) (sym (get_or_push columns column default k (before.counted ∙ sym here)))
+        (subst (λ n. IsColumnAt dimensions attrs n column) (sym here) is)
   ];
 }

@@ -13,7 +13,7 @@ use Rattle.cube_model.specs.declared.rows.DimRows.{DimRows}
 use Rattle.cube_model.specs.Attributes.{axis_of}
 use Rattle.cube_model.specs.Places.{row_count_of, text_at}
 use Rattle.group_plan.specs.Beginnings.{Extend, HasAfter}
-use Rattle.group_plan.specs.Plans.{IsPlanOf, IsPlanOver}
+use Rattle.group_plan.specs.Plans.{IsGroupPlanOf, IsGroupPlanOver}
 use Rattle.group_plan.specs.declared.plan.GroupPlan.{GroupPlan}
 
 -- ---- the same rows
@@ -30,11 +30,13 @@ extend_same dimensions = record {
 }
 
 -- the dimensions of a plan's beginning are those that it is over
-pub plan_of_over : (dimensions : DimRows) (plan : GroupPlan) → IsPlanOver dimensions plan → IsPlanOf dimensions plan
-plan_of_over dimensions plan over = subst (λ rows. IsPlanOf rows plan) (sym over.those) over.made
+pub plan_of_over : (dimensions : DimRows) (plan : GroupPlan) → IsGroupPlanOver dimensions plan
+    → IsGroupPlanOf dimensions plan
+plan_of_over dimensions plan over = subst (λ rows. IsGroupPlanOf rows plan) (sym over.those) over.made
 
 -- a plan is over the dimensions that it was made of
-pub plan_over : (dimensions : DimRows) (plan : GroupPlan) → IsPlanOf dimensions plan → IsPlanOver dimensions plan
+pub plan_over : (dimensions : DimRows) (plan : GroupPlan) → IsGroupPlanOf dimensions plan
+    → IsGroupPlanOver dimensions plan
 plan_over dimensions plan made = record { beginning = dimensions; made = made; those = refl }
 
 -- ---- rows after them

@@ -5,7 +5,7 @@ use Rattle.std.specs.List.{position_or_len}
 use Rattle.cube_model.specs.declared.attr.Axis.{Axis}
 use Rattle.cube_model.specs.declared.rows.DimRows.{DimRows}
 use Rattle.cube_model.specs.Places.{row_count_of, row_index_of}
-use Rattle.dimensions.specs.Coded.{AreDistinct, AreGoodRows}
+use Rattle.dimensions.specs.Coded.{KeysAreDistinct, AreGoodRows}
 use Rattle.dimensions.specs.Shown.{rows_on}
 use Rattle.dimensions.specs.TextRows.{TextRow}
 use Rattle.dimensions.proofs.AttributeLaws.{count_on, index_on}
@@ -28,8 +28,8 @@ module _ (dimensions : DimRows) (axis : Axis) (all : List ℕ)
   pub own_row : AreGoodRows axis (rows_on dimensions axis) → (place : ℕ) → place < length all
       → row_index_of dimensions axis (get_or all place 0) ≡ place
   own_row good place within =
-      let distinct : AreDistinct all =
-      subst AreDistinct (sym is)
+      let distinct : KeysAreDistinct all =
+      subst KeysAreDistinct (sym is)
       (pairs_map (λ key other. key ≢ other) (λ (row : TextRow). row.key) (rows_on dimensions axis)
       good.keep.keys_differ) in
       sym (index_is (get_or all place 0)) ∙ distinct_place all place distinct within

@@ -23,7 +23,7 @@ use Rattle.cube_model.specs.Attributes.{axis_of}
 use Rattle.cube_model.specs.Keys.{key_cmp, key_under, member_cmp}
 use Rattle.cube_model.specs.Order.{member_cmp_total}
 use Rattle.cube_model.specs.Places.{attr_members, row_count_of, texts_of, text_at}
-use Rattle.group_plan.specs.Numbers.{digit_count, group_count, member_at, key_at, KeysRise, IsKnownOn}
+use Rattle.group_plan.specs.Numbers.{digit_count, group_count, digit_member, group_key_at, KeysRise, IsKnownOn}
 use Rattle.group_plan.specs.Parts.{IsKnownFor, is_on, is_same, is_used, rank_at, part_at}
 use Rattle.std.specs.Fmt.{decimal}
 use Rattle.std.proofs.lemmas.List.{length-map}
@@ -55,20 +55,20 @@ rest-less first ls rs less =
 -- a digit below that of ALL is the rank of a member
 pub member_at-rank : (dimensions : DimRows) (column : Attr) (digit : ℕ)
     → digit < length (attr_members dimensions column)
-    → member_at dimensions column digit ≡ Text (get_or (attr_members dimensions column) digit [])
+    → digit_member dimensions column digit ≡ Text (get_or (attr_members dimensions column) digit [])
 member_at-rank dimensions column digit h =
     let test : nat_lt digit (length (attr_members dimensions column)) ≡ true = grind (arith, nat_tests) in
     ap (λ b. cond b (Text (get_or (attr_members dimensions column) digit [])) All) test
 
 pub member_at-all : (dimensions : DimRows) (column : Attr) (digit : ℕ) → length (attr_members dimensions column) ≤ digit
-    → member_at dimensions column digit ≡ All
+    → digit_member dimensions column digit ≡ All
 member_at-all dimensions column digit h =
     let test : nat_lt digit (length (attr_members dimensions column)) ≡ false = grind (arith, nat_tests) in
     ap (λ b. cond b (Text (get_or (attr_members dimensions column) digit [])) All) test
 
 -- what the digits of a column mean rises
 pub member_rises : (dimensions : DimRows) (column : Attr) (c d : ℕ) → c < d → d < digit_count dimensions column
-    → member_cmp (member_at dimensions column c) (member_at dimensions column d) ≡ Less
+    → member_cmp (digit_member dimensions column c) (digit_member dimensions column d) ≡ Less
 member_rises dimensions column c d below in_range =
     let members = attr_members dimensions column in
     let low : c < length members = omega (arith, below, in_range) in
@@ -90,18 +90,18 @@ keys_rise dimensions (column ∷ columns) c d below in_range =
     let whole_d = div-add-mod' d count in
     let ordered : c / count ≤ d / count = le-div (c / count) d count some (omega (arith, whole_c, below)) in
     elim (cases_lt (c / count) (d / count)) [
-      | inl less ↦ first-less (member_at dimensions column (c / count)) (member_at dimensions column (d / count))
-          (key_at dimensions columns (c % count)) (key_at dimensions columns (d % count))
+      | inl less ↦ first-less (digit_member dimensions column (c / count)) (digit_member dimensions column (d / count))
+          (group_key_at dimensions columns (c % count)) (group_key_at dimensions columns (d % count))
           (member_rises dimensions column (c / count) (d / count) less (div_below d count digits some in_range))
       | inr most ↦
           let same : c / count ≡ d / count = omega (arith, ordered, most) in
           let high = ap (λ q. q * count) same in
           let lower : c % count < d % count = omega (arith, whole_c, whole_d, high, below) in
           let rest = keys_rise dimensions columns (c % count) (d % count) lower (mod_below d count some) in
-          ap (λ q. key_cmp (member_at dimensions column q ∷ key_at dimensions columns (c % count))
-          (member_at dimensions column (d / count) ∷ key_at dimensions columns (d % count))) same
-          ∙ rest-less (member_at dimensions column (d / count)) (key_at dimensions columns (c % count))
-          (key_at dimensions columns (d % count)) rest
+          ap (λ q. key_cmp (digit_member dimensions column q ∷ group_key_at dimensions columns (c % count))
+          (digit_member dimensions column (d / count) ∷ group_key_at dimensions columns (d % count))) same
+          ∙ rest-less (digit_member dimensions column (d / count)) (group_key_at dimensions columns (c % count))
+          (group_key_at dimensions columns (d % count)) rest
     ]
 
 -- ---- the rank of a text that is there
@@ -227,7 +227,8 @@ module _ (dimensions : DimRows) (row : LineOrder) where
       → ((axis : Axis) → list_any (λ column. is_same (axis_of column) axis) columns ≡ true
       → IsKnownOn dimensions row axis)
       → (number_on columns < group_count dimensions columns)
-      × (key_at dimensions columns (number_on columns) ≡ key_under dimensions row columns (map (λ _. true) columns))
+      × (group_key_at dimensions columns (number_on columns)
+      ≡ key_under dimensions row columns (map (λ _. true) columns))
   number_is [] known = (omega arith, refl)
   number_is (column ∷ columns) known =
       let count = group_count dimensions columns in
@@ -248,9 +249,9 @@ module _ (dimensions : DimRows) (row : LineOrder) where
         mul_comm digits count,
       ) in (
         within,
-        ap (key_at dimensions (column ∷ columns)) (next_digit column columns)
-            ∙ (λ i. member_at dimensions column (here i) ∷ key_at dimensions columns (others i))
-            ∙ (λ i. member_at-rank dimensions column rank small i ∷ key_at dimensions columns (number_on columns))
+        ap (group_key_at dimensions (column ∷ columns)) (next_digit column columns)
+            ∙ (λ i. digit_member dimensions column (here i) ∷ group_key_at dimensions columns (others i))
+            ∙ (λ i. member_at-rank dimensions column rank small i ∷ group_key_at dimensions columns (number_on columns))
             ∙ (λ i. Text
             ((rank_text dimensions column place (known (axis_of column) (own column columns))
             ∙ sym (attribute_at_place dimensions column row)) i) ∷ rest.1 i),

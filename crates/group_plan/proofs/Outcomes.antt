@@ -17,7 +17,7 @@ use Rattle.cube_model.specs.declared.query.Query.{Query}
 use Rattle.cube_model.specs.declared.rows.DimRows.{DimRows}
 use Rattle.cube_model.specs.declared.rows.LineOrder.{LineOrder}
 use Rattle.cube_model.specs.Attributes.{axis_of}
-use Rattle.group_plan.specs.Numbers.{group_count, key_at, IsKnown, IsNumber}
+use Rattle.group_plan.specs.Numbers.{group_count, group_key_at, IsKnown, IsGroupNumber}
 use Rattle.group_plan.specs.Parts.{is_same, is_on, is_used, holds_at, holds_in, rank_at, part_at, given_at}
 use Rattle.group_plan.specs.Plans.{AreBounds, bounds_with, is_within}
 use Rattle.group_plan.specs.declared.bounds.Bounds.{Bounds}
@@ -244,7 +244,7 @@ module _ (dimensions : DimRows) (query : Query) (row : LineOrder) where
       → (customer supplier part date : ℕ) → given_on Customer ≡ Some customer → given_on Supplier ≡ Some supplier
       → given_on Part ≡ Some part → given_on Date ≡ Some date
       → (total : ℕ) → (customer + (supplier + (part + date)) < 2 ^ 128 → total ≡ customer + (supplier + (part + date)))
-      → IsNumber dimensions query row (Some total)
+      → IsGroupNumber dimensions query row (Some total)
   number_by_parts known fits n customer supplier part date c s p d total total_is =
       let found = numbered customer supplier part date n c s p d in
       let is = number_is dimensions row query.columns
@@ -253,5 +253,5 @@ module _ (dimensions : DimRows) (query : Query) (row : LineOrder) where
       ∙ found.1 in (
         found.0,
         subst (λ m. m < group_count dimensions query.columns) (sym sum) is.0,
-        ap (key_at dimensions query.columns) sum ∙ is.1,
+        ap (group_key_at dimensions query.columns) sum ∙ is.1,
       )

@@ -32,7 +32,7 @@ is_all All = true
 is_all (Text text) = false
 
 -- the column at a place
-pub record IsColumn (dimensions : DimRows) (columns : List Attr) (i : ℕ) (column : Column) : Type 0 where
+pub record IsColumnAt (dimensions : DimRows) (columns : List Attr) (i : ℕ) (column : Column) : Type 0 where
   pub attr : column.attr ≡ attr_at columns i
   pub digits : column.digits ≡ digit_count dimensions (attr_at columns i)
   pub weight : column.weight ≡ weight_at dimensions columns i
@@ -41,4 +41,4 @@ pub record IsColumn (dimensions : DimRows) (columns : List Attr) (i : ℕ) (colu
 -- the first of the columns of a query, so many
 pub record AreColumns (dimensions : DimRows) (attrs : List Attr) (count : ℕ) (columns : List Column) : Type 0 where
   pub counted : length columns ≡ count
-  pub each : (i : ℕ) → i < count → (default : Column) → IsColumn dimensions attrs i (slice_index_or columns i default)
+  pub each : (i : ℕ) → i < count → (default : Column) → IsColumnAt dimensions attrs i (slice_index_or columns i default)

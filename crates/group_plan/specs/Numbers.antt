@@ -25,29 +25,30 @@ group_count dimensions [] = 1
 group_count dimensions (column ∷ columns) = digit_count dimensions column * group_count dimensions columns
 
 -- what a digit of a column means
-abbrev pub member_at : DimRows → Attr → ℕ → Member
-member_at dimensions column digit =
+abbrev pub digit_member : DimRows → Attr → ℕ → Member
+digit_member dimensions column digit =
     cond (nat_lt digit (length (attr_members dimensions column)))
     (Text (slice_index_or (attr_members dimensions column) digit [])) All
 
 -- the key of the group with a number
-abbrev pub key_at : DimRows → List Attr → ℕ → List Member
-key_at dimensions [] number = []
-key_at dimensions (column ∷ columns) number =
-    member_at dimensions column (number / group_count dimensions columns)
-    ∷ key_at dimensions columns (number % group_count dimensions columns)
+abbrev pub group_key_at : DimRows → List Attr → ℕ → List Member
+group_key_at dimensions [] number = []
+group_key_at dimensions (column ∷ columns) number =
+    digit_member dimensions column (number / group_count dimensions columns)
+    ∷ group_key_at dimensions columns (number % group_count dimensions columns)
 
 -- keys rise with their numbers
 abbrev pub KeysRise : DimRows → List Attr → Type 0
 KeysRise dimensions columns = (c d : ℕ) → c < d → d < group_count dimensions columns
-    → key_cmp (key_at dimensions columns c) (key_at dimensions columns d) ≡ Less
+    → key_cmp (group_key_at dimensions columns c) (group_key_at dimensions columns d) ≡ Less
 
 -- the number of a fact row's group: none where the row is not selected
-abbrev pub IsNumber : DimRows → Query → LineOrder → Option ℕ → Type 0
-IsNumber dimensions query row None = is_selected dimensions query.conditions row ≡ false
-IsNumber dimensions query row (Some number) = (is_selected dimensions query.conditions row ≡ true)
+abbrev pub IsGroupNumber : DimRows → Query → LineOrder → Option ℕ → Type 0
+IsGroupNumber dimensions query row None = is_selected dimensions query.conditions row ≡ false
+IsGroupNumber dimensions query row (Some number) = (is_selected dimensions query.conditions row ≡ true)
     × (number < group_count dimensions query.columns)
-    × (key_at dimensions query.columns number ≡ key_under dimensions row query.columns (map (λ _. true) query.columns))
+    × (group_key_at dimensions query.columns number ≡ key_under dimensions row query.columns
+    (map (λ _. true) query.columns))
 
 -- the key of a fact row in a dimension is that of a row there
 abbrev pub IsKnownOn : DimRows → LineOrder → Axis → Type 0

@@ -94,6 +94,6 @@ abbrev pub IsKnownFor : DimRows → Query → LineOrder → Type 0
 IsKnownFor dimensions query row = (axis : Axis) → is_used query axis ≡ true → IsKnownOn dimensions row axis
 
 -- room for the numbers of groups by some columns, at 65,536 for each
-abbrev pub room_of : List Attr → ℕ
-room_of [] = 1
-room_of (column ∷ columns) = 65536 * room_of columns
+abbrev pub number_room_of : List Attr → ℕ
+number_room_of [] = 1
+number_room_of (column ∷ columns) = 65536 * number_room_of columns

@@ -91,7 +91,7 @@ abbrev pub count_of : GroupPlan → ℕ
 count_of plan = plan.count
 
 -- A plan made over dimensions: its tables say what its query does at each of their rows, and keys rise with numbers.
-pub record IsPlanOf (dimensions : DimRows) (plan : GroupPlan) : Type 0 where
+pub record IsGroupPlanOf (dimensions : DimRows) (plan : GroupPlan) : Type 0 where
   pub few : length plan.query.columns ≤ 6
   pub within : AreBounds plan.query.conditions plan.bounds
   pub sides : AreSides dimensions plan.query plan.sides
@@ -102,7 +102,7 @@ pub record IsPlanOf (dimensions : DimRows) (plan : GroupPlan) : Type 0 where
   pub fits : plan.count < 2 ^ 128
 
 -- A plan with the dimensions of its beginning. Who hands dimensions to a plan hands it these.
-pub record IsPlanOver (dimensions : DimRows) (plan : GroupPlan) : Type 0 where
+pub record IsGroupPlanOver (dimensions : DimRows) (plan : GroupPlan) : Type 0 where
   pub beginning : DimRows
-  pub made : IsPlanOf beginning plan
+  pub made : IsGroupPlanOf beginning plan
   pub those : AreThoseOf beginning dimensions

@@ -3,9 +3,9 @@ ghost use Rattle.std.specs.Prelude.{◌≡◌, ◌<◌, ◌≤◌, ◌*◌, ◌+
 ghost use Rattle.cube_model.specs.declared.answer.Member.TheVariants.{All, Text};
 ghost use Rattle.cube_model.specs.declared.rows.DimRows.{DimRows};
 ghost use Rattle.group_plan.specs.Beginnings.{Extend};
-ghost use Rattle.group_plan.specs.Columns.{digit_of, with_highest, AreColumns, IsColumn};
+ghost use Rattle.group_plan.specs.Columns.{digit_of, with_highest, AreColumns, IsColumnAt};
 ghost use Rattle.group_plan.specs.MemberRows.{HaveMembers};
-ghost use Rattle.group_plan.specs.Numbers.{member_at};
+ghost use Rattle.group_plan.specs.Numbers.{digit_member};
 
 use crate::digits::group_count;
 use crate::member_rows::member_places;
@@ -29,7 +29,7 @@ impl Column {
     fn at(alloc: Global, dims: &Dims, columns: &[Attr], i: usize) -> Result<Column, AllocError>
         requires place { i < length columns.now }
         requires few { length columns.now ≤ 6 }
-        ensures { IfOk result (IsColumn dims.now columns.now i) }
+        ensures { IfOk result (IsColumnAt dims.now columns.now i) }
     {
         let attr = columns[i];
         Ok(Column {
@@ -91,7 +91,7 @@ impl Column {
             × (HaveMembers beginning self.now.attr self.now.places.items × Extend beginning dims.now) }
         ensures { IfOk result (λ member. (beginning : DimRows)
             → HaveMembers beginning self.now.attr self.now.places.items
-            → Extend beginning dims.now → member ≡ member_at beginning self.now.attr digit) }
+            → Extend beginning dims.now → member ≡ digit_member beginning self.now.attr digit) }
     {
         match self.text(dims, digit) {
             Some(text) => Ok(Member::Text(Items::from_vec(Vec::from_slice(alloc, text)?))),
@@ -105,9 +105,9 @@ impl Column {
             × (HaveMembers beginning self.now.attr self.now.places.items × Extend beginning dims.now) }
         ensures text { IfSome result (λ text. (beginning : DimRows)
             → HaveMembers beginning self.now.attr self.now.places.items
-            → Extend beginning dims.now → member_at beginning self.now.attr digit ≡ Text text.now) }
+            → Extend beginning dims.now → digit_member beginning self.now.attr digit ≡ Text text.now) }
         ensures all { IfNone result ((beginning : DimRows) → HaveMembers beginning self.now.attr self.now.places.items
-            → Extend beginning dims.now → member_at beginning self.now.attr digit ≡ All) }
+            → Extend beginning dims.now → digit_member beginning self.now.attr digit ≡ All) }
     {
         if digit >= self.places.len() as u128 {
             return None;

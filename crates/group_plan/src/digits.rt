@@ -3,7 +3,7 @@ ghost use Rattle.std.specs.Prelude.{◌≡◌, ◌≤◌, ◌<◌, ◌^◌, leng
 ghost use Rattle.cube_model.specs.Attributes.{axis_of};
 ghost use Rattle.cube_model.specs.Places.{row_count_of};
 ghost use Rattle.group_plan.specs.Numbers.{group_count};
-ghost use Rattle.group_plan.specs.Parts.{digits_on, part_by, room_of};
+ghost use Rattle.group_plan.specs.Parts.{digits_on, part_by, number_room_of};
 
 use crate::places::is_same;
 use cube_model::{Attr, Axis};
@@ -14,7 +14,7 @@ use std::alloc::{AllocError, Global};
 pub fn group_count(dims: &Dims, columns: &[Attr]) -> u128
     requires { length columns.now ≤ 6 }
     ensures count { result ≡ group_count dims.now columns.now }
-    ensures bound { result ≤ room_of columns.now }
+    ensures bound { result ≤ number_room_of columns.now }
 {
     match columns {
         [] => 1,

@@ -8,9 +8,10 @@ ghost use Rattle.cube_model.specs.declared.rows.LineOrder.{LineOrder};
 ghost use Rattle.cube_model.specs.Places.{row_count_of, row_index_of};
 ghost use Rattle.group_plan.specs.Columns.{attr_at, is_all};
 ghost use Rattle.group_plan.specs.Kept.{ArePlaces, KeepPlaces};
-ghost use Rattle.group_plan.specs.Numbers.{IsKnown, IsKnownOn, IsNumber, digit_count, group_count, key_at, member_at};
+ghost use Rattle.group_plan.specs.Numbers.{IsKnown, IsKnownOn, IsGroupNumber, digit_count, group_count, group_key_at};
+ghost use Rattle.group_plan.specs.Numbers.{digit_member};
 ghost use Rattle.group_plan.specs.Parts.{IsKnownFor, given_at, given_on, holds_in, is_used};
-ghost use Rattle.group_plan.specs.Plans.{AreBounds, IsPlanOf, query_of};
+ghost use Rattle.group_plan.specs.Plans.{AreBounds, IsGroupPlanOf, query_of};
 ghost use Rattle.group_plan.specs.Rows.{row_at};
 
 use crate::bounds::Bounds;
@@ -34,19 +35,19 @@ pub struct GroupPlanOver<'a> {
 
 impl<'a> Model for GroupPlanOver<'a> {
     ghost use Rattle.group_plan.specs.Numbers.{Asked};
-    ghost use Rattle.group_plan.specs.Plans.{IsPlanOf, query_of};
+    ghost use Rattle.group_plan.specs.Plans.{IsGroupPlanOf, query_of};
 
     ghost Value = { Asked };
 
     ghost view = { λ over. record { dimensions = over.dims.now; query = query_of over.plan.now } };
 
-    ghost invariant = { λ over. IsPlanOf over.dims.now over.plan.now };
+    ghost invariant = { λ over. IsGroupPlanOf over.dims.now over.plan.now };
 }
 
 impl<'a> GroupPlanOver<'a> {
     // A plan with its dimensions.
     pub(crate) fn of(dims: &'a Dims, plan: &'a GroupPlan) -> GroupPlanOver<'a>
-        requires { IsPlanOf dims.now plan.now }
+        requires { IsGroupPlanOf dims.now plan.now }
         ensures { result ≡ record { dimensions = dims.now; query = query_of plan.now } }
     {
         GroupPlanOver { dims, plan }
@@ -57,7 +58,7 @@ impl<'a> GroupPlanOver<'a> {
     /// number of the row tells that it is not selected it may not look at any.
     pub fn number<F: FactRows>(&self, rows: &F, place: usize) -> Result<Option<u128>, UnknownKey>
         requires { place < length (F.rows rows.now) }
-        ensures ok { IfOk result (IsNumber self.now.dimensions self.now.query (row_at (F.rows rows.now) place)) }
+        ensures ok { IfOk result (IsGroupNumber self.now.dimensions self.now.query (row_at (F.rows rows.now) place)) }
         ensures unknown { OnErr result (IsKnownFor self.now.dimensions self.now.query (row_at (F.rows rows.now) place)
             → ⊥) }
     {
@@ -74,7 +75,7 @@ impl<'a> GroupPlanOver<'a> {
         requires place { place < length (F.rows rows.now) }
         requires within { list_all (holds_in (row_at (F.rows rows.now) place)) self.now.query.conditions ≡ true }
         requires fits { group_count self.now.dimensions self.now.query.columns < 2 ^ 128 }
-        ensures ok { IfOk result (IsNumber self.now.dimensions self.now.query (row_at (F.rows rows.now) place)) }
+        ensures ok { IfOk result (IsGroupNumber self.now.dimensions self.now.query (row_at (F.rows rows.now) place)) }
         ensures unknown { OnErr result (IsKnownFor self.now.dimensions self.now.query (row_at (F.rows rows.now) place)
             → ⊥) }
     {
@@ -128,7 +129,7 @@ impl<'a> GroupPlanOver<'a> {
             → given_on self.now.dimensions self.now.query row Supplier ≡ supplier
             → given_on self.now.dimensions self.now.query row Part ≡ part
             → given_on self.now.dimensions self.now.query row Date ≡ date
-            → IsNumber self.now.dimensions self.now.query row result }
+            → IsGroupNumber self.now.dimensions self.now.query row result }
     {
         let _ = &self.plan;
         let Some(customer) = customer else {
@@ -200,10 +201,10 @@ impl<'a> GroupPlanOver<'a> {
         requires column { column < length self.now.query.columns }
         requires below { number < group_count self.now.dimensions self.now.query.columns }
         ensures text { IfSome result
-            (λ text. slice_index_or (key_at self.now.dimensions self.now.query.columns number) column All
+            (λ text. slice_index_or (group_key_at self.now.dimensions self.now.query.columns number) column All
             ≡ Text text.now) }
         ensures all { IfNone result
-            (slice_index_or (key_at self.now.dimensions self.now.query.columns number) column All ≡ All) }
+            (slice_index_or (group_key_at self.now.dimensions self.now.query.columns number) column All ≡ All) }
     {
         let kept = &self.plan.columns[column];
         kept.text(self.dims, kept.digit(number))
@@ -212,7 +213,7 @@ impl<'a> GroupPlanOver<'a> {
     /// The key of the group with a number.
     pub fn key(&self, alloc: Global, number: u128) -> Result<Items<Member>, AllocError>
         requires { number < group_count self.now.dimensions self.now.query.columns }
-        ensures { IfOk result (λ key. key ≡ key_at self.now.dimensions self.now.query.columns number) }
+        ensures { IfOk result (λ key. key ≡ group_key_at self.now.dimensions self.now.query.columns number) }
     {
         let mut key = Vec::with_capacity(alloc, self.plan.columns.len())?;
         for i in 0..self.plan.columns.len() {
@@ -227,8 +228,8 @@ impl<'a> GroupPlanOver<'a> {
     pub fn digit(&self, column: usize, number: u128) -> u128
         requires column { column < length self.now.query.columns }
         requires below { number < group_count self.now.dimensions self.now.query.columns }
-        ensures member { slice_index_or (key_at self.now.dimensions self.now.query.columns number) column All
-            ≡ member_at self.now.dimensions (attr_at self.now.query.columns column) result }
+        ensures member { slice_index_or (group_key_at self.now.dimensions self.now.query.columns number) column All
+            ≡ digit_member self.now.dimensions (attr_at self.now.query.columns column) result }
         ensures below { result < digit_count self.now.dimensions (attr_at self.now.query.columns column) }
     {
         self.plan.columns[column].digit(number)
@@ -238,7 +239,7 @@ impl<'a> GroupPlanOver<'a> {
     pub fn is_all(&self, column: usize, number: u128) -> bool
         requires { number < group_count self.now.dimensions self.now.query.columns }
         ensures { result
-            ≡ is_all (slice_index_or (key_at self.now.dimensions self.now.query.columns number) column All) }
+            ≡ is_all (slice_index_or (group_key_at self.now.dimensions self.now.query.columns number) column All) }
     {
         column >= self.plan.columns.len() || self.plan.columns[column].is_all(number)
     }
@@ -248,8 +249,8 @@ impl<'a> GroupPlanOver<'a> {
         requires column { column < length self.now.query.columns }
         requires below { number < group_count self.now.dimensions self.now.query.columns }
         ensures below { result < group_count self.now.dimensions self.now.query.columns }
-        ensures key { key_at self.now.dimensions self.now.query.columns result
-            ≡ slice_set (key_at self.now.dimensions self.now.query.columns number) column All }
+        ensures key { group_key_at self.now.dimensions self.now.query.columns result
+            ≡ slice_set (group_key_at self.now.dimensions self.now.query.columns number) column All }
     {
         self.plan.columns[column].with_all(number)
     }

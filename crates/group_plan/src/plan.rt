@@ -4,7 +4,7 @@ ghost use Rattle.cube_model.specs.Proper.{IsProper};
 ghost use Rattle.group_plan.specs.Columns.{AreColumns};
 ghost use Rattle.group_plan.specs.Filters.{AreFilters};
 ghost use Rattle.group_plan.specs.Numbers.{group_count};
-ghost use Rattle.group_plan.specs.Plans.{AreSides, IsPlanOver, count_of, query_of, side_of};
+ghost use Rattle.group_plan.specs.Plans.{AreSides, IsGroupPlanOver, count_of, query_of, side_of};
 
 use crate::bounds::Bounds;
 use crate::column::Column;
@@ -49,7 +49,7 @@ impl GroupPlan {
     /// Makes a proper query ready. It can only fail when out of memory.
     pub fn new(alloc: Global, dims: &Dims, query: &Query) -> Result<GroupPlan, AllocError>
         requires { IsProper query.now }
-        ensures over { IfOk result (IsPlanOver dims.now) }
+        ensures over { IfOk result (IsGroupPlanOver dims.now) }
         ensures query { IfOk result (λ plan. query_of plan ≡ query.now) }
     {
         let count = group_count(dims, query.columns.as_slice());
@@ -88,7 +88,7 @@ impl GroupPlan {
 
     /// The plan with the dimensions that it was made over.
     pub fn over<'a>(&'a self, dims: &'a Dims) -> GroupPlanOver<'a>
-        requires { IsPlanOver dims.now self.now }
+        requires { IsGroupPlanOver dims.now self.now }
         ensures { result ≡ record { dimensions = dims.now; query = query_of self.now } }
     {
         GroupPlanOver::of(dims, self)

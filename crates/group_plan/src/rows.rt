@@ -3,7 +3,7 @@ ghost use Rattle.std.specs.Prelude.{◌≡◌, ◌<◌, ℕ, List, length, map};
 ghost use Rattle.cube_model.specs.declared.rows.LineOrder.{LineOrder};
 ghost use Rattle.cube_model.specs.Attributes.{key_on};
 ghost use Rattle.cube_model.specs.Measures.{measure_of};
-ghost use Rattle.dictionary.specs.Columns.{text_at};
+ghost use Rattle.dictionary.specs.Columns.{text_of_code};
 ghost use Rattle.group_plan.specs.Rows.{row_at};
 
 use cube_model::{Axis, LineOrder, Measure};
@@ -50,13 +50,13 @@ pub trait ModeRows: FactRows {
     /// The text of a code.
     fn mode_text(&self, code: usize) -> &[u8]
         requires { code < length (modes self.now) }
-        ensures { result.now ≡ text_at (modes self.now) code };
+        ensures { result.now ≡ text_of_code (modes self.now) code };
 
     /// The code of a row's ship mode.
     fn mode_code(&self, place: usize) -> usize
         requires { place < length (Self.rows self.now) }
         ensures below { result < length (modes self.now) }
-        ensures text { text_at (modes self.now) result ≡ (row_at (Self.rows self.now) place).shipmode };
+        ensures text { text_of_code (modes self.now) result ≡ (row_at (Self.rows self.now) place).shipmode };
 }
 
 /// Fact rows in memory, one after another.

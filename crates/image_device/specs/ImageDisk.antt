@@ -10,12 +10,12 @@ abbrev pub sectors_in : List ℕ → List (List ℕ)
 sectors_in image = first_chunks 512 (length image / 512) image
 
 -- those that a device shows
-abbrev pub sectors_of : ImageDisk → List (List ℕ)
-sectors_of d = d.sectors.now
+abbrev pub shown_sectors : ImageDisk → List (List ℕ)
+shown_sectors d = d.sectors.now
 
 -- as sectors of which none was ever written
 abbrev pub state_of : ImageDisk → DeviceState
-state_of d = memory_state (sectors_of d) []
+state_of d = memory_state (shown_sectors d) []
 
 -- how often it has failed
 abbrev pub failures_of : ImageDisk → ℕ

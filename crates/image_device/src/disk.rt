@@ -1,7 +1,7 @@
 // A device over the bytes of an image. Nothing changes it, so each of its moments is as the first.
 ghost use Rattle.std.specs.Prelude.{◌≡◌, ◌*◌, ◌/◌, ◌%◌, ◌^◌, ◌<◌, ℕ, [], length, take, drop, IsOk, IsErr, IsSome};
 ghost use Rattle.std.specs.Prelude.{IfSome, OnOk, OnErr};
-ghost use Rattle.sector_device.specs.Device.{CountsFailure, IsSettled, Stays, Syncs, Writes};
+ghost use Rattle.sector_device.specs.Device.{CountsFailure, IsSettled, CandidatesStay, Syncs, WritesSector};
 ghost use Rattle.sector_device.specs.Memory.{AreWhole};
 
 use sector_device::{DeviceError, Sectors};
@@ -19,11 +19,11 @@ pub struct ImageDisk<'a> {
 }
 
 impl<'a> ImageDisk<'a> {
-    ghost use Rattle.image_device.specs.ImageDisk.{state_of, failures_of, sectors_in, sectors_of};
+    ghost use Rattle.image_device.specs.ImageDisk.{state_of, failures_of, sectors_in, shown_sectors};
 
     /// A device over the bytes of a whole number of sectors, of fewer than 2^32 sectors. None over other bytes.
     pub fn over(image: &'a [u8]) -> Option<ImageDisk<'a>>
-        ensures sectors { IfSome result (λ d. sectors_of d ≡ sectors_in image.now) }
+        ensures sectors { IfSome result (λ d. shown_sectors d ≡ sectors_in image.now) }
         ensures size { IfSome result (λ d. (state_of d).size * 512 ≡ length image.now) }
         ensures reads { IfSome result (λ d. (i : ℕ) → i < (state_of d).size
             → (state_of d).reads i ≡ take 512 (drop (i * 512) image.now)) }
@@ -81,7 +81,7 @@ impl<'a> Sectors for ImageDisk<'a> {
         ensures size { (state_of self.new).size ≡ (state_of self.old).size }
         ensures failures { CountsFailure result (failures_of self.old) (failures_of self.new) }
         ensures bytes { OnOk result (KeepsWord self.new → to.new ≡ (state_of self.old).reads i) }
-        ensures stays { Stays (state_of self.old) (state_of self.new) }
+        ensures stays { CandidatesStay (state_of self.old) (state_of self.new) }
     {
         *to = self.sectors[i as usize];
         Ok(())
@@ -93,8 +93,8 @@ impl<'a> Sectors for ImageDisk<'a> {
         ensures size { (state_of self.new).size ≡ (state_of self.old).size }
         ensures failures { CountsFailure result (failures_of self.old) (failures_of self.new) }
         ensures written { OnOk result (KeepsWord self.new → (state_of self.new).reads _i ≡ _from.now) }
-        ensures writes { Writes _i _from.now (state_of self.old) (state_of self.new) }
-        ensures stays { Stays (state_of self.old) (state_of self.new) }
+        ensures writes { WritesSector _i _from.now (state_of self.old) (state_of self.new) }
+        ensures stays { CandidatesStay (state_of self.old) (state_of self.new) }
     {
         self.failures = self.failures.saturating_add(1);
         Err(DeviceError)
@@ -107,7 +107,7 @@ impl<'a> Sectors for ImageDisk<'a> {
         ensures failures { CountsFailure result (failures_of self.old) (failures_of self.new) }
         ensures settled { OnOk result (KeepsWord self.new → IsSettled (state_of self.new)) }
         ensures syncs { Syncs (state_of self.old) (state_of self.new) }
-        ensures unchanged { OnErr result (KeepsWord self.new → Stays (state_of self.old) (state_of self.new)) }
+        ensures unchanged { OnErr result (KeepsWord self.new → CandidatesStay (state_of self.old) (state_of self.new)) }
     {
         Ok(())
     }

@@ -6,8 +6,8 @@ use Rattle.cube_model.specs.declared.rows.DimRows.{DimRows}
 use Rattle.sector_device.specs.Device.{LeavesOnly}
 use Rattle.image_device.specs.ImageDisk.{sectors_in}
 use Rattle.image_jobs.specs.Creating.{CreateRefuses, Creates}
-use Rattle.image_jobs.specs.Journals.{LeavesAtEach, device_after, named}
-use Rattle.image_jobs.specs.Loading.{HoldsSome, Loads, LoadsAll, loaded_all}
+use Rattle.image_jobs.specs.Journals.{LeavesAtEach, device_after, named_fault}
+use Rattle.image_jobs.specs.Loading.{HoldsSome, LoadsImage, LoadsAll, loaded_all}
 use Rattle.image_jobs.proofs.Files.{at_each, at_first}
 use Rattle.journal_device.specs.After.{state_after}
 use Rattle.journal_device.specs.Lawful.{PrefixIsLeft}
@@ -19,7 +19,7 @@ use Rattle.warehouse_objects.specs.Lawful.{dimension_puts}
 use Rattle.warehouse_objects.specs.Represents.{Represents}
 use Rattle.warehouse_objects.specs.Warehouse.{fresh}
 use Rattle.warehouse_root.specs.declared.layout.Layout.TheVariants.{First}
-use Rattle.warehouse_root.specs.Root.{first_root, root_of}
+use Rattle.warehouse_root.specs.Root.{first_root, root_spelling}
 
 module _ (law : PrefixIsLeft) (image : List ℕ) (before after calls : List Call) (none : before ≡ [])
     (are : calls ≡ after) where
@@ -41,7 +41,7 @@ module _ (law : PrefixIsLeft) (image : List ℕ) (before after calls : List Call
       → AllShow (device_after image after) (λ c. Represents c (loaded_all all))
       → LeavesOnly (state_after image before) (state_after image after)
       (ShowsSome (HoldsSome all.w first size text) (length (sectors_in image)))
-      → Loads image facts first size text calls
+      → LoadsImage image facts first size text calls
   loads facts first size text all represents leaves = record {
     all = all;
     represents = subst (λ (l : List Call). AllShow (device_after image l) (λ c. Represents c (loaded_all all)))
@@ -56,12 +56,13 @@ pub not_created : (image : List ℕ) (rows : DimRows) (before : List Call) (faul
     → (Each (device_after image before) IsBlank → fault ≢ AlreadyFormatted)
     → (fault ≡ DeviceSize → length (sectors_in image) < 64)
     → (fault ≡ Full
-    → LacksRoom (empty_room (length (sectors_in image))) (dimension_puts rows) [] (root_of (first_root First)))
-    → CreateRefuses image rows (named fault)
+    → LacksRoom (empty_room (length (sectors_in image))) (dimension_puts rows) [] (root_spelling (first_root First)))
+    → CreateRefuses image rows (named_fault fault)
 not_created image rows before fault none causes already few full = ⊎_elim
-    (λ there. inr (inr (inl (ap named there, λ blank. already (at_first image before IsBlank none blank) there))))
-    (λ other. ⊎_elim (λ size. inr (inl (ap named size, inr (few size))))
-    (λ more. ⊎_elim (λ device. inl (ap named device))
-    (λ last. ⊎_elim (λ room. inr (inr (inr (ap named room, full room)))) (λ memory. inl (ap named memory)) last) more)
+    (λ there. inr (inr (inl (ap named_fault there, λ blank. already (at_first image before IsBlank none blank) there))))
+    (λ other. ⊎_elim (λ size. inr (inl (ap named_fault size, inr (few size))))
+    (λ more. ⊎_elim (λ device. inl (ap named_fault device))
+    (λ last. ⊎_elim (λ room. inr (inr (inr (ap named_fault room, full room)))) (λ memory. inl (ap named_fault memory))
+    last) more)
     other)
     causes

@@ -19,11 +19,11 @@ use Rattle.warehouse.specs.declared.session.Session.{Session}
 use Rattle.warehouse.specs.Found.{MayBeFound, MayRepresentSince}
 use Rattle.warehouse.specs.Session.{IsAt, device_of, disk_of}
 use Rattle.warehouse.specs.Comparing.{numbered}
-use Rattle.warehouse_jobs.specs.Cutting.{AreCutFrom, IsNextBatch, IsNextFault}
+use Rattle.warehouse_jobs.specs.Cutting.{AreCutFrom, IsNextBatch, IsFirstLineFault}
 use Rattle.warehouse_jobs.specs.Lawful.{LoadHoldsItsBatches}
 use Rattle.warehouse_jobs.specs.Loading as jobs
-use Rattle.image_jobs.specs.Journals.{named}
-use Rattle.image_jobs.specs.Loading.{BatchRefuses, HoldsSome, LoadRefuses, LoadsOn, StopsAt}
+use Rattle.image_jobs.specs.Journals.{named_fault}
+use Rattle.image_jobs.specs.Loading.{BatchIsRefused, HoldsSome, LoadRefuses, LoadsOn, StopsAt}
 use Rattle.image_jobs.proofs.Found.{same_facts}
 use Rattle.image_jobs.proofs.Named.{or_memory}
 
@@ -40,7 +40,7 @@ module _ {D : Type 0} (g : Ghosts D) (facts : Facts) (w : Warehouse) (first size
     represents = (since.0, inl (same_facts facts since.0 since.1 ∙ sym (same_facts facts w found)), since.3);
   }
 
-  then_some : (c : Content) → jobs.MayHold w first size (Some text) 0 c → HoldsSome w first size text c
+  then_some : (c : Content) → jobs.LoadMayLeave w first size (Some text) 0 c → HoldsSome w first size text c
   then_some c may = record {
     some = may.some;
     next = may.next;
@@ -50,7 +50,7 @@ module _ {D : Type 0} (g : Ghosts D) (facts : Facts) (w : Warehouse) (first size
   }
 
   leaves : Leaves (disk g device) (disk_of g opened) (MayRepresentSince (disk g device) facts None)
-      → Leaves (disk_of g opened) (disk_of g done) (jobs.MayHold w first size (Some text) 0)
+      → Leaves (disk_of g opened) (disk_of g done) (jobs.LoadMayLeave w first size (Some text) 0)
       → Leaves (disk g device) (disk_of g done) (HoldsSome w first size text)
   leaves opening load = leaves_then (HoldsSome w first size text) (disk g device) (disk_of g opened) (disk_of g done)
       (leaves_weaker _ (HoldsSome w first size text) (disk g device) (disk_of g opened) (λ k. none_yet) opening)
@@ -101,7 +101,7 @@ module _ {D : Type 0} (g : Ghosts D) (facts : Facts) (w : Warehouse) (first size
   -- why the store refuses the commit of a batch
   batch_refuses : (session : Session D g) (v : Warehouse) (number : ℕ) (rows : List LineOrder) (fault : Fault)
       → jobs.BatchRefuses g session v number rows fault
-      → (fault ≡ Memory) ⊎ BatchRefuses v number rows fault
+      → (fault ≡ Memory) ⊎ BatchIsRefused v number rows fault
   batch_refuses session v number rows fault why = ⊎_elim (λ other. inr (inl other))
       (λ unknown. ⊎_elim (λ memory. inl memory.0)
       (λ more. ⊎_elim (λ refused. inr (inr (more.0, inl refused)))
@@ -115,10 +115,10 @@ module _ {D : Type 0} (g : Ghosts D) (facts : Facts) (w : Warehouse) (first size
   -- the parts of the text that were not read
   stops : (load_batches : List (List LineOrder)) (next : ℕ) (left : List (List (List ℕ))) (fault : Fault)
       → AreCutFrom (Some text) size load_batches next left
-      → (IsNextFault next left fault
+      → (IsFirstLineFault next left fault
       ⊎ ((rows : List LineOrder) × IsNextBatch next left rows
-      × BatchRefuses (jobs.with_batches w first load_batches) (first + length load_batches) rows fault))
-      → LoadRefuses facts first size text (named fault)
+      × BatchIsRefused (jobs.with_batches w first load_batches) (first + length load_batches) rows fault))
+      → LoadRefuses facts first size text (named_fault fault)
   stops load_batches next left fault cut why = ⊎_elim (λ memory. inl memory) (λ stop. inr (inr (inr stop)))
       (or_memory (StopsAt facts first size text) fault
       (record {
@@ -132,36 +132,36 @@ module _ {D : Type 0} (g : Ghosts D) (facts : Facts) (w : Warehouse) (first size
       }))
 
   pub refuses : {fault : Fault} → jobs.Loads {A = Bool} g w first size (Some text) opened done before after (Err fault)
-      → LoadRefuses facts first size text (named fault)
+      → LoadRefuses facts first size text (named_fault fault)
   refuses {fault} load =
       let batches : List (List LineOrder) = jobs.batches_of load.trace in
       let many : length load.trace ≡ length batches = sym (length-map load.trace (λ (one : jobs.Done g). one.rows)) in
       ⊎_elim
-      (λ unread. ⊎_elim (λ memory. inl (ap named memory))
-      (λ other. ⊎_elim (λ input. inr (inl (ap named input)))
+      (λ unread. ⊎_elim (λ memory. inl (ap named_fault memory))
+      (λ other. ⊎_elim (λ input. inr (inl (ap named_fault input)))
       (λ bad. stops batches load.next load.left fault load.cut (inl bad)) other) unread.cause)
       (λ later. ⊎_elim
       (λ in_batch. ⊎_elim
-      (λ refused. ⊎_elim (λ failed. inl (ap named failed.0))
-      (λ why. ⊎_elim (λ memory. inl (ap named memory))
+      (λ refused. ⊎_elim (λ failed. inl (ap named_fault failed.0))
+      (λ why. ⊎_elim (λ memory. inl (ap named_fault memory))
       (λ batch. stops batches load.next load.left fault load.cut
       (inr (
         in_batch.rows,
         in_batch.read,
-        subst (λ (n : ℕ). BatchRefuses (jobs.with_batches w first batches) (first + n) in_batch.rows fault) many
+        subst (λ (n : ℕ). BatchIsRefused (jobs.with_batches w first batches) (first + n) in_batch.rows fault) many
             batch,
       )))
       (batch_refuses (jobs.session_after opened load.trace) (jobs.with_batches w first batches)
       (first + length load.trace) in_batch.rows fault why.0))
       refused.0.cause)
-      (λ output. inr (inr (inl (ap named output.0))))
+      (λ output. inr (inr (inl (ap named_fault output.0))))
       in_batch.ends)
-      (λ unclosed. inr (inr (inl (ap named unclosed.failed))))
+      (λ unclosed. inr (inr (inl (ap named_fault unclosed.failed))))
       later)
       load.ends
 
 -- an opening is refused
 pub not_opened : (facts : Facts) (first size : ℕ) (text : List ℕ) (fault : Fault) → (fault ≡ Memory) ⊎ (fault ≡ Device)
-    → LoadRefuses facts first size text (named fault)
+    → LoadRefuses facts first size text (named_fault fault)
 not_opened facts first size text fault why =
-    ⊎_elim (λ memory. inl (ap named memory)) (λ device. inl (ap named device)) why
+    ⊎_elim (λ memory. inl (ap named_fault memory)) (λ device. inl (ap named_fault device)) why

@@ -8,14 +8,14 @@ use Rattle.report_formats.specs.Fields.{formatted}
 use Rattle.warehouse.specs.ByModes.{IsAskedByModes, RefusesByModes}
 use Rattle.warehouse_objects.specs.Facts.{Facts, facts_in}
 use Rattle.warehouse_objects.specs.Warehouse.{Warehouse}
-use Rattle.warehouse_jobs.specs.Reporting.{answered_by_modes, asked_for}
+use Rattle.warehouse_jobs.specs.Reporting.{answered_by_modes, batches_asked}
 
 -- a text is the report of the definition's answer, over the first batches of a warehouse of these facts or over all
-pub record Answers (facts : Facts) (as_of : Option ℕ) (asked : Asked) (text : List ℕ) : Type 0 where
+pub record IsReportOver (facts : Facts) (as_of : Option ℕ) (asked : Asked) (text : List ℕ) : Type 0 where
   pub w : Warehouse
   pub of : facts_in w ≡ facts
-  pub is_asked : IsAskedByModes w (asked_for w as_of) asked.query
-  pub text_is : text ≡ answered_by_modes (formatted asked) w (asked_for w as_of) asked.query
+  pub is_asked : IsAskedByModes w (batches_asked w as_of) asked.query
+  pub text_is : text ≡ answered_by_modes (formatted asked) w (batches_asked w as_of) asked.query
 
 -- There is no memory, also for the text (Output), the device failed, or the query is refused over a warehouse of these
 -- facts.
@@ -23,7 +23,7 @@ abbrev pub AnswerRefuses : Facts → Option ℕ → Asked → Fault → Type 0
 AnswerRefuses facts as_of asked fault =
     ((fault ≡ Memory) ⊎ (fault ≡ Output))
     ⊎ ((fault ≡ Device)
-    ⊎ ((w : Warehouse) × (facts_in w ≡ facts) × RefusesByModes w (asked_for w as_of) asked.query fault))
+    ⊎ ((w : Warehouse) × (facts_in w ≡ facts) × RefusesByModes w (batches_asked w as_of) asked.query fault))
 
 -- the bytes are no whole sectors, or too many
 abbrev pub IsNoDevice : List ℕ → Fault → Type 0

@@ -14,7 +14,7 @@ use Rattle.warehouse_objects.specs.Lawful.{dimension_puts}
 use Rattle.warehouse_objects.specs.Represents.{Represents}
 use Rattle.warehouse_objects.specs.Warehouse.{fresh}
 use Rattle.warehouse_root.specs.declared.layout.Layout.TheVariants.{First}
-use Rattle.warehouse_root.specs.Root.{first_root, root_of}
+use Rattle.warehouse_root.specs.Root.{first_root, root_spelling}
 
 -- the rows of the four tables of dimensions, where they keep the rules
 abbrev pub rows_of_tables : (customer supplier part date : List ℕ) → Result DimRows Fault
@@ -41,7 +41,7 @@ CreateRefuses image rows fault =
     ⊎ (((fault ≡ DeviceSize) × ((AreSectors image → ⊥) ⊎ (length (sectors_in image) < 64)))
     ⊎ (((fault ≡ AlreadyFormatted) × (Each (device_over image) IsBlank → ⊥))
     ⊎ ((fault ≡ Full) × LacksRoom (empty_room (length (sectors_in image))) (dimension_puts rows) []
-    (root_of (first_root First)))))
+    (root_spelling (first_root First)))))
 
 -- the journal that makes the warehouse of four tables
 abbrev pub IsCreateJournal : List ℕ → (customer supplier part date : List ℕ) → List ℕ → Type 0

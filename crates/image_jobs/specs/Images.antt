@@ -11,8 +11,8 @@ abbrev pub device_over : List ℕ → Disk
 device_over image = record { keeps_word = Unit {0}; state = memory_state (sectors_in image) []; failures = 0 }
 
 -- the bytes hold a warehouse of these facts
-abbrev pub Holds : List ℕ → Facts → Type 0
-Holds image facts = AllShow (device_over image) (MayRepresent facts None)
+abbrev pub HoldsWarehouse : List ℕ → Facts → Type 0
+HoldsWarehouse image facts = AllShow (device_over image) (MayRepresent facts None)
 
 -- they are whole sectors, fewer than 2^32
 pub record AreSectors (image : List ℕ) : Type 0 where

@@ -18,14 +18,14 @@ abbrev pub LeavesAtEach : List ℕ → List Call → (ℕ → Image → Type 0) 
 LeavesAtEach image calls P = (n : ℕ) → Each (device_after image (take n calls)) P
 
 -- calls with P that stay within the file of these bytes
-abbrev pub AreFor : List ℕ → (List Call → Type 0) → List Call → Type 0
-AreFor image P calls = All (IsWithin (length (sectors_in image))) calls × P calls
+abbrev pub AreCallsWithin : List ℕ → (List Call → Type 0) → List Call → Type 0
+AreCallsWithin image P calls = All (IsWithin (length (sectors_in image))) calls × P calls
 
 -- bytes are the journal of such calls
 abbrev pub IsJournal : List ℕ → (List Call → Type 0) → List ℕ → Type 0
-IsJournal image P journal = (calls : List Call) × (journal ≡ journal_of calls) × AreFor image P calls
+IsJournal image P journal = (calls : List Call) × (journal ≡ journal_of calls) × AreCallsWithin image P calls
 
 -- the fault to name: a device in memory fails only when out of memory
-abbrev pub named : Fault → Fault
-named Device = Memory
-named fault = fault
+abbrev pub named_fault : Fault → Fault
+named_fault Device = Memory
+named_fault fault = fault

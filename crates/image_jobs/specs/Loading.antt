@@ -5,17 +5,17 @@ use Rattle.cube_model.specs.declared.fault.Fault.{Fault}
 use Rattle.cube_model.specs.declared.fault.Fault.TheVariants.{Full, Input, Memory, Output, Repeated, Worn}
 use Rattle.cube_model.specs.declared.rows.LineOrder.{LineOrder}
 use Rattle.image_jobs.specs.Answers.{IsNoDevice}
-use Rattle.image_jobs.specs.Images.{Holds}
+use Rattle.image_jobs.specs.Images.{HoldsWarehouse}
 use Rattle.image_jobs.specs.Journals.{IsJournal, LeavesAtEach, device_after}
 use Rattle.journal_device.specs.declared.call.Call.{Call}
 use Rattle.object_store.specs.Content.{Content}
 use Rattle.object_store.specs.Disk.{AllShow, Leaves, ShowsSome, disk}
-use Rattle.warehouse_objects.specs.Facts.{Admits, Facts, facts_in, refusal_of}
+use Rattle.warehouse_objects.specs.Facts.{AdmitsBatch, Facts, facts_in, refusal_of}
 use Rattle.warehouse_objects.specs.Represents.{Represents}
 use Rattle.warehouse_objects.specs.Warehouse.{Warehouse}
 use Rattle.warehouse.specs.Comparing.{numbered}
 use Rattle.warehouse.specs.Found.{MayRepresent}
-use Rattle.warehouse_jobs.specs.Cutting.{AreCutFrom, IsNextBatch, IsNextFault}
+use Rattle.warehouse_jobs.specs.Cutting.{AreCutFrom, IsNextBatch, IsFirstLineFault}
 use Rattle.warehouse_jobs.specs.Loading.{with_batches}
 
 -- What is loaded into a warehouse of these facts: all batches of a text, so many lines a batch, the first of them with
@@ -49,19 +49,20 @@ pub record LoadsOn {D : Type 0} (g : Ghosts D) (facts : Facts) (first size : ℕ
     pub leaves : Leaves (disk g old) (disk g new) (HoldsSome all.w first size text)
 
 -- the calls load a text into the warehouse that the bytes hold
-pub record Loads (image : List ℕ) (facts : Facts) (first size : ℕ) (text : List ℕ) (calls : List Call) : Type 0 where
-  pub all : LoadsAll facts first size text
-  pub represents : AllShow (device_after image calls) (λ c. Represents c (loaded_all all))
-  -- a crash after any of the calls leaves the warehouse with the first batches of the text
-  pub leaves : LeavesAtEach image calls (ShowsSome (HoldsSome all.w first size text))
+pub record LoadsImage (image : List ℕ) (facts : Facts) (first size : ℕ) (text : List ℕ) (calls : List Call) : Type 0
+  where
+    pub all : LoadsAll facts first size text
+    pub represents : AllShow (device_after image calls) (λ c. Represents c (loaded_all all))
+    -- a crash after any of the calls leaves the warehouse with the first batches of the text
+    pub leaves : LeavesAtEach image calls (ShowsSome (HoldsSome all.w first size text))
 
 -- a batch is refused: the one of its number is another; or there is none of its number, and it is not admissible, or
 -- does not fit
-abbrev pub BatchRefuses : Warehouse → ℕ → List LineOrder → Fault → Type 0
-BatchRefuses w number rows fault =
+abbrev pub BatchIsRefused : Warehouse → ℕ → List LineOrder → Fault → Type 0
+BatchIsRefused w number rows fault =
     ((fault ≡ Repeated) × (number ≤ length w.batches) × (numbered w.batches number ≢ Some rows))
     ⊎ ((length w.batches < number)
-    × ((refusal_of w number rows ≡ Some fault) ⊎ (Admits w number rows × ((fault ≡ Full) ⊎ (fault ≡ Worn)))))
+    × ((refusal_of w number rows ≡ Some fault) ⊎ (AdmitsBatch w number rows × ((fault ≡ Full) ⊎ (fault ≡ Worn)))))
 
 -- after the first batches of a text the next one cannot be read, or is refused
 pub record StopsAt (facts : Facts) (first size : ℕ) (text : List ℕ) (fault : Fault) : Type 0 where
@@ -71,9 +72,9 @@ pub record StopsAt (facts : Facts) (first size : ℕ) (text : List ℕ) (fault :
   pub next : ℕ
   pub left : List (List (List ℕ))
   pub cut : AreCutFrom (Some text) size batches next left
-  pub why : IsNextFault next left fault
+  pub why : IsFirstLineFault next left fault
       ⊎ ((rows : List LineOrder) × IsNextBatch next left rows
-      × BatchRefuses (with_batches w first batches) (first + length batches) rows fault)
+      × BatchIsRefused (with_batches w first batches) (first + length batches) rows fault)
 
 -- There is no memory, or none for the lines of the batches (Output), or a reader failed; or the load stops at a line or
 -- a batch.
@@ -84,9 +85,10 @@ LoadRefuses facts first size text fault =
 -- the journal of a load, whatever warehouse the bytes of the file hold
 abbrev pub IsLoadJournal : List ℕ → (first size : ℕ) → List ℕ → List ℕ → Type 0
 IsLoadJournal image first size text =
-    IsJournal image (λ calls. (facts : Facts) → Holds image facts → Loads image facts first size text calls)
+    IsJournal image (λ calls. (facts : Facts) → HoldsWarehouse image facts
+    → LoadsImage image facts first size text calls)
 
 -- why there is none
 abbrev pub RefusesLoad : List ℕ → (first size : ℕ) → List ℕ → Fault → Type 0
-RefusesLoad image first size text fault = (facts : Facts) → Holds image facts → IsNoDevice image fault
+RefusesLoad image first size text fault = (facts : Facts) → HoldsWarehouse image facts → IsNoDevice image fault
     ⊎ LoadRefuses facts first size text fault

@@ -3,8 +3,8 @@ ghost use Rattle.std.specs.Prelude.{◌⊎◌, None, IfErr, IfOk};
 ghost use Rattle.object_store.specs.Disk.{disk, AllShow};
 ghost use Rattle.warehouse_objects.specs.Facts.{Facts};
 ghost use Rattle.warehouse.specs.Found.{MayRepresent};
-ghost use Rattle.image_jobs.specs.Answers.{AnswerRefuses, Answers, IsNoDevice};
-ghost use Rattle.image_jobs.specs.Images.{Holds};
+ghost use Rattle.image_jobs.specs.Answers.{AnswerRefuses, IsReportOver, IsNoDevice};
+ghost use Rattle.image_jobs.specs.Images.{HoldsWarehouse};
 
 use cube_model::Fault;
 use image_device::ImageDisk;
@@ -26,9 +26,10 @@ pub fn answer(
     as_of: Option<u32>,
     asked: &Asked,
 ) -> Result<Vec<u8>, Fault>
-    ensures answers { IfOk result (λ text. (facts : Facts) → Holds image.now facts
-        → Answers facts as_of asked.now text.items) }
-    ensures refused { IfErr result (λ fault. (facts : Facts) → Holds image.now facts → IsNoDevice image.now fault
+    ensures answers { IfOk result (λ text. (facts : Facts) → HoldsWarehouse image.now facts
+        → IsReportOver facts as_of asked.now text.items) }
+    ensures refused { IfErr result (λ fault. (facts : Facts) → HoldsWarehouse image.now facts
+        → IsNoDevice image.now fault
         ⊎ AnswerRefuses facts as_of asked.now fault) }
 {
     let Some(disk) = ImageDisk::over(image) else {
@@ -46,7 +47,7 @@ fn answer_on<D: Sectors + Drop>(
 ) -> Result<Vec<u8>, Fault>
     ensures answers { IfOk result (λ text. ((d : D) → D.keeps_word d) → (facts : Facts)
         → AllShow (disk D.Sectors device) (MayRepresent facts None)
-        → Answers facts as_of asked.now text.items) }
+        → IsReportOver facts as_of asked.now text.items) }
     ensures refused { IfErr result (λ fault. ((d : D) → D.keeps_word d) → (facts : Facts)
         → AllShow (disk D.Sectors device) (MayRepresent facts None)
         → AnswerRefuses facts as_of asked.now fault) }

@@ -1,7 +1,7 @@
 //! A new warehouse in the bytes of a file.
 ghost use Rattle.std.specs.Prelude.{◌≡◌, IfErr, IfOk};
 ghost use Rattle.image_jobs.specs.Creating.{CreateRefuses, Creates, IsCreateJournal, RefusesCreate};
-ghost use Rattle.image_jobs.specs.Journals.{AreFor};
+ghost use Rattle.image_jobs.specs.Journals.{AreCallsWithin};
 
 use crate::naming::named;
 use cube_model::Fault;
@@ -38,7 +38,7 @@ pub fn create(
 // The calls that make the warehouse.
 fn create_over<O: Origin>(alloc: Global, image: &[u8], dims: Dims) -> Result<Vec<Call>, Fault>
     requires origin { image.now ≡ O.image }
-    ensures creates { IfOk result (λ calls. AreFor O.image (Creates O.image dims) calls.items) }
+    ensures creates { IfOk result (λ calls. AreCallsWithin O.image (Creates O.image dims) calls.items) }
     ensures refused { IfErr result (CreateRefuses O.image dims) }
 {
     prefix_is_left();

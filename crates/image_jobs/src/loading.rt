@@ -3,9 +3,9 @@ ghost use Rattle.std.specs.Prelude.{◌≡◌, None, IfErr, IfOk};
 ghost use Rattle.object_store.specs.Disk.{disk, AllShow};
 ghost use Rattle.warehouse_objects.specs.Facts.{Facts};
 ghost use Rattle.warehouse.specs.Found.{MayRepresent};
-ghost use Rattle.image_jobs.specs.Images.{Holds};
-ghost use Rattle.image_jobs.specs.Journals.{AreFor};
-ghost use Rattle.image_jobs.specs.Loading.{IsLoadJournal, LoadRefuses, Loads, LoadsOn, RefusesLoad};
+ghost use Rattle.image_jobs.specs.Images.{HoldsWarehouse};
+ghost use Rattle.image_jobs.specs.Journals.{AreCallsWithin};
+ghost use Rattle.image_jobs.specs.Loading.{IsLoadJournal, LoadRefuses, LoadsImage, LoadsOn, RefusesLoad};
 
 use crate::naming::named;
 use cube_model::Fault;
@@ -49,8 +49,8 @@ fn load_over<O: Origin>(
 ) -> Result<Vec<Call>, Fault>
     requires origin { image.now ≡ O.image }
     ensures loads { IfOk result
-        (λ calls. AreFor O.image (λ done. (facts : Facts) → Holds O.image facts
-        → Loads O.image facts first rows lineorder.now done) calls.items) }
+        (λ calls. AreCallsWithin O.image (λ done. (facts : Facts) → HoldsWarehouse O.image facts
+        → LoadsImage O.image facts first rows lineorder.now done) calls.items) }
     ensures refused { IfErr result (RefusesLoad O.image first rows lineorder.now) }
 {
     prefix_is_left();

@@ -5,7 +5,7 @@ use Rattle.std.proofs.lemmas.List.{reverse-append, take-append-drop, drop-map, l
 use Rattle.std.proofs.Math.Seq.{drop-append-add}
 use Rattle.sector_device.specs.Device.{Image}
 use Rattle.sector_device.specs.Memory.{content}
-use Rattle.file_device.specs.History.{MayHold, LeftWithin}
+use Rattle.file_device.specs.History.{FileMayHold, FileLeftWithin}
 use Rattle.file_device.specs.declared.event.Event.{Event}
 use Rattle.image_device.specs.ImageDisk.{sectors_in}
 use Rattle.journal_device.specs.Calls.{event_of, record_of}
@@ -14,8 +14,8 @@ use Rattle.journal_device.specs.declared.call.Call.{Call}
 
 -- an image of any moment is one of the last so many
 left_then : (start : Image) (at_first : ℕ → List ℕ → Type 0) (k : ℕ) (events : List Event) (image : Image)
-    → ((i : ℕ) → MayHold start at_first (drop k events) i (image i))
-    → LeftWithin start at_first (length events) events image
+    → ((i : ℕ) → FileMayHold start at_first (drop k events) i (image i))
+    → FileLeftWithin start at_first (length events) events image
 left_then start at_first zero [] image may = may
 left_then start at_first (suc k) [] image may = may
 left_then start at_first zero (e ∷ earlier) image may = inl may
@@ -37,7 +37,8 @@ record_take n calls =
 pub prefix_is_left : PrefixIsLeft
 prefix_is_left image calls n left is =
     let start = content (sectors_in image) in
-    let all : LeftWithin start (λ i b. b ≡ start i) (length (record_of calls)) (record_of calls) left =
+    let all : FileLeftWithin start (λ i b. b ≡ start i) (length (record_of calls)) (record_of calls) left =
     left_then start (λ i b. b ≡ start i) (length (drop n calls)) (record_of calls) left
-    (subst (λ (l : List Event). (i : ℕ) → MayHold start (λ i b. b ≡ start i) l i (left i)) (record_take n calls) is) in
-    subst (λ (k : ℕ). LeftWithin start (λ i b. b ≡ start i) k (record_of calls) left) (omega arith) all
+    (subst (λ (l : List Event). (i : ℕ) → FileMayHold start (λ i b. b ≡ start i) l i (left i)) (record_take n calls)
+    is) in
+    subst (λ (k : ℕ). FileLeftWithin start (λ i b. b ≡ start i) k (record_of calls) left) (omega arith) all

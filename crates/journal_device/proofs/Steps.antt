@@ -6,16 +6,16 @@ use Rattle.std.proofs.lemmas.Bool.{cases_eq, ne_eqb, eq-eqb}
 use Rattle.std.proofs.lemmas.List.{reverse-append, length-drop, length-take-le}
 use Rattle.sector_device.proofs.CallerLemmas.{chunk_at, length-chunks}
 use Rattle.std.specs.Option.{unwrap_or}
-use Rattle.sector_device.specs.Device.{Image, DeviceState, Elapses, IsSettled, Syncs, Writes}
+use Rattle.sector_device.specs.Device.{Image, DeviceState, Elapses, IsSettled, Syncs, WritesSector}
 use Rattle.sector_device.specs.Memory.{content}
-use Rattle.file_device.specs.History.{MayHold, LeftWithin, file_state, reads_after}
-use Rattle.file_device.specs.Laws.{read_may_stay}
+use Rattle.file_device.specs.History.{FileMayHold, FileLeftWithin, file_state, reads_after}
+use Rattle.file_device.specs.Laws.{file_read_may_stay}
 use Rattle.file_device.specs.declared.event.Event.{Event}
 use Rattle.file_device.specs.declared.event.Event.TheVariants.{Written, Synced}
 use Rattle.image_device.specs.ImageDisk.{sectors_in}
 use Rattle.journal_device.specs.Calls.{event_of, record_of}
-use Rattle.journal_device.specs.After.{state_after, AreWhole}
-use Rattle.journal_device.specs.Latest.{Agrees, last_at}
+use Rattle.journal_device.specs.After.{state_after, CallsAreWhole}
+use Rattle.journal_device.specs.Latest.{ShowsLatest, last_at}
 use Rattle.journal_device.specs.declared.call.Call.{Call}
 use Rattle.journal_device.specs.declared.call.Call.TheVariants.{Write, Sync}
 
@@ -30,16 +30,16 @@ module _ (size : ℕ) (start : Image) (at_first : ℕ → List ℕ → Type 0) (
       λ t le. omega arith in record {
         later = omega arith;
         nothing_else = λ t image le left.
-            let from : LeftWithin start at_first (suc (length events - t)) (e ∷ events) image =
-            subst (λ (n : ℕ). LeftWithin start at_first n (e ∷ events) image) (steps t le) left in
+            let from : FileLeftWithin start at_first (suc (length events - t)) (e ∷ events) image =
+            subst (λ (n : ℕ). FileLeftWithin start at_first n (e ∷ events) image) (steps t le) left in
             ⊎_elim (λ now. inr now) (λ was. inl was) from;
         keeps = λ t image le left.
-            let to : LeftWithin start at_first (suc (length events - t)) (e ∷ events) image = inr left in
-            subst (λ (n : ℕ). LeftWithin start at_first n (e ∷ events) image) (sym (steps t le)) to;
+            let to : FileLeftWithin start at_first (suc (length events - t)) (e ∷ events) image = inr left in
+            subst (λ (n : ℕ). FileLeftWithin start at_first n (e ∷ events) image) (sym (steps t le)) to;
       }
 
   writes_event : (i : ℕ) (bytes : List ℕ)
-      → Writes i bytes (file_state size start at_first events)
+      → WritesSector i bytes (file_state size start at_first events)
       (file_state size start at_first (Written i bytes true ∷ events))
   writes_event i bytes = record {
     others = λ j ne. ap (λ (b : Bool). if b then bytes else reads_after start events j) (ne_eqb j i ne);
@@ -52,16 +52,16 @@ module _ (size : ℕ) (start : Image) (at_first : ℕ → List ℕ → Type 0) (
       → Syncs (file_state size start at_first events) (file_state size start at_first (Synced true ∷ events))
   syncs_event stays = record {
     reads = λ i. refl;
-    no_more = λ i b may. subst (MayHold start at_first events i) (sym may)
-        (read_may_stay start at_first stays events i);
+    no_more = λ i b may. subst (FileMayHold start at_first events i) (sym may)
+        (file_read_may_stay start at_first stays events i);
     time = passes (Synced true);
   }
 
 module _ (image : List ℕ) (calls : List Call) where
   pub writes : (i : ℕ) (bytes : List ℕ)
-      → Writes i bytes (state_after image calls) (state_after image (calls ++ Write i bytes ∷ []))
+      → WritesSector i bytes (state_after image calls) (state_after image (calls ++ Write i bytes ∷ []))
   writes i bytes =
-      subst (λ (l : List Event). Writes i bytes (state_after image calls)
+      subst (λ (l : List Event). WritesSector i bytes (state_after image calls)
       (file_state (length (sectors_in image)) (content (sectors_in image)) (λ j b. b ≡ content (sectors_in image) j)
       l))
       (sym (record_next calls (Write i bytes)))
@@ -100,9 +100,9 @@ module _ (image : List ℕ) (calls : List Call) where
 
   -- what is kept agrees after a write
   pub agrees_written : (i : ℕ) (bytes : List ℕ) (old new : List (ℕ × List ℕ))
-      → Agrees (content (sectors_in image)) (state_after image calls).reads old
+      → ShowsLatest (content (sectors_in image)) (state_after image calls).reads old
       → ((k : ℕ) → last_at new k ≡ (if nat_eq i k then Some bytes else last_at old k))
-      → Agrees (content (sectors_in image)) (state_after image (calls ++ Write i bytes ∷ [])).reads new
+      → ShowsLatest (content (sectors_in image)) (state_after image (calls ++ Write i bytes ∷ [])).reads new
   agrees_written i bytes old new agrees kept k =
       let shown : unwrap_or (last_at new k) (content (sectors_in image) k)
       ≡ unwrap_or (if nat_eq i k then Some bytes else last_at old k) (content (sectors_in image) k) =
@@ -118,35 +118,36 @@ module _ (image : List ℕ) (calls : List Call) where
       ∙ sym (reads_written i bytes k)
 
   pub agrees_synced : (latest : List (ℕ × List ℕ))
-      → Agrees (content (sectors_in image)) (state_after image calls).reads latest
-      → Agrees (content (sectors_in image)) (state_after image (calls ++ Sync ∷ [])).reads latest
+      → ShowsLatest (content (sectors_in image)) (state_after image calls).reads latest
+      → ShowsLatest (content (sectors_in image)) (state_after image (calls ++ Sync ∷ [])).reads latest
   agrees_synced latest agrees k = agrees k ∙ sym (reads_synced k)
 
   -- what is written is whole, so each candidate is
-  pub whole_written : (i : ℕ) (bytes : List ℕ) → length bytes ≡ 512 → AreWhole image calls
-      → AreWhole image (calls ++ Write i bytes ∷ [])
+  pub whole_written : (i : ℕ) (bytes : List ℕ) → length bytes ≡ 512 → CallsAreWhole image calls
+      → CallsAreWhole image (calls ++ Write i bytes ∷ [])
   whole_written i bytes long whole =
       subst (λ (l : List Event). (j : ℕ) (b : List ℕ) → j < length (sectors_in image)
-      → MayHold (content (sectors_in image)) (λ k x. x ≡ content (sectors_in image) k) l j b → length b ≡ 512)
+      → FileMayHold (content (sectors_in image)) (λ k x. x ≡ content (sectors_in image) k) l j b → length b ≡ 512)
       (sym (record_next calls (Write i bytes)))
       (λ j b lt may. ⊎_elim (λ was. whole j b lt was) (λ put. ap length put.1 ∙ long) may)
 
-  pub whole_synced : AreWhole image calls → AreWhole image (calls ++ Sync ∷ [])
+  pub whole_synced : CallsAreWhole image calls → CallsAreWhole image (calls ++ Sync ∷ [])
   whole_synced whole =
       subst (λ (l : List Event). (j : ℕ) (b : List ℕ) → j < length (sectors_in image)
-      → MayHold (content (sectors_in image)) (λ k x. x ≡ content (sectors_in image) k) l j b → length b ≡ 512)
+      → FileMayHold (content (sectors_in image)) (λ k x. x ≡ content (sectors_in image) k) l j b → length b ≡ 512)
       (sym (record_next calls Sync))
       (λ j b lt may. ap length may
       ∙ whole j ((state_after image calls).reads j) lt
-      (read_may_stay (content (sectors_in image)) (λ k x. x ≡ content (sectors_in image) k) (λ k. refl)
+      (file_read_may_stay (content (sectors_in image)) (λ k x. x ≡ content (sectors_in image) k) (λ k. refl)
       (record_of calls) j))
 
 -- a read of a sector of which nothing was kept, and of one of which something was
-pub read_kept : (before now : Image) (latest : List (ℕ × List ℕ)) (i : ℕ) (bytes : List ℕ) → Agrees before now latest
+pub read_kept : (before now : Image) (latest : List (ℕ × List ℕ)) (i : ℕ) (bytes : List ℕ)
+    → ShowsLatest before now latest
     → last_at latest i ≡ Some bytes → bytes ≡ now i
 read_kept before now latest i bytes agrees is = sym (ap (λ (o : Option (List ℕ)). unwrap_or o (before i)) is) ∙ agrees i
 
-pub read_unkept : (before now : Image) (latest : List (ℕ × List ℕ)) (i : ℕ) → Agrees before now latest
+pub read_unkept : (before now : Image) (latest : List (ℕ × List ℕ)) (i : ℕ) → ShowsLatest before now latest
     → last_at latest i ≡ None → before i ≡ now i
 read_unkept before now latest i agrees is = sym (ap (λ (o : Option (List ℕ)). unwrap_or o (before i)) is) ∙ agrees i
 
@@ -162,14 +163,14 @@ module _ {T E : Type 0} where
       → OnOk r (new ≡ calls ++ Write i bytes ∷ [])
       → OnOk r ((k : ℕ) → last_at after k ≡ (if nat_eq i k then Some bytes else last_at latest k))
       → OnErr r ((new ≡ calls) × (after ≡ latest))
-      → Agrees (content (sectors_in image)) (state_after image calls).reads latest
-      → Agrees (content (sectors_in image)) (state_after image new).reads after
+      → ShowsLatest (content (sectors_in image)) (state_after image calls).reads latest
+      → ShowsLatest (content (sectors_in image)) (state_after image new).reads after
   agrees_either (Ok x) image calls new i bytes latest after ok kept err agrees =
-      subst (λ (c : List Call). Agrees (content (sectors_in image)) (state_after image c).reads after) (sym ok)
+      subst (λ (c : List Call). ShowsLatest (content (sectors_in image)) (state_after image c).reads after) (sym ok)
       (agrees_written image calls i bytes latest after agrees kept)
   agrees_either (Err e) image calls new i bytes latest after ok kept err agrees =
-      subst (λ (c : List Call). Agrees (content (sectors_in image)) (state_after image c).reads after) (sym err.0)
-      (subst (λ (l : List (ℕ × List ℕ)). Agrees (content (sectors_in image)) (state_after image calls).reads l)
+      subst (λ (c : List Call). ShowsLatest (content (sectors_in image)) (state_after image c).reads after) (sym err.0)
+      (subst (λ (l : List (ℕ × List ℕ)). ShowsLatest (content (sectors_in image)) (state_after image calls).reads l)
       (sym err.1) agrees)
 
   pub no_call : (r : Result T E) (calls new : List Call) (A : Type 0) → OnErr r ((new ≡ calls) × A)
@@ -182,7 +183,7 @@ same_time : (s : DeviceState) → Elapses s s
 same_time s =
     record { later = omega arith; nothing_else = λ t image le left. inl left; keeps = λ t image le left. left }
 
-pub writes_nothing : (i : ℕ) (bytes : List ℕ) (s : DeviceState) → Writes i bytes s s
+pub writes_nothing : (i : ℕ) (bytes : List ℕ) (s : DeviceState) → WritesSector i bytes s s
 writes_nothing i bytes s =
     record { others = λ j ne. refl; no_more = λ j b may. inl may; no_fewer = λ j b may. may; time = same_time s }
 
@@ -190,7 +191,7 @@ pub syncs_nothing : (s : DeviceState) → Syncs s s
 syncs_nothing s = record { reads = λ j. refl; no_more = λ j b may. may; time = same_time s }
 
 -- before the first call
-pub whole_at_first : (image : List ℕ) → AreWhole image []
+pub whole_at_first : (image : List ℕ) → CallsAreWhole image []
 whole_at_first image i b lt is =
     let room : 512 ≤ length (drop (i * 512) image) =
     omega (arith, lt, length-chunks (length image / 512) image, length-drop (i * 512) image) in
@@ -198,7 +199,7 @@ whole_at_first image i b lt is =
     ∙ length-take-le 512 (drop (i * 512) image) room
 
 pub agrees_at_first : (image : List ℕ) (calls : List Call) (latest : List (ℕ × List ℕ)) → calls ≡ [] → latest ≡ []
-    → Agrees (content (sectors_in image)) (state_after image calls).reads latest
+    → ShowsLatest (content (sectors_in image)) (state_after image calls).reads latest
 agrees_at_first image calls latest none empty i =
     ap (λ (l : List (ℕ × List ℕ)). unwrap_or (last_at l i) (content (sectors_in image) i)) empty
     ∙ sym (ap (λ (l : List Call). (state_after image l).reads i) none)

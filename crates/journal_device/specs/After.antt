@@ -15,6 +15,6 @@ state_after image calls =
     (record_of calls)
 
 -- each candidate has 512 bytes
-abbrev pub AreWhole : List ℕ → List Call → Type 0
-AreWhole image calls = (i : ℕ) (b : List ℕ) → i < (state_after image calls).size
+abbrev pub CallsAreWhole : List ℕ → List Call → Type 0
+CallsAreWhole image calls = (i : ℕ) (b : List ℕ) → i < (state_after image calls).size
     → (state_after image calls).may_hold i b → length b ≡ 512

@@ -9,5 +9,5 @@ abbrev pub last_at : List (ℕ × List ℕ) → ℕ → Option (List ℕ)
 last_at latest i = lookup (nat_eq i) latest
 
 -- each sector shows what was written to it last, or what it had before
-abbrev pub Agrees : (before now : Image) → List (ℕ × List ℕ) → Type 0
-Agrees before now latest = (i : ℕ) → unwrap_or (last_at latest i) (before i) ≡ now i
+abbrev pub ShowsLatest : (before now : Image) → List (ℕ × List ℕ) → Type 0
+ShowsLatest before now latest = (i : ℕ) → unwrap_or (last_at latest i) (before i) ≡ now i

@@ -1,12 +1,12 @@
 // A device over the bytes of a file, whose changes are kept in memory and recorded.
 ghost use Rattle.std.specs.Prelude.{◌≡◌, ◌≢◌, ◌++◌, ◌∷◌, ◌%◌, ◌/◌, ◌^◌, ◌<◌, ℕ, [], IsOk, IsSome, IfSome, OnOk, OnErr};
 ghost use Rattle.std.specs.Prelude.{length, is_ok, nat_eq, if◌then◌else◌, Some, refl, All};
-ghost use Rattle.sector_device.specs.Device.{CountsFailure, IsSettled, Stays, Syncs, Writes};
+ghost use Rattle.sector_device.specs.Device.{CountsFailure, IsSettled, CandidatesStay, Syncs, WritesSector};
 ghost use Rattle.sector_device.specs.Memory.{content};
-ghost use Rattle.image_device.specs.ImageDisk.{sectors_in, sectors_of};
-ghost use Rattle.journal_device.specs.After.{state_after, AreWhole};
+ghost use Rattle.image_device.specs.ImageDisk.{sectors_in, shown_sectors};
+ghost use Rattle.journal_device.specs.After.{state_after, CallsAreWhole};
 ghost use Rattle.journal_device.specs.Calls.{IsWithin};
-ghost use Rattle.journal_device.specs.Latest.{Agrees, last_at};
+ghost use Rattle.journal_device.specs.Latest.{ShowsLatest, last_at};
 ghost use Rattle.journal_device.specs.declared.call.Call.{Call};
 
 use crate::call::Call;
@@ -29,9 +29,9 @@ pub struct JournalDisk<'a, O: Origin> {
     latest: Latest,
     calls: Vec<Call>,
     failures: u64,
-    ghost over: { sectors_of under ≡ sectors_in O.image },
-    ghost agrees: { Agrees (content (sectors_in O.image)) (state_after O.image calls.items).reads latest.entries },
-    ghost whole: { AreWhole O.image calls.items },
+    ghost over: { shown_sectors under ≡ sectors_in O.image },
+    ghost agrees: { ShowsLatest (content (sectors_in O.image)) (state_after O.image calls.items).reads latest.entries },
+    ghost whole: { CallsAreWhole O.image calls.items },
     ghost within: { All (IsWithin (length (sectors_in O.image))) calls.items },
 }
 
@@ -112,7 +112,7 @@ fn counted(outcome: Result<(), AllocError>, failures: &mut u64) -> Result<(), De
 
 impl<'a, O: Origin> Sectors for JournalDisk<'a, O> {
     ghost use Rattle.journal_device.specs.JournalDisk.{state_of, calls_of, failures_of, KeepsWord};
-    ghost use Rattle.file_device.specs.Laws.{read_may_stay, counts_now, only_now};
+    ghost use Rattle.file_device.specs.Laws.{file_read_may_stay, file_counts_now, file_only_now};
     ghost use Rattle.journal_device.specs.Calls.{record_of};
 
     ghost state = { state_of };
@@ -123,15 +123,15 @@ impl<'a, O: Origin> Sectors for JournalDisk<'a, O> {
 
     ghost failed = { λ d. d.failures };
 
-    ghost read_may_stay = { λ d i word. read_may_stay (content (sectors_in O.image))
+    ghost read_may_stay = { λ d i word. file_read_may_stay (content (sectors_in O.image))
         (λ i b. b ≡ content (sectors_in O.image) i) (λ i. refl) (record_of (calls_of d)) i };
 
     ghost whole = { λ d i b word lt may. d.whole i b lt may };
 
-    ghost counts_now = { λ d t image word le now. counts_now (content (sectors_in O.image))
+    ghost counts_now = { λ d t image word le now. file_counts_now (content (sectors_in O.image))
         (λ i b. b ≡ content (sectors_in O.image) i) (record_of (calls_of d)) t image now };
 
-    ghost only_now = { λ d image word left. only_now (content (sectors_in O.image))
+    ghost only_now = { λ d image word left. file_only_now (content (sectors_in O.image))
         (λ i b. b ≡ content (sectors_in O.image) i) (record_of (calls_of d)) image left };
 
     fn count(&self) -> u32 {
@@ -148,7 +148,7 @@ impl<'a, O: Origin> Sectors for JournalDisk<'a, O> {
         ensures size { (state_of self.new).size ≡ (state_of self.old).size }
         ensures failures { CountsFailure result (failures_of self.old) (failures_of self.new) }
         ensures bytes { OnOk result (KeepsWord self.new → to.new ≡ (state_of self.old).reads i) }
-        ensures stays { Stays (state_of self.old) (state_of self.new) }
+        ensures stays { CandidatesStay (state_of self.old) (state_of self.new) }
 
         ensures calls { calls_of self.new ≡ calls_of self.old }
     {
@@ -163,7 +163,7 @@ impl<'a, O: Origin> Sectors for JournalDisk<'a, O> {
         ensures size { (state_of self.new).size ≡ (state_of self.old).size }
         ensures failures { CountsFailure result (failures_of self.old) (failures_of self.new) }
         ensures written { OnOk result (KeepsWord self.new → (state_of self.new).reads i ≡ from.now) }
-        ensures writes { Writes i from.now (state_of self.old) (state_of self.new) }
+        ensures writes { WritesSector i from.now (state_of self.old) (state_of self.new) }
 
         ensures recorded { OnOk result (calls_of self.new ≡ calls_of self.old ++ Call.Write i from.now ∷ []) }
         ensures unrecorded { OnErr result (calls_of self.new ≡ calls_of self.old) }
@@ -177,7 +177,7 @@ impl<'a, O: Origin> Sectors for JournalDisk<'a, O> {
         ensures failures { CountsFailure result (failures_of self.old) (failures_of self.new) }
         ensures settled { OnOk result (KeepsWord self.new → IsSettled (state_of self.new)) }
         ensures syncs { Syncs (state_of self.old) (state_of self.new) }
-        ensures unchanged { OnErr result (KeepsWord self.new → Stays (state_of self.old) (state_of self.new)) }
+        ensures unchanged { OnErr result (KeepsWord self.new → CandidatesStay (state_of self.old) (state_of self.new)) }
 
         ensures recorded { OnOk result (calls_of self.new ≡ calls_of self.old ++ Call.Sync ∷ []) }
         ensures unrecorded { OnErr result (calls_of self.new ≡ calls_of self.old) }

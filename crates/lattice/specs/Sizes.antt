@@ -17,17 +17,17 @@ members_at counts Highest = counts.highest
 members_at counts All = 1
 
 -- the ship modes by which a view groups, if it does
-abbrev pub modes_of : Option ℕ → Bool → ℕ
-modes_of (Some count) true = count
-modes_of (Some count) false = 1
-modes_of None grouped = 1
+abbrev pub mode_count : Option ℕ → Bool → ℕ
+mode_count (Some count) true = count
+mode_count (Some count) false = 1
+mode_count None grouped = 1
 
 -- the choices of a member of each level of a view
 abbrev pub choices_of : Counts → View → ℕ
 choices_of counts view =
     members_at counts.customer view.customer * (members_at counts.supplier view.supplier
     * (members_at counts.part view.part *
-    (members_at counts.date view.date * modes_of counts.ship_modes view.ship_mode)))
+    (members_at counts.date view.date * mode_count counts.ship_modes view.ship_mode)))
 
 -- the most cells of a view
 abbrev pub size_of : ℕ → Counts → View → ℕ

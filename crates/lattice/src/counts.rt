@@ -1,6 +1,6 @@
 //! How many members the levels have, and how many cells a view can have.
 ghost use Rattle.std.specs.Prelude.{◌≡◌, ◌*◌, length, min, slice_get};
-ghost use Rattle.lattice.specs.Sizes.{members_at, modes_of, size_of, lattice_of};
+ghost use Rattle.lattice.specs.Sizes.{members_at, mode_count, size_of, lattice_of};
 
 use crate::level::Level;
 use crate::view::{VIEWS_OF_FIVE_AXES, VIEWS_OF_FOUR_AXES, View};
@@ -62,7 +62,7 @@ impl Counts {
 
     // How many ship modes a view groups by, 1 where it does not.
     fn modes(&self, grouped: bool) -> u32
-        ensures { result ≡ modes_of self.now.ship_modes grouped }
+        ensures { result ≡ mode_count self.now.ship_modes grouped }
     {
         match (self.ship_modes, grouped) {
             (Some(count), true) => count,

@@ -12,11 +12,11 @@ use Rattle.line_order.specs.declared.arrangement.SortKey.{SortKey}
 use Rattle.line_order.specs.declared.arrangement.SortKey.TheVariants.{Column, Aggregate, Average}
 use Rattle.line_order.specs.declared.arrangement.Sorting.{Sorting}
 use Rattle.line_order.specs.Arranging.{place_cmp}
-use Rattle.line_order.specs.Sorting.{aggregate_at, average_at, directed, member_at, sort_key_cmp, sorting_cmp}
+use Rattle.line_order.specs.Sorting.{aggregate_at, average_at, directed, line_member, sort_key_cmp, sorting_cmp}
 use Rattle.line_order.proofs.SizeOrder.{fraction_cmp_total}
 
 sort_key_cmp_total : (key : SortKey) → IsTotalOrder (sort_key_cmp key)
-sort_key_cmp_total (Column column) = on_total (λ line. member_at line column) member_cmp_total
+sort_key_cmp_total (Column column) = on_total (λ line. line_member line column) member_cmp_total
 sort_key_cmp_total (Aggregate aggregate) = on_total (λ line. aggregate_at line aggregate) fraction_cmp_total
 sort_key_cmp_total (Average sum count) = on_total (λ line. average_at line sum count) fraction_cmp_total
 

@@ -31,8 +31,8 @@ fraction_cmp left right =
     int_cmp (left.numerator *ℤ pos (max right.denominator 1)) (right.numerator *ℤ pos (max left.denominator 1))
 
 -- the member of a line in a column
-abbrev pub member_at : Line → ℕ → Member
-member_at line column = slice_index_or line.key column All
+abbrev pub line_member : Line → ℕ → Member
+line_member line column = slice_index_or line.key column All
 
 -- a member by its text, where none is ALL
 abbrev pub text_member : Option (List ℕ) → Member
@@ -52,7 +52,7 @@ average_at line sum count = quotient (value_at line sum) (value_at line count)
 
 -- lines by what they are sorted by: members as in keys, ALL after every text, and values as numbers
 abbrev pub sort_key_cmp : SortKey → Line → Line → Ordering
-sort_key_cmp (Column column) left right = member_cmp (member_at left column) (member_at right column)
+sort_key_cmp (Column column) left right = member_cmp (line_member left column) (line_member right column)
 sort_key_cmp (Aggregate aggregate) left right =
     fraction_cmp (aggregate_at left aggregate) (aggregate_at right aggregate)
 sort_key_cmp (Average sum count) left right = fraction_cmp (average_at left sum count) (average_at right sum count)

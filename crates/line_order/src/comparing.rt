@@ -6,7 +6,7 @@ ghost use Rattle.std.specs.Ordering.{nat_cmp, ordering_then};
 ghost use Rattle.cube_model.specs.Keys.{key_cmp, member_cmp};
 ghost use Rattle.cube_query.specs.GroupLines.{line_at};
 ghost use Rattle.line_order.specs.Arranging.{place_cmp};
-ghost use Rattle.line_order.specs.Sorting.{average_at, directed, member_at, sort_key_cmp, text_member, value_at};
+ghost use Rattle.line_order.specs.Sorting.{average_at, directed, line_member, sort_key_cmp, text_member, value_at};
 
 use crate::arrangement::{SortKey, Sorting};
 use crate::fractions::{compare_fractions, fraction_in, quotient};
@@ -106,7 +106,7 @@ fn compare_members(left: Option<&[u8]>, right: Option<&[u8]>) -> Ordering
 
 // The text of a line in a column: none for ALL.
 fn text_at<L: Lines>(lines: &L, place: usize, column: usize) -> Option<&[u8]>
-    ensures { text_member (option_map (λ text. text.now) result) ≡ member_at (line_at (L.lines lines.now) place)
+    ensures { text_member (option_map (λ text. text.now) result) ≡ line_member (line_at (L.lines lines.now) place)
         column }
 {
     if column < columns_at(lines, place) {

@@ -15,7 +15,7 @@ use Rattle.cube_model.specs.Places.{attr_members, row_count_of, texts_of, text_a
 use Rattle.dimensions.proofs.CallerLemmas.{bytes_eq-refl}
 use Rattle.member_lists.specs.declared.tallies.Tally.{Tally}
 use Rattle.member_lists.specs.Members.{first_with, rows_with}
-use Rattle.member_lists.specs.Tallies.{AreTallies, IsTally, no_tally}
+use Rattle.member_lists.specs.Tallies.{AreTallies, IsTally, empty_tally}
 use Rattle.member_lists.proofs.Ranks.{apart, is_counted, is_placed, length-texts}
 
 -- of texts of which none is counted none is the one
@@ -79,11 +79,12 @@ module _ (rows : DimRows) (attr : Attr) where
   module _ (place rank : ℕ) (tallies : List Tally) (next : Tally) (within : place < length (texts_of rows attr))
       (lt : rank < length members)
       (text : get_or members rank [] ≡ text_at rows attr place) (are : AreTallies rows attr place tallies)
-      (first : next.first ≡ cond ((get_or tallies rank no_tally).rows == 0) place (get_or tallies rank no_tally).first)
-      (counted : next.rows ≡ (get_or tallies rank no_tally).rows + 1) where
+      (first : next.first ≡ cond ((get_or tallies rank empty_tally).rows == 0) place
+      (get_or tallies rank empty_tally).first)
+      (counted : next.rows ≡ (get_or tallies rank empty_tally).rows + 1) where
     abbrev IsNext : ℕ → Type 0
     IsNext k = IsTally (texts_of rows attr) (place + 1) (get_or members k [])
-        (get_or (set tallies rank next) k no_tally)
+        (get_or (set tallies rank next) k empty_tally)
 
     same-rank : (k : ℕ) → k < length members → k ≡ rank → IsNext k
     same-rank k below same =
@@ -92,7 +93,7 @@ module _ (rows : DimRows) (attr : Attr) where
         rw text (bytes_eq-refl (text_at rows attr place)) in
         subst IsNext (sym same)
         (rw get_or-set_same
-        (tally-yes (texts_of rows attr) place within (get_or members rank []) (get_or tallies rank no_tally) next
+        (tally-yes (texts_of rows attr) place within (get_or members rank []) (get_or tallies rank empty_tally) next
         (are.each rank lt) here first counted))
 
     other-rank : (k : ℕ) → k < length members → k ≢ rank → IsNext k
@@ -100,7 +101,7 @@ module _ (rows : DimRows) (attr : Attr) where
         let other : bytes_eq (get_or members k []) (get_or (texts_of rows attr) place []) ≡ false =
         rw (← text) (apart rows attr k rank differ below lt) in
         rw get_or-set_other
-        (tally-no (texts_of rows attr) place within (get_or members k []) (get_or tallies k no_tally) next
+        (tally-no (texts_of rows attr) place within (get_or members k []) (get_or tallies k empty_tally) next
         (are.each k below) other)
 
     -- one row more is counted

@@ -8,9 +8,9 @@ use Rattle.member_lists.specs.declared.uppers.Uppers.{Uppers}
 use Rattle.member_lists.specs.declared.uppers.Uppers.TheVariants.{Nothing, One, Two}
 
 -- a text as it is, and a number of rows in decimal
-abbrev pub part_text : Part → List ℕ
-part_text (Text text) = text.now
-part_text (Rows number) = decimal number
+abbrev pub member_part_text : Part → List ℕ
+member_part_text (Text text) = text.now
+member_part_text (Rows number) = decimal number
 
 -- the attributes above another one
 abbrev pub listed : Uppers → List Attr

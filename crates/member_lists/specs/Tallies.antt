@@ -17,15 +17,15 @@ pub record IsTally (texts : List (List ℕ)) (place : ℕ) (text : List ℕ) (ta
   pub rows : tally.rows ≡ count_by (bytes_eq text) (take place texts)
   pub first : 0 < tally.rows → tally.first ≡ position_or_len (bytes_eq text) texts
 
-abbrev pub no_tally : Tally
-no_tally = record { first = 0; rows = 0 }
+abbrev pub empty_tally : Tally
+empty_tally = record { first = 0; rows = 0 }
 
 -- the tallies of the members of an attribute in the rows before a place, by rank
 pub record AreTallies (rows : DimRows) (attr : Attr) (place : ℕ) (tallies : List Tally) : Type 0 where
   pub count : length tallies ≡ length (attr_members rows attr)
   pub each : (rank : ℕ) → rank < length (attr_members rows attr)
       → IsTally (texts_of rows attr) place (slice_index_or (attr_members rows attr) rank [])
-      (slice_index_or tallies rank no_tally)
+      (slice_index_or tallies rank empty_tally)
 
 -- all of a text was written or the writer failed, or memory was refused before any of it was written
 abbrev pub WritesInMemory : Option (List ℕ) → Option (List ℕ) → Result Unit Fault → List ℕ → Type 0

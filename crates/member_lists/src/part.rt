@@ -1,6 +1,6 @@
 //! The fields of a line.
 ghost use Rattle.std.specs.Prelude.{◌++◌};
-ghost use Rattle.member_lists.specs.Parts.{part_text};
+ghost use Rattle.member_lists.specs.Parts.{member_part_text};
 ghost use Rattle.ssb_reports.specs.Report.{row_text};
 ghost use Rattle.ssb_reports.specs.Writing.{Writes};
 
@@ -16,7 +16,7 @@ pub(crate) enum Part<'d> {
 }
 
 impl<'d> Field for Part<'d> {
-    ghost text = { part_text };
+    ghost text = { member_part_text };
 
     fn write_to<W: Write>(&self, out: &mut W) -> Result<(), Fault> {
         match *self {

@@ -2,7 +2,7 @@
 ghost use Rattle.std.specs.Prelude.{◌≡◌, ◌<◌, ◌^◌, ◌+◌, ◌-◌, ◌==◌, cond, IfOk, IfErr, length, replicate};
 ghost use Rattle.cube_model.specs.Attributes.{axis_of};
 ghost use Rattle.cube_model.specs.Places.{attr_members, row_count_of};
-ghost use Rattle.member_lists.specs.Tallies.{AreTallies, no_tally};
+ghost use Rattle.member_lists.specs.Tallies.{AreTallies, empty_tally};
 
 use cube_model::{Attr, Fault};
 use dimensions::Dims;
@@ -43,7 +43,7 @@ pub(crate) fn tallies_of(alloc: Global, dims: &Dims, attr: Attr) -> Result<Vec<T
 
 // So many tallies of no rows.
 fn no_tallies(alloc: Global, count: usize) -> Result<Vec<Tally>, Fault>
-    ensures ok { IfOk result (λ tallies. tallies.items ≡ replicate count no_tally) }
+    ensures ok { IfOk result (λ tallies. tallies.items ≡ replicate count empty_tally) }
     ensures err { IfErr result (λ fault. fault ≡ Fault.Memory) }
 {
     let none = Tally { first: 0, rows: 0 };
@@ -52,7 +52,7 @@ fn no_tallies(alloc: Global, count: usize) -> Result<Vec<Tally>, Fault>
 
 // Counts the rows of the dimension of an attribute by their members, in one pass.
 fn count_rows(dims: &Dims, attr: Attr, tallies: &mut [Tally])
-    requires { tallies.old ≡ replicate (length (attr_members dims.now attr)) no_tally }
+    requires { tallies.old ≡ replicate (length (attr_members dims.now attr)) empty_tally }
     ensures { AreTallies dims.now attr (row_count_of dims.now (axis_of attr)) tallies.new }
 {
     for place in 0..dims.row_count(attr.axis()) {

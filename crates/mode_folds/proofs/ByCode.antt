@@ -16,9 +16,9 @@ use Rattle.dictionary.proofs.CallerLemmas.{bytes_eq-refl, bytes_eq-same, text_at
 use Rattle.dictionary.specs.Columns.{place_of}
 use Rattle.lattice.specs.declared.view.View.{View}
 use Rattle.cuboid_cells.specs.declared.cell.Cell.{Cell}
-use Rattle.cuboid_cells.specs.Cells.{AreProper, PlainCells, cell_at, number_of}
+use Rattle.cuboid_cells.specs.Cells.{AreProperCells, PlainCells, cell_at, key_as_number}
 use Rattle.cuboid_cells.specs.Steps.{cells_of}
-use Rattle.cuboid_upkeep.specs.Grouping.{RepresentRows, cell_over, key_of, rows_of}
+use Rattle.cuboid_upkeep.specs.Grouping.{RepresentRows, cell_over, key_of, rows_of_number}
 use Rattle.mode_folds.specs.Celling.{cells_at}
 use Rattle.mode_folds.specs.Parts.{AreOfMode, RepresentByMode, TakeByMode}
 use Rattle.mode_folds.proofs.Chosen.{filter_kept, kept_represent}
@@ -179,29 +179,31 @@ module _ (dimensions : DimRows) (texts : List (List ℕ)) (view : View) (rows : 
       ∙ represent.group number)
     where
       by : (rows : List LineOrder)
-          → ((number : ℕ) → None ≡ cell_over dimensions texts view (rows_of dimensions texts view number rows))
+          → ((number : ℕ) → None ≡ cell_over dimensions texts view (rows_of_number dimensions texts view number rows))
           → rows ≡ []
       by [] group = refl
       by (row ∷ rows) group =
-          let number = number_of (key_of dimensions texts view row) in
+          let number = key_as_number (key_of dimensions texts view row) in
           let own : (number == number) ≡ true = grind (arith, nat_tests) in
           let there = group number
-          ∙ ap (λ b. cell_over dimensions texts view (cond b (row ∷ rows_of dimensions texts view number rows)
-          (rows_of dimensions texts view number rows))) own in
+          ∙ ap (λ b. cell_over dimensions texts view (cond b (row ∷ rows_of_number dimensions texts view number rows)
+          (rows_of_number dimensions texts view number rows))) own in
           absurd (cc there)
 
 -- the part of one place
 module _ (dimensions : DimRows) (texts : List (List ℕ)) (plain : PlainCells) (grouped : plain.view.ship_mode ≡ true)
-    (proper : AreProper plain) (rows : List LineOrder) (represent : RepresentRows dimensions texts rows plain) where
-  pub part_represents : (place : ℕ) (part : PlainCells) → part ≡ cells_of plain.view (cells_at place plain.cells)
-      → RepresentRows dimensions texts (rows_at texts place rows) part
-  part_represents place part is =
-      subst (RepresentRows dimensions texts (rows_at texts place rows)) (sym is)
-      (kept_represent dimensions texts plain.view grouped (λ text. place_of texts text == place) (λ code. code == place)
-      (λ text mode. refl) rows plain.cells proper.fit represent)
+    (proper : AreProperCells plain) (rows : List LineOrder) (represent : RepresentRows dimensions texts rows plain)
+  where
+    pub part_represents : (place : ℕ) (part : PlainCells) → part ≡ cells_of plain.view (cells_at place plain.cells)
+        → RepresentRows dimensions texts (rows_at texts place rows) part
+    part_represents place part is =
+        subst (RepresentRows dimensions texts (rows_at texts place rows)) (sym is)
+        (kept_represent dimensions texts plain.view grouped (λ text. place_of texts text == place)
+        (λ code. code == place)
+        (λ text mode. refl) rows plain.cells proper.fit represent)
 
-  pub all_represented : (mode : List ℕ) → of_mode mode (rows_before texts (length texts) rows) ≡ of_mode mode rows
-  all_represented = all_places texts rows (λ k d lt. ((represent.known k d lt).ship_mode grouped).among)
+    pub all_represented : (mode : List ℕ) → of_mode mode (rows_before texts (length texts) rows) ≡ of_mode mode rows
+    all_represented = all_places texts rows (λ k d lt. ((represent.known k d lt).ship_mode grouped).among)
 
 pub own_part : (texts : List (List ℕ)) (rows : List LineOrder) (place : ℕ) (mode : List ℕ) → place < length texts
     → mode ≡ get_or texts place [] → AreOfMode mode (rows_at texts place rows)

@@ -13,10 +13,10 @@ use Rattle.dictionary.proofs.CallerLemmas.{text_at_place}
 use Rattle.dictionary.specs.Columns.{place_of}
 use Rattle.lattice.specs.declared.view.View.{View}
 use Rattle.cuboid_cells.specs.declared.cell.Cell.{Cell}
-use Rattle.cuboid_cells.specs.Cells.{AreProper, CellFits, IsCellOf, PlainCells, cell_at, number_of}
+use Rattle.cuboid_cells.specs.Cells.{AreProperCells, CellFits, IsCellOf, PlainCells, cell_at, key_as_number}
 use Rattle.cuboid_cells.specs.Steps.{cells_of}
 use Rattle.cuboid_upkeep.specs.Codes.{IsMode, mode_code}
-use Rattle.cuboid_upkeep.specs.Grouping.{HasMembers, RepresentRows, cell_over, key_of, rows_of}
+use Rattle.cuboid_upkeep.specs.Grouping.{HasMembers, RepresentRows, cell_over, key_of, rows_of_number}
 use Rattle.mode_folds.specs.Celling.{passes_at}
 use Rattle.mode_folds.proofs.Foldables.{fewer_filter}
 use Rattle.mode_queries.specs.Joining.{passing}
@@ -84,13 +84,13 @@ abbrev pub kept : (ℕ → Bool) → List Cell → List Cell
 kept q cells = filter (λ cell. q cell.key.ship_mode) cells
 
 -- cells that are kept keep the rules of a view
-pub kept_proper : (view : View) (q : ℕ → Bool) (cells : List Cell) → AreProper (cells_of view cells)
-    → AreProper (cells_of view (kept q cells))
+pub kept_proper : (view : View) (q : ℕ → Bool) (cells : List Cell) → AreProperCells (cells_of view cells)
+    → AreProperCells (cells_of view (kept q cells))
 kept_proper view q cells proper = record {
   rules = record {
     few = omega (arith, proper.rules.few, fewer_filter (λ (cell : Cell). q cell.key.ship_mode) cells);
     each = All-filter (λ cell. q cell.key.ship_mode) (IsCellOf view) cells proper.rules.each;
-    ascending = AllPairs-filter (λ one other. number_of one.key < number_of other.key)
+    ascending = AllPairs-filter (λ one other. key_as_number one.key < key_as_number other.key)
         (λ cell. q cell.key.ship_mode) cells proper.rules.ascending;
   };
   fit = All-filter (λ cell. q cell.key.ship_mode) CellFits cells proper.fit;
@@ -101,19 +101,19 @@ module _ (dimensions : DimRows) (modes : List (List ℕ)) (view : View) (grouped
     (p : List ℕ → Bool) (q : ℕ → Bool) (agree : (text : List ℕ) → IsMode modes text → q (place_of modes text) ≡ p text)
   where
     row_at : (front code : ℕ) → code < 65536 → (row : LineOrder) → HasMembers dimensions modes view row
-        → (number_of (key_of dimensions modes view row) == (front * 65536 + code)) ≡ true → p row.shipmode ≡ q code
+        → (key_as_number (key_of dimensions modes view row) == (front * 65536 + code)) ≡ true → p row.shipmode ≡ q code
     row_at front code low row has is =
         let mode = has.ship_mode grouped in
         let own : (key_of dimensions modes view row).ship_mode ≡ place_of modes row.shipmode =
         ap (λ b. mode_code b modes row.shipmode) grouped in
-        let same : number_of (key_of dimensions modes view row) ≡ front * 65536 + code = grind (arith, nat_tests) in
+        let same : key_as_number (key_of dimensions modes view row) ≡ front * 65536 + code = grind (arith, nat_tests) in
         let code_is : place_of modes row.shipmode ≡ code = omega (arith, same, own, low, mode.below) in
         sym (agree row.shipmode mode) ∙ ap q code_is
 
     cell_is : (front code : ℕ) → code < 65536 → (cell : Cell) → CellFits cell
-        → (number_of cell.key == (front * 65536 + code)) ≡ true → q cell.key.ship_mode ≡ q code
+        → (key_as_number cell.key == (front * 65536 + code)) ≡ true → q cell.key.ship_mode ≡ q code
     cell_is front code low cell fits is =
-        let same : number_of cell.key ≡ front * 65536 + code = grind (arith, nat_tests) in
+        let same : key_as_number cell.key ≡ front * 65536 + code = grind (arith, nat_tests) in
         let code_is : cell.key.ship_mode ≡ code = omega (arith, same, low, fits.key.ship_mode) in
         ap q code_is
 
@@ -124,16 +124,16 @@ module _ (dimensions : DimRows) (modes : List (List ℕ)) (view : View) (grouped
 
       by_parts : (front code : ℕ) → code < 65536
           → cell_at (front * 65536 + code) (kept q cells)
-          ≡ cell_over dimensions modes view (rows_of dimensions modes view (front * 65536 + code) own)
+          ≡ cell_over dimensions modes view (rows_of_number dimensions modes view (front * 65536 + code) own)
       by_parts front code low =
           let number = front * 65536 + code in
-          find_kept CellFits (λ cell. number_of cell.key == number) (λ cell. q cell.key.ship_mode) (q code)
+          find_kept CellFits (λ cell. key_as_number cell.key == number) (λ cell. q cell.key.ship_mode) (q code)
           (cell_is front code low) cells fit
           ∙ ap (λ o. cond (q code) o None) (represent.group number)
-          ∙ or_none (q code) (rows_of dimensions modes view number rows)
+          ∙ or_none (q code) (rows_of_number dimensions modes view number rows)
           ∙ ap (cell_over dimensions modes view)
           (sym (filter_kept (HasMembers dimensions modes view)
-          (λ row. number_of (key_of dimensions modes view row) == number) (λ row. p row.shipmode) (q code)
+          (λ row. key_as_number (key_of dimensions modes view row) == number) (λ row. p row.shipmode) (q code)
           (row_at front code low) rows represent.known))
         where
           or_none : (b : Bool) (some : List LineOrder) → cond b (cell_over dimensions modes view some) None
@@ -144,18 +144,18 @@ module _ (dimensions : DimRows) (modes : List (List ℕ)) (view : View) (grouped
       pub kept_represent : RepresentRows dimensions modes own (cells_of view (kept q cells))
       kept_represent = record {
         known = All-filter (λ row. p row.shipmode) (HasMembers dimensions modes view) rows represent.known;
-        ascending = AllPairs-filter (λ one other. number_of one.key < number_of other.key)
+        ascending = AllPairs-filter (λ one other. key_as_number one.key < key_as_number other.key)
             (λ cell. q cell.key.ship_mode) cells represent.ascending;
         group = λ number.
             let parts : number / 65536 * 65536 + number % 65536 ≡ number = omega (arith, mod-add-div' number 65536) in
             let low : number % 65536 < 65536 = omega arith in
             ap (λ n. cell_at n (kept q cells)) (sym parts) ∙ by_parts (number / 65536) (number % 65536) low
-            ∙ ap (λ n. cell_over dimensions modes view (rows_of dimensions modes view n own)) parts;
+            ∙ ap (λ n. cell_over dimensions modes view (rows_of_number dimensions modes view n own)) parts;
       }
 
 -- the cells whose ship modes pass conditions
 pub passing_represent : (dimensions : DimRows) (conditions : List ModeCond) (modes : List (List ℕ)) (plain : PlainCells)
-    (rows : List LineOrder) → plain.view.ship_mode ≡ true → AreProper plain
+    (rows : List LineOrder) → plain.view.ship_mode ≡ true → AreProperCells plain
     → RepresentRows dimensions modes rows plain
     → RepresentRows dimensions modes (passing conditions rows)
     (cells_of plain.view (kept (passes_at conditions modes) plain.cells))

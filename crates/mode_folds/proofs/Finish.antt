@@ -21,7 +21,7 @@ use Rattle.cube_model.specs.Orders.{in_order}
 use Rattle.cube_model.proofs.Entries.{entries_are}
 use Rattle.cube_query.specs.Groups.{FoldState, RepresentsRows}
 use Rattle.cube_query.specs.Limits.{AreFoldable}
-use Rattle.mode_folds.specs.Joining.{FoldParts, Holds, lines_of_entries}
+use Rattle.mode_folds.specs.Joining.{FoldParts, HasValues, lines_of_entries}
 use Rattle.mode_folds.specs.Parts.{HaveQuery, RepresentByMode}
 use Rattle.mode_folds.specs.States.{RepresentsModeRows, fold_of, rows_by_mode, rows_if, rows_together}
 use Rattle.mode_folds.proofs.Foldables.{foldable_filter}
@@ -50,7 +50,8 @@ entries-lines dimensions asked rows (key ∷ keys) =
 pub gathered : (dimensions : DimRows) (asked : ModeQuery) (place : ℕ) (rows : List LineOrder)
     (modes : List (List ℕ)) (lines : BTreeMap (List Member) (List Value)) → IsProperByModes asked
     → asked.place ≡ Some place → have_modes modes (passing asked.conditions rows) ≡ true → IsOrdered key_cmp lines
-    → Holds (values_of dimensions asked rows) (keys_by_mode dimensions asked.query place (passing asked.conditions rows)
+    → HasValues (values_of dimensions asked rows)
+    (keys_by_mode dimensions asked.query place (passing asked.conditions rows)
     modes ++ keys_of_all (has_coarser asked.query.kind) dimensions asked.query place (passing asked.conditions rows))
     lines
     → record { lines = lines_of_entries lines.entries } ≡ moded_answer asked dimensions rows
@@ -151,19 +152,19 @@ module _ (dimensions : DimRows) (query : Query) (place : ℕ) (rows : List LineO
   pub with_all : (new : BTreeMap (List Member) (List Value)) (kind : Kind) (found : Answer) → kind ≡ query.kind
       → found ≡ answer query dimensions rows → has_coarser query.kind ≡ true
       → HaveValues value (lines_of_all dimensions query place rows)
-      → (HaveValues value (joined_lines kind place None found.lines) → Holds value keys old
-      → Holds value (keys ++ joined_keys kind place None found.lines) new)
-      → Holds value keys old
-      → Holds value (keys ++ keys_of_all (has_coarser query.kind) dimensions query place rows) new
+      → (HaveValues value (joined_lines kind place None found.lines) → HasValues value keys old
+      → HasValues value (keys ++ joined_keys kind place None found.lines) new)
+      → HasValues value keys old
+      → HasValues value (keys ++ keys_of_all (has_coarser query.kind) dimensions query place rows) new
   with_all new kind found same is coarser values goes holds =
       let lines_are : joined_lines kind place None found.lines ≡ lines_of_all dimensions query place rows =
       (λ i. joined_lines (same i) place None (is i).lines) in
-      subst (λ b. Holds value (keys ++ keys_of_all b dimensions query place rows) new) (sym coarser)
-      (subst (λ l. Holds value (keys ++ map (λ line. line.key) l) new) lines_are
+      subst (λ b. HasValues value (keys ++ keys_of_all b dimensions query place rows) new) (sym coarser)
+      (subst (λ l. HasValues value (keys ++ map (λ line. line.key) l) new) lines_are
       (goes (subst (HaveValues value) (sym lines_are) values) holds))
 
-  pub without_all : has_coarser query.kind ≡ false → Holds value keys old
-      → Holds value (keys ++ keys_of_all (has_coarser query.kind) dimensions query place rows) old
+  pub without_all : has_coarser query.kind ≡ false → HasValues value keys old
+      → HasValues value (keys ++ keys_of_all (has_coarser query.kind) dimensions query place rows) old
   without_all none holds =
-      subst (λ b. Holds value (keys ++ keys_of_all b dimensions query place rows) old) (sym none)
-      (subst (λ l. Holds value l old) (sym (append-nil keys)) holds)
+      subst (λ b. HasValues value (keys ++ keys_of_all b dimensions query place rows) old) (sym none)
+      (subst (λ l. HasValues value l old) (sym (append-nil keys)) holds)

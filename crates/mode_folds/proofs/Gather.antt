@@ -17,7 +17,7 @@ use Rattle.cube_model.specs.declared.answer.Value.{Value}
 use Rattle.cube_model.specs.declared.query.Kind.{Kind}
 use Rattle.cube_model.specs.Keys.{key_cmp}
 use Rattle.cube_model.specs.Order.{key_cmp-IsAntisymmetric}
-use Rattle.mode_folds.specs.Joining.{Holds}
+use Rattle.mode_folds.specs.Joining.{HasValues}
 use Rattle.mode_queries.specs.Joining.{HaveValues, is_kept, joined_keys, joined_lines, member_of, with_member}
 
 pub is_some-map : {X Y : Type 0} (f : X → Y) (o : Option X) → is_some (option_map f o) ≡ is_some o
@@ -45,8 +45,8 @@ last_of p keys key = list_any-append p keys (key ∷ []) ∙ ap (λ b. list_any 
 
 -- with the value of one key more
 pub holds_more : (value : List Member → List Value) (keys : List (List Member)) (key : List Member)
-    (values : List Value) (old new : BTreeMap (List Member) (List Value)) → Holds value keys old
-    → values ≡ value key → Updates key_cmp old new key (Some values) → Holds value (keys ++ key ∷ []) new
+    (values : List Value) (old new : BTreeMap (List Member) (List Value)) → HasValues value keys old
+    → values ≡ value key → Updates key_cmp old new key (Some values) → HasValues value (keys ++ key ∷ []) new
 holds_more value keys key values old new holds is updates q =
     updates.0 q
     ∙ (elim (same key q) as (λ b. same key q ≡ b → cond b (Some values) (get key_cmp old q)
@@ -107,8 +107,8 @@ module _ (kind : Kind) (place : ℕ) (mode : Option (List ℕ)) where
   -- what is kept of the lines so far
   abbrev pub Gathers : BTreeMap (List Member) (List Value) → List Line → BTreeMap (List Member) (List Value) → Type 0
   Gathers initial yielded lines = (value : List Member → List Value) (keys : List (List Member))
-      → HaveValues value (joined_lines kind place mode yielded) → Holds value keys initial
-      → Holds value (keys ++ joined_keys kind place mode yielded) lines
+      → HaveValues value (joined_lines kind place mode yielded) → HasValues value keys initial
+      → HasValues value (keys ++ joined_keys kind place mode yielded) lines
 
   pub gathers_kept : (initial old new : BTreeMap (List Member) (List Value)) (yielded : List Line) (line : Line)
       (key : List Member) → Gathers initial yielded old → is_kept kind place (is_some mode) line.key ≡ true
@@ -118,10 +118,11 @@ module _ (kind : Kind) (place : ℕ) (mode : Option (List ℕ)) where
       let some = joined_lines kind place mode yielded in
       let whole = joined-last yielded line true kept in
       let all : HaveValues value (some ++ with_member place mode line ∷ []) = subst (HaveValues value) whole have in
-      subst (λ l. Holds value (keys ++ map (λ one. one.key) l) new) (sym whole)
-      (subst (λ l. Holds value (keys ++ l) new)
+      subst (λ l. HasValues value (keys ++ map (λ one. one.key) l) new) (sym whole)
+      (subst (λ l. HasValues value (keys ++ l) new)
       (sym (map-append (λ one. one.key) some (with_member place mode line ∷ [])))
-      (subst (λ l. Holds value l new) (append_assoc keys (map (λ one. one.key) some) ((with_member place mode line).key
+      (subst (λ l. HasValues value l new)
+      (append_assoc keys (map (λ one. one.key) some) ((with_member place mode line).key
       ∷ []))
       (holds_more value (keys ++ map (λ one. one.key) some) (with_member place mode line).key line.values old new
       (before value keys (first_values value some _ all) holds) (last_values value some _ all).0
@@ -134,5 +135,5 @@ module _ (kind : Kind) (place : ℕ) (mode : Option (List ℕ)) where
       let some = joined_lines kind place mode yielded in
       let whole : joined_lines kind place mode (yielded ++ line ∷ []) ≡ some =
       joined-last yielded line false kept ∙ append-nil some in
-      subst (λ l. Holds value (keys ++ map (λ one. one.key) l) old) (sym whole)
+      subst (λ l. HasValues value (keys ++ map (λ one. one.key) l) old) (sym whole)
       (before value keys (subst (HaveValues value) whole have) holds)

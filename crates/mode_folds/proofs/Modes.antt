@@ -15,7 +15,7 @@ use Rattle.cube_model.specs.declared.rows.LineOrder.{LineOrder}
 use Rattle.cube_model.specs.Answers.{answer}
 use Rattle.cube_query.specs.Groups.{FoldState, IsFoldable, RepresentsRows}
 use Rattle.cube_query.specs.Limits.{AreFoldable}
-use Rattle.mode_folds.specs.Joining.{FoldParts, Holds}
+use Rattle.mode_folds.specs.Joining.{FoldParts, HasValues}
 use Rattle.mode_folds.proofs.Foldables.{foldable_filter}
 use Rattle.mode_queries.specs.Joining.{HaveValues, joined_keys, joined_lines, keys_by_mode, lines_of_mode, of_mode}
 
@@ -67,11 +67,11 @@ module _ (dimensions : DimRows) (query : Query) (rows : List LineOrder) (modes :
         (old new : BTreeMap (List Member) (List Value))
         → AllByRecursion (λ m. HaveValues value (lines_of_mode dimensions query place rows m)) modes
         → ((have : HaveValues value (joined_lines kind place (Some mode) found.lines))
-        → Holds value (keys ++ keys_by_mode dimensions query place rows (take code modes)) old
-        → Holds value ((keys ++ keys_by_mode dimensions query place rows (take code modes))
+        → HasValues value (keys ++ keys_by_mode dimensions query place rows (take code modes)) old
+        → HasValues value ((keys ++ keys_by_mode dimensions query place rows (take code modes))
         ++ joined_keys kind place (Some mode) found.lines) new)
-        → Holds value (keys ++ keys_by_mode dimensions query place rows (take code modes)) old
-        → Holds value (keys ++ keys_by_mode dimensions query place rows (take (code + 1) modes)) new
+        → HasValues value (keys ++ keys_by_mode dimensions query place rows (take code modes)) old
+        → HasValues value (keys ++ keys_by_mode dimensions query place rows (take (code + 1) modes)) new
     next_lines value keys old new values goes holds =
         let done = keys_by_mode dimensions query place rows (take code modes) in
         let own = get_or modes code [] in
@@ -85,6 +85,6 @@ module _ (dimensions : DimRows) (query : Query) (rows : List LineOrder) (modes :
         (own ∷ [])
         ∙ ap (λ l. done ++ l) (append-nil (map (λ line. line.key) (lines_of_mode dimensions query place rows own))
         ∙ ap (map (λ line. line.key)) (sym lines_are)) in
-        subst (λ l. Holds value (keys ++ l) new) (sym last)
-        (subst (λ l. Holds value l new) (append_assoc keys done (joined_keys kind place (Some mode) found.lines))
+        subst (λ l. HasValues value (keys ++ l) new) (sym last)
+        (subst (λ l. HasValues value l new) (append_assoc keys done (joined_keys kind place (Some mode) found.lines))
         (goes have holds))

@@ -22,8 +22,8 @@ pub record FoldParts (dimensions : DimRows) (query : Query) (rows : List LineOrd
       × RepresentsRows dimensions (slice_index_or folds i fold) (of_mode (slice_index_or modes i mode) rows)
 
 -- a map has the value of each of some keys, and nothing else
-abbrev pub Holds : (List Member → List Value) → List (List Member) → BTreeMap (List Member) (List Value) → Type 0
-Holds value keys lines = (key : List Member)
+abbrev pub HasValues : (List Member → List Value) → List (List Member) → BTreeMap (List Member) (List Value) → Type 0
+HasValues value keys lines = (key : List Member)
     → get key_cmp lines key ≡ cond (list_any (eq_by_cmp key_cmp key) keys) (Some (value key)) None
 
 -- entries as lines

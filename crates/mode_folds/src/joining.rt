@@ -10,7 +10,7 @@ ghost use Rattle.cube_model.specs.declared.rows.LineOrder.{LineOrder};
 ghost use Rattle.cube_model.specs.Keys.{key_cmp};
 ghost use Rattle.cube_query.specs.Groups.{IsOver};
 ghost use Rattle.cube_query.specs.Limits.{AreFoldable};
-ghost use Rattle.mode_folds.specs.Joining.{FoldParts, Holds, lines_of_entries};
+ghost use Rattle.mode_folds.specs.Joining.{FoldParts, HasValues, lines_of_entries};
 ghost use Rattle.mode_folds.specs.Parts.{HaveQuery};
 ghost use Rattle.mode_folds.specs.States.{IsFoldableByModes, RepresentsModeRows, fold_of};
 ghost use Rattle.mode_queries.specs.Answers.{moded_answer};
@@ -89,8 +89,8 @@ fn join_modes(
     ensures ok { OnOk result ((query : Query) (rows : List LineOrder) (value : List Member → List Value)
         (keys : List (List Member)) → kind ≡ query.kind → FoldParts dims.now query rows modes.now.texts folds.now
         → AllByRecursion (λ mode. HaveValues value (lines_of_mode dims.now query place rows mode)) modes.now.texts
-        → Holds value keys lines.old
-        → Holds value (keys ++ keys_by_mode dims.now query place rows modes.now.texts) lines.new) }
+        → HasValues value keys lines.old
+        → HasValues value (keys ++ keys_by_mode dims.now query place rows modes.now.texts) lines.new) }
     ensures refused { result ≡ Err Fault.BadLayout → (query : Query) (rows : List LineOrder)
         → FoldParts dims.now query rows modes.now.texts folds.now → AreFoldable dims.now rows → ⊥ }
     ensures only { IfErr result (λ fault. (fault ≡ Fault.Memory) ⊎ (fault ≡ Fault.BadLayout)) }
@@ -119,8 +119,8 @@ fn join(
 ) -> Result<(), Fault>
     ensures ok { OnOk result ((value : List Member → List Value) (keys : List (List Member))
         → HaveValues value (joined_lines kind place (option_map (λ mode. mode.now) mode.entry) found.lines)
-        → Holds value keys lines.old
-        → Holds value (keys ++ joined_keys kind place (option_map (λ mode. mode.now) mode.entry) found.lines)
+        → HasValues value keys lines.old
+        → HasValues value (keys ++ joined_keys kind place (option_map (λ mode. mode.now) mode.entry) found.lines)
         lines.new) }
     ensures only { IfErr result (λ fault. fault ≡ Fault.Memory) }
 {

@@ -8,7 +8,7 @@ use Rattle.cube_model.specs.declared.attr.Attr.{Attr}
 use Rattle.cube_model.specs.declared.query.Kind.{Kind}
 use Rattle.cube_model.specs.declared.query.Kind.TheVariants.{Plain, Rollup, Cube}
 use Rattle.cube_model.specs.Keys.{GroupingSet, beginnings, grouping_sets, subsets}
-use Rattle.mode_queries.specs.Groupings.{beginnings_of, choices_of, grouping_sets_of}
+use Rattle.mode_queries.specs.Groupings.{beginnings_of, all_choices, grouping_sets_of}
 use Rattle.mode_queries.proofs.Tests.{any_map, any_none, or_false, or_swap}
 
 -- ---- by the number of columns
@@ -25,7 +25,7 @@ beginnings-of [] = refl
 beginnings-of (column ∷ columns) =
     λ i. (false ∷ none_of columns i) ∷ map (λ grouping. true ∷ grouping) (beginnings-of columns i)
 
-choices-of : (columns : List Attr) → subsets columns ≡ choices_of (length columns)
+choices-of : (columns : List Attr) → subsets columns ≡ all_choices (length columns)
 choices-of [] = refl
 choices-of (column ∷ columns) =
     λ i. map (λ grouping. true ∷ grouping) (choices-of columns i)
@@ -61,8 +61,9 @@ have_length Rollup zero = (refl, tt)
 have_length Rollup (suc n) = (replicate-length (suc n) false, longer true n (beginnings_of n) (have_length Rollup n))
 have_length Cube zero = (refl, tt)
 have_length Cube (suc n) =
-    both (suc n) (map (λ grouping. true ∷ grouping) (choices_of n)) (map (λ grouping. false ∷ grouping) (choices_of n))
-    (longer true n (choices_of n) (have_length Cube n)) (longer false n (choices_of n) (have_length Cube n))
+    both (suc n) (map (λ grouping. true ∷ grouping) (all_choices n))
+    (map (λ grouping. false ∷ grouping) (all_choices n))
+    (longer true n (all_choices n) (have_length Cube n)) (longer false n (all_choices n) (have_length Cube n))
 
 -- ---- with one column more
 -- a grouping set of the others is one of all with the column grouped, or with it not grouped
@@ -140,27 +141,27 @@ rollup_grows (suc n) (suc place) p le =
     middle false b c = refl
 
 cube_grows : (n place : ℕ) (p : GroupingSet → Bool) → place ≤ n
-    → list_any p (choices_of (suc n))
-    ≡ (any_grown Cube place true p (choices_of n) || any_grown Cube place false p (choices_of n))
+    → list_any p (all_choices (suc n))
+    ≡ (any_grown Cube place true p (all_choices n) || any_grown Cube place false p (all_choices n))
 cube_grows n zero p le =
-    list_any-append p (map (λ grouping. true ∷ grouping) (choices_of n))
-    (map (λ grouping. false ∷ grouping) (choices_of n))
-    ∙ (λ i. any_map p (λ grouping. true ∷ grouping) (choices_of n) i
-    || any_map p (λ grouping. false ∷ grouping) (choices_of n) i)
+    list_any-append p (map (λ grouping. true ∷ grouping) (all_choices n))
+    (map (λ grouping. false ∷ grouping) (all_choices n))
+    ∙ (λ i. any_map p (λ grouping. true ∷ grouping) (all_choices n) i
+    || any_map p (λ grouping. false ∷ grouping) (all_choices n) i)
 cube_grows zero (suc place) p le = absurd (omega (arith, le))
 cube_grows (suc n) (suc place) p le =
-    let half : Bool → Bool → Bool = λ own b. list_any (λ grouping. p (own ∷ insert grouping place b)) (choices_of n) in
+    let half : Bool → Bool → Bool = λ own b. list_any (λ grouping. p (own ∷ insert grouping place b)) (all_choices n) in
     let fit : place ≤ n = omega (arith, le) in
-    let split : (b : Bool) → any_grown Cube (suc place) b p (choices_of (suc n)) ≡ (half true b || half false b) = λ b.
-    list_any-append (λ grouping. p (insert grouping (suc place) b)) (map (λ grouping. true ∷ grouping) (choices_of n))
-    (map (λ grouping. false ∷ grouping) (choices_of n))
-    ∙ (λ i. any_map (λ grouping. p (insert grouping (suc place) b)) (λ grouping. true ∷ grouping) (choices_of n) i
-    || any_map (λ grouping. p (insert grouping (suc place) b)) (λ grouping. false ∷ grouping) (choices_of n) i) in
-    list_any-append p (map (λ grouping. true ∷ grouping) (choices_of (suc n)))
-    (map (λ grouping. false ∷ grouping) (choices_of (suc n)))
-    ∙ (λ i. (any_map p (λ grouping. true ∷ grouping) (choices_of (suc n))
+    let split : (b : Bool) → any_grown Cube (suc place) b p (all_choices (suc n)) ≡ (half true b || half false b) = λ b.
+    list_any-append (λ grouping. p (insert grouping (suc place) b)) (map (λ grouping. true ∷ grouping) (all_choices n))
+    (map (λ grouping. false ∷ grouping) (all_choices n))
+    ∙ (λ i. any_map (λ grouping. p (insert grouping (suc place) b)) (λ grouping. true ∷ grouping) (all_choices n) i
+    || any_map (λ grouping. p (insert grouping (suc place) b)) (λ grouping. false ∷ grouping) (all_choices n) i) in
+    list_any-append p (map (λ grouping. true ∷ grouping) (all_choices (suc n)))
+    (map (λ grouping. false ∷ grouping) (all_choices (suc n)))
+    ∙ (λ i. (any_map p (λ grouping. true ∷ grouping) (all_choices (suc n))
     ∙ cube_grows n place (λ grouping. p (true ∷ grouping)) fit) i
-    || (any_map p (λ grouping. false ∷ grouping) (choices_of (suc n))
+    || (any_map p (λ grouping. false ∷ grouping) (all_choices (suc n))
     ∙ cube_grows n place (λ grouping. p (false ∷ grouping)) fit) i)
     ∙ or_swap (half true true) (half true false) (half false true) (half false false)
     ∙ (λ i. sym (split true) i || sym (split false) i)

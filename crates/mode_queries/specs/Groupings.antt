@@ -11,12 +11,12 @@ beginnings_of zero = [] ∷ []
 beginnings_of (suc n) = replicate (suc n) false ∷ map (λ grouping. true ∷ grouping) (beginnings_of n)
 
 -- all choices among so many columns
-abbrev pub choices_of : ℕ → List GroupingSet
-choices_of zero = [] ∷ []
-choices_of (suc n) = map (λ grouping. true ∷ grouping) (choices_of n)
-    ++ map (λ grouping. false ∷ grouping) (choices_of n)
+abbrev pub all_choices : ℕ → List GroupingSet
+all_choices zero = [] ∷ []
+all_choices (suc n) = map (λ grouping. true ∷ grouping) (all_choices n)
+    ++ map (λ grouping. false ∷ grouping) (all_choices n)
 
 abbrev pub grouping_sets_of : Kind → ℕ → List GroupingSet
 grouping_sets_of Plain n = replicate n true ∷ []
 grouping_sets_of Rollup n = beginnings_of n
-grouping_sets_of Cube n = choices_of n
+grouping_sets_of Cube n = all_choices n

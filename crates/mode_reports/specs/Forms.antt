@@ -4,6 +4,6 @@ use Rattle.mode_reports.specs.declared.form.Form.{Form}
 use Rattle.mode_reports.specs.declared.form.Form.TheVariants.{ByModes, Plain}
 
 -- the answer
-abbrev pub answer_in : Form → Answer
-answer_in (Plain found) = found
-answer_in (ByModes found) = found
+abbrev pub answer_of_form : Form → Answer
+answer_of_form (Plain found) = found
+answer_of_form (ByModes found) = found

@@ -5,6 +5,6 @@ use Rattle.mode_folds.specs.Answered.{lines_in}
 use Rattle.mode_reports.specs.declared.reported.ReportedLines.{ReportedLines}
 use Rattle.mode_reports.specs.declared.reported.ReportedLines.TheVariants.{ByModes, Plain}
 
-abbrev pub lines_of : ReportedLines → List Line
-lines_of (Plain found) = found
-lines_of (ByModes found) = lines_in found
+abbrev pub reported_lines : ReportedLines → List Line
+reported_lines (Plain found) = found
+reported_lines (ByModes found) = lines_in found

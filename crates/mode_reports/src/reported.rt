@@ -1,6 +1,6 @@
 //! An answer that was found, of whose lines none is made before they are asked for.
 ghost use Rattle.std.specs.Prelude.{◌≡◌};
-ghost use Rattle.mode_reports.specs.Lines.{lines_of};
+ghost use Rattle.mode_reports.specs.Lines.{reported_lines};
 
 use crate::form::Form;
 use cube_model::{Fault, Value};
@@ -26,11 +26,11 @@ impl Drop for Reported {
 
 impl Model for Reported {
     ghost use Rattle.cube_model.specs.declared.answer.Answer.{Answer};
-    ghost use Rattle.mode_reports.specs.Forms.{answer_in};
+    ghost use Rattle.mode_reports.specs.Forms.{answer_of_form};
 
     ghost Value = { Answer };
 
-    ghost view = { λ reported. answer_in reported.form };
+    ghost view = { λ reported. answer_of_form reported.form };
 }
 
 impl Reported {
@@ -54,7 +54,7 @@ impl Reported {
 
     /// The lines of the answer.
     pub fn lines(&self) -> ReportedLines<'_>
-        ensures { lines_of result ≡ self.now.lines }
+        ensures { reported_lines result ≡ self.now.lines }
     {
         match &self.form {
             Form::Plain(found) => ReportedLines::Plain(found.lines()),
@@ -71,7 +71,7 @@ pub enum ReportedLines<'a> {
 }
 
 impl<'a> Lines for ReportedLines<'a> {
-    ghost lines = { lines_of };
+    ghost lines = { reported_lines };
 
     fn count(&self) -> usize {
         match self {

@@ -15,14 +15,14 @@ use Rattle.object_store.specs.Content.{Content}
 use Rattle.object_store.specs.Commit.{put_all}
 use Rattle.object_store.specs.Places.{bytes_at, extents_of, object_at, objects_at}
 use Rattle.object_store.specs.Shows.{Spells, ShowsBy}
-use Rattle.object_store.specs.Publish.{written_by, slot_of, IsPlan, HasWritten}
+use Rattle.object_store.specs.Publish.{written_by, plan_slot, IsPlanForPuts, HasWritten}
 use Rattle.object_store.proofs.Lists.{map-put_each}
 use Rattle.object_store.proofs.Extents.{held_in_range}
 use Rattle.object_store.specs.Frames.{objects_same}
 
 module _ (size : ℕ) (was image : Image) (used : List Extent) (kept : List Entry) (puts : List (ℕ × List ℕ))
     (root : List ℕ) (generation layout : ℕ) (plan : CommitPlan)
-    (planned : IsPlan size used kept puts root generation layout plan) (has : HasWritten plan puts was image)
+    (planned : IsPlanForPuts size used kept puts root generation layout plan) (has : HasWritten plan puts was image)
     (in_range : All (IsInRange size) used) (in_use : (i : ℕ) → SomeHolds (extents_of kept) i → SomeHolds used i) where
   -- a sector in use is as it was
   still : (i : ℕ) → SomeHolds used i → image i ≡ was i
@@ -55,24 +55,25 @@ module _ (size : ℕ) (was image : Image) (used : List Extent) (kept : List Entr
     }
 
     -- where each other valid superblock is of an earlier generation
-    pub shows : ((slot : ℕ) → slot < 2 → slot ≢ slot_of plan → (other : Super) → IsSuperblock slot (was slot) other
+    pub shows : ((slot : ℕ) → slot < 2 → slot ≢ plan_slot plan → (other : Super) → IsSuperblock slot (was slot) other
         → other.generation ≤ plan.superblock.generation) → ShowsBy size image c plan.superblock plan.entries.items
     shows older = record {
       in_slot = subst (λ (n : ℕ). IsSuperblock (n % 2) (image (n % 2)) plan.superblock)
           (planned.numbered ∙ sym numbered) (record { spelled = has.block; proper = planned.proper; in_slot = refl });
-      newest = λ slot lt other is. newest slot lt other is (cases_eq slot (slot_of plan));
+      newest = λ slot lt other is. newest slot lt other is (cases_eq slot (plan_slot plan));
       spells = spells;
     }
       where
-        newest : (slot : ℕ) → slot < 2 → (other : Super) → IsSuperblock slot (image slot) other → (slot ≡ slot_of plan)
-            ⊎ (slot ≡ slot_of plan → ⊥) → other.generation ≤ c.generation
+        newest : (slot : ℕ) → slot < 2 → (other : Super) → IsSuperblock slot (image slot) other
+            → (slot ≡ plan_slot plan)
+            ⊎ (slot ≡ plan_slot plan → ⊥) → other.generation ≤ c.generation
         newest slot lt other is (inl e) =
             let here : IsSuperblock slot (sector_of plan.superblock) other =
             subst (λ (x : List ℕ). IsSuperblock slot x other) (ap image e ∙ has.block) is in
-            let own : IsSuperblock (slot_of plan) (sector_of plan.superblock) plan.superblock =
+            let own : IsSuperblock (plan_slot plan) (sector_of plan.superblock) plan.superblock =
             record { spelled = refl; proper = planned.proper; in_slot = refl } in
             let same : other ≡ plan.superblock =
-            IsSuperblock-one slot (slot_of plan) (sector_of plan.superblock) other plan.superblock here own in
+            IsSuperblock-one slot (plan_slot plan) (sector_of plan.superblock) other plan.superblock here own in
             omega (arith, ap (λ (s : Super). s.generation) same, planned.numbered, numbered)
         newest slot lt other is (inr ne) =
             let as_it_was : image slot ≡ was slot =

@@ -3,11 +3,12 @@ use Rattle.std.proofs.Common.{◌≡◌, ℕ, ◌+◌, ◌*◌, List, [], ◌∷
 use Rattle.std.proofs.Common.{length-append, append-nil}
 use Rattle.std.specs.List.{flat_map}
 use Rattle.object_store.specs.declared.catalogue.entry.Entry.{Entry}
-use Rattle.object_store.specs.Catalogue.{AreAscending, IsCatalogue, IsProperEntry, catalogue_of, entry_of, header_of}
-use Rattle.object_store.specs.CatalogueReading.{IsHeaderOf, ReadsEntries, ReadsHeader}
+use Rattle.object_store.specs.Catalogue.{IdsAscend, IsCatalogue, IsProperEntry, catalogue_of, entry_of}
+use Rattle.object_store.specs.Catalogue.{catalogue_header}
+use Rattle.object_store.specs.CatalogueReading.{IsCatalogueHeader, ReadsEntries, ReadsCatalogueHeader}
 use Rattle.object_store.proofs.Catalogues.{entries-one, entries_fit, header_of-one, length-entries, root_fits}
 
-module _ (bytes mid : List ℕ) (count root_bytes : ℕ) (header : ReadsHeader bytes mid count root_bytes) where
+module _ (bytes mid : List ℕ) (count root_bytes : ℕ) (header : ReadsCatalogueHeader bytes mid count root_bytes) where
   -- the header of a catalogue is the one that was read
   pub header_is : (entries : List Entry) (root : List ℕ) → IsCatalogue bytes entries root
       → (count ≡ length entries) × (root_bytes ≡ length root) × (mid ≡ flat_map entry_of entries ++ root)
@@ -28,7 +29,7 @@ module _ (bytes mid : List ℕ) (count root_bytes : ℕ) (header : ReadsHeader b
 
   -- the header of a catalogue keeps its rules
   pub is_of : (entries : List Entry) (root : List ℕ) → IsCatalogue bytes entries root
-      → IsHeaderOf (length bytes) count root_bytes
+      → IsCatalogueHeader (length bytes) count root_bytes
   is_of entries root is =
       let same = header_is entries root is in record {
         most_entries = omega (arith, same.0, is.proper.most_entries);
@@ -45,7 +46,7 @@ module _ (bytes mid : List ℕ) (count root_bytes : ℕ) (header : ReadsHeader b
 
   -- the bytes after the entries
   pub root_left : (rest : List ℕ) (read : List Entry) → ReadsEntries count mid rest read
-      → IsHeaderOf (length bytes) count root_bytes → length rest ≡ root_bytes
+      → IsCatalogueHeader (length bytes) count root_bytes → length rest ≡ root_bytes
   root_left rest read reads proper =
       let all : length mid ≡ length (flat_map entry_of read) + length rest = ap length reads.spelled
       ∙ length-append (flat_map entry_of read) rest in
@@ -53,8 +54,8 @@ module _ (bytes mid : List ℕ) (count root_bytes : ℕ) (header : ReadsHeader b
 
   -- what keeps the rules is a catalogue
   pub is_catalogue : (rest left root : List ℕ) (read : List Entry) → ReadsEntries count mid rest read
-      → IsHeaderOf (length bytes) count root_bytes
-      → rest ≡ root ++ left → length root ≡ root_bytes → All IsProperEntry read → AreAscending read
+      → IsCatalogueHeader (length bytes) count root_bytes
+      → rest ≡ root ++ left → length root ≡ root_bytes → All IsProperEntry read → IdsAscend read
       → IsCatalogue bytes read root
   is_catalogue rest left root read reads proper split is_root each ascending =
       let all : length rest ≡ root_bytes = root_left rest read reads proper in
@@ -65,9 +66,9 @@ module _ (bytes mid : List ℕ) (count root_bytes : ℕ) (header : ReadsHeader b
       ] none in
       let is_rest : rest ≡ root = split ∙ ap (λ (xs : List ℕ). root ++ xs) empty ∙ append-nil root in
       let said : bytes ≡ catalogue_of read root =
-      header.spelled ∙ ap (λ (n : ℕ). header_of n root_bytes ++ mid) (sym reads.many)
-      ∙ ap (λ (n : ℕ). header_of (length read) n ++ mid) (sym is_root)
-      ∙ ap (λ (xs : List ℕ). header_of (length read) (length root) ++ xs)
+      header.spelled ∙ ap (λ (n : ℕ). catalogue_header n root_bytes ++ mid) (sym reads.many)
+      ∙ ap (λ (n : ℕ). catalogue_header (length read) n ++ mid) (sym is_root)
+      ∙ ap (λ (xs : List ℕ). catalogue_header (length read) (length root) ++ xs)
       (reads.spelled ∙ ap (λ (xs : List ℕ). flat_map entry_of read ++ xs) is_rest) in record {
         spelled = said;
         proper = record {

@@ -10,8 +10,8 @@ use Rattle.std.specs.Str.{bytes_eq}
 use Rattle.wire.specs.Spelling.{spelling}
 use Rattle.wire.specs.Reading.{ReadsNumber, TakesBytes}
 use Rattle.object_store.specs.declared.catalogue.entry.Entry.{Entry}
-use Rattle.object_store.specs.Catalogue.{FitsFields, entry_of, header_of}
-use Rattle.object_store.specs.CatalogueReading.{ReadsEntries, ReadsEntry, ReadsHeader}
+use Rattle.object_store.specs.Catalogue.{FitsFields, entry_of, catalogue_header}
+use Rattle.object_store.specs.CatalogueReading.{ReadsEntries, ReadsEntry, ReadsCatalogueHeader}
 use Rattle.object_store.proofs.Catalogues.{header_of-append, length-header_of}
 
 -- bytes that a comparison found to differ, or found to be the same
@@ -27,21 +27,21 @@ name_is_same a b r is alike =
 
 -- fewer bytes than a header has
 pub too_short : (old : List ℕ) (entries root : ℕ) (rest : List ℕ) → length old < 12
-    → old ≡ header_of entries root ++ rest → ⊥
+    → old ≡ catalogue_header entries root ++ rest → ⊥
 too_short old entries root rest short is =
-    let long : length old ≡ 12 + length rest = ap length is ∙ length-append (header_of entries root) rest
+    let long : length old ≡ 12 + length rest = ap length is ∙ length-append (catalogue_header entries root) rest
     ∙ ap (λ (n : ℕ). n + length rest) (length-header_of entries root) in omega arith
 
 -- the first four bytes of a header
 pub name_of : (old new part : List ℕ) (entries root : ℕ) (rest : List ℕ) → TakesBytes 4 old new part
-    → old ≡ header_of entries root ++ rest → part ≡ codes "CAT1"
+    → old ≡ catalogue_header entries root ++ rest → part ≡ codes "CAT1"
 name_of old new part entries root rest taken is =
     sym (take-append_seam part new) ∙ ap (λ (n : ℕ). take n (part ++ new)) taken.many
     ∙ ap (take 4) (sym taken.spelled ∙ is)
 
 -- the name and two numbers are a header
 pub header_read : (old r0 r1 new part : List ℕ) (entries root : ℕ) → TakesBytes 4 old r0 part → part ≡ codes "CAT1"
-    → ReadsNumber 4 r0 r1 entries → ReadsNumber 4 r1 new root → ReadsHeader old new entries root
+    → ReadsNumber 4 r0 r1 entries → ReadsNumber 4 r1 new root → ReadsCatalogueHeader old new entries root
 header_read old r0 r1 new part entries root taken name one two = record {
   entries_fit = one.fits;
   root_fits = two.fits;

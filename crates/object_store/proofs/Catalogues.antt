@@ -7,7 +7,8 @@ use Rattle.std.specs.List.{flat_map}
 use Rattle.wire.specs.Spelling.{spelling}
 use Rattle.wire.proofs.CallerLemmas.{length-spelling, spelling-one}
 use Rattle.object_store.specs.declared.catalogue.entry.Entry.{Entry}
-use Rattle.object_store.specs.Catalogue.{FitsFields, IsCatalogue, IsProper, catalogue_of, entry_of, header_of}
+use Rattle.object_store.specs.Catalogue.{FitsFields, IsCatalogue, IsProperCatalogue, catalogue_of, entry_of}
+use Rattle.object_store.specs.Catalogue.{catalogue_header}
 
 -- an entry has 16 bytes
 pub length-entry_of : (entry : Entry) → length (entry_of entry) ≡ 16
@@ -27,7 +28,7 @@ length-entries (entry ∷ entries) =
     )
 
 -- a header has 12 bytes
-pub length-header_of : (entries root : ℕ) → length (header_of entries root) ≡ 12
+pub length-header_of : (entries root : ℕ) → length (catalogue_header entries root) ≡ 12
 length-header_of entries root =
     omega (
       arith,
@@ -43,7 +44,7 @@ pub length-catalogue_of : (entries : List Entry) (root : List ℕ)
 length-catalogue_of entries root =
     omega (
       arith,
-      length-append (header_of (length entries) (length root)) (flat_map entry_of entries ++ root),
+      length-append (catalogue_header (length entries) (length root)) (flat_map entry_of entries ++ root),
       length-append (flat_map entry_of entries) root,
       length-header_of (length entries) (length root),
       length-entries entries,
@@ -51,7 +52,7 @@ length-catalogue_of entries root =
 
 -- the parts of a header, one after the other
 pub header_of-append : (entries root : ℕ) (rest : List ℕ)
-    → header_of entries root ++ rest ≡ codes "CAT1" ++ (spelling 4 entries ++ (spelling 4 root ++ rest))
+    → catalogue_header entries root ++ rest ≡ codes "CAT1" ++ (spelling 4 entries ++ (spelling 4 root ++ rest))
 header_of-append entries root rest =
     append_assoc (codes "CAT1") (spelling 4 entries ++ spelling 4 root) rest
     ∙ ap (λ (part : List ℕ). codes "CAT1" ++ part) (append_assoc (spelling 4 entries) (spelling 4 root) rest)
@@ -73,7 +74,8 @@ made_of one other same1 same2 same3 =
 -- bytes begin with one header at most
 pub header_of-one : (entries root others other : ℕ) (xs ys : List ℕ) → entries < 2 ^ 32 → root < 2 ^ 32
     → others < 2 ^ 32 → other < 2 ^ 32
-    → header_of entries root ++ xs ≡ header_of others other ++ ys → (entries ≡ others) × (root ≡ other) × (xs ≡ ys)
+    → catalogue_header entries root ++ xs ≡ catalogue_header others other ++ ys → (entries ≡ others) × (root ≡ other)
+    × (xs ≡ ys)
 header_of-one entries root others other xs ys fit1 fit2 fit3 fit4 same =
     let parts : codes "CAT1" ++ (spelling 4 entries ++ (spelling 4 root ++ xs)) ≡ codes "CAT1"
     ++ (spelling 4 others ++ (spelling 4 other ++ ys)) =
@@ -113,10 +115,10 @@ entries-one (entry ∷ entries) (other ∷ others) xs ys fit others_fit many sam
     (rw (first.0, rest.0) refl, rest.1)
 
 -- the numbers of a proper catalogue fit its header
-pub entries_fit : (entries : List Entry) (root : List ℕ) → IsProper entries root → length entries < 2 ^ 32
+pub entries_fit : (entries : List Entry) (root : List ℕ) → IsProperCatalogue entries root → length entries < 2 ^ 32
 entries_fit entries root proper = omega (arith, proper.most_entries)
 
-pub root_fits : (entries : List Entry) (root : List ℕ) → IsProper entries root → length root < 2 ^ 32
+pub root_fits : (entries : List Entry) (root : List ℕ) → IsProperCatalogue entries root → length root < 2 ^ 32
 root_fits entries root proper = omega (arith, proper.most_root)
 
 -- bytes are one catalogue at most

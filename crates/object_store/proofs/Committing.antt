@@ -11,15 +11,15 @@ use Rattle.object_store.specs.declared.catalogue.entry.Entry.{Entry}
 use Rattle.object_store.specs.Catalogue as catalogues
 use Rattle.object_store.specs.declared.plan.CommitPlan.{CommitPlan}
 use Rattle.object_store.specs.Content.{Content}
-use Rattle.object_store.specs.Commit.{IsFew, committed, put_all, drop_all, put_each, drop_each, size_of}
+use Rattle.object_store.specs.Commit.{IsFew, committed, put_all, drop_all, put_each, drop_each, put_size}
 use Rattle.object_store.specs.Places.{extents_of, object_at, objects_at, size_at, sizes_at, used_by}
 use Rattle.object_store.specs.Shows.{ShowsBy}
 use Rattle.object_store.specs.Disk.{Disk, ShowsSome, Leaves}
-use Rattle.object_store.specs.Room.{LacksPlaces, LacksRoom, asked_for, empty_room}
+use Rattle.object_store.specs.Room.{LacksPlaces, LacksRoom, sectors_asked_for, empty_room}
 use Rattle.wire.specs.Limits.{most_objects}
 use Rattle.extents.specs.declared.extent.Extent.{Extent}
-use Rattle.object_store.specs.Ready.{content_from, IsKept, IsReady}
-use Rattle.object_store.specs.Publish.{written_by, slot_of, IsPlan, IsUnchangedOutside, HasWritten, IsEither}
+use Rattle.object_store.specs.Ready.{content_from, KeepsLayout, IsReady}
+use Rattle.object_store.specs.Publish.{written_by, plan_slot, IsPlanForPuts, IsUnchangedOutside, HasWritten, IsEither}
 use Rattle.object_store.specs.Store.{IsOneOf}
 use Rattle.object_store.proofs.Lists.{map-put_each, map-drop_each}
 use Rattle.object_store.proofs.Extents.{held_drop_each}
@@ -60,18 +60,18 @@ module _ (puts : List (ℕ × List ℕ)) (drops root : List ℕ) (layout : ℕ) 
 
 -- whichever the bytes, there are as many objects
 pub few_same : (image : Image) (entries : List Entry) (puts : List (ℕ × List ℕ)) (drops : List ℕ)
-    → length (put_each (λ o. o.0) (map size_of puts) (sizes_at (drop_each (λ e. e.id) drops entries)))
+    → length (put_each (λ o. o.0) (map put_size puts) (sizes_at (drop_each (λ e. e.id) drops entries)))
     ≡ length (put_all puts (drop_all drops (objects_at image entries)))
 few_same image entries puts drops =
     let key : ℕ × List ℕ → ℕ = λ o. o.0 in
     let sizes : List (ℕ × ℕ) =
-    put_each (λ o. o.0) (map size_of puts) (sizes_at (drop_each (λ e. e.id) drops entries)) in
+    put_each (λ o. o.0) (map put_size puts) (sizes_at (drop_each (λ e. e.id) drops entries)) in
     let ids : List ℕ = put_each (λ n. n) (map (λ o. o.0) puts) (drop_each (λ n. n) drops (map (λ e. e.id) entries)) in
     let of_sizes : map (λ o. o.0) sizes ≡ ids =
-    map-put_each (λ (o : ℕ × ℕ). o.0) (λ (o : ℕ × ℕ). o.0) (λ (n : ℕ). n) (λ o. refl) (map size_of puts)
+    map-put_each (λ (o : ℕ × ℕ). o.0) (λ (o : ℕ × ℕ). o.0) (λ (n : ℕ). n) (λ o. refl) (map put_size puts)
     (sizes_at (drop_each (λ e. e.id) drops entries))
     ∙ ap (λ (l : List ℕ). put_each (λ n. n) l (map (λ o. o.0) (sizes_at (drop_each (λ e. e.id) drops entries))))
-    (twice size_of (λ (o : ℕ × ℕ). o.0) puts)
+    (twice put_size (λ (o : ℕ × ℕ). o.0) puts)
     ∙ ap (λ (l : List ℕ). put_each (λ n. n) (map (λ o. o.0) puts) l)
     (twice size_at (λ (o : ℕ × ℕ). o.0) (drop_each (λ e. e.id) drops entries)
     ∙ map-drop_each (λ (e : Entry). e.id) (λ (e : Entry). e.id) (λ (n : ℕ). n) (λ e. refl) drops entries) in
@@ -91,17 +91,17 @@ few_same image entries puts drops =
 
 -- a commit, from a device that shows a content
 module _ (s0 : DeviceState) (super : Super) (entries : List Entry) (root0 : List ℕ)
-    (kept : IsKept s0.size super entries root0)
+    (kept : KeepsLayout s0.size super entries root0)
     (puts : List (ℕ × List ℕ)) (drops root : List ℕ) (layout : ℕ) (plan : CommitPlan)
-    (planned : IsPlan super.sectors (used_by super entries) (drop_each (λ e. e.id) drops entries) puts root
+    (planned : IsPlanForPuts super.sectors (used_by super entries) (drop_each (λ e. e.id) drops entries) puts root
     (super.generation + 1) layout plan) where
   abbrev pub c0 : Content
   c0 = content_from s0.reads super entries root0
 
-  plan_here : IsPlan s0.size (used_by super entries) (drop_each (λ e. e.id) drops entries) puts root
+  plan_here : IsPlanForPuts s0.size (used_by super entries) (drop_each (λ e. e.id) drops entries) puts root
       (super.generation + 1) layout plan
   plan_here =
-      subst (λ (n : ℕ). IsPlan n (used_by super entries) (drop_each (λ e. e.id) drops entries) puts root
+      subst (λ (n : ℕ). IsPlanForPuts n (used_by super entries) (drop_each (λ e. e.id) drops entries) puts root
       (super.generation + 1) layout plan) kept.sized planned
 
   in_use : (i : ℕ) → SomeHolds (extents_of (drop_each (λ e. e.id) drops entries)) i
@@ -112,18 +112,19 @@ module _ (s0 : DeviceState) (super : Super) (entries : List Entry) (root0 : List
   left = map-drop_each (object_at s0.reads) (λ (e : Entry). e.id) (λ (o : ℕ × List ℕ). o.0) (λ e. refl) drops entries
 
   -- what is kept in memory afterwards
-  pub kept_after : (size : ℕ) → size ≡ s0.size → IsKept size plan.superblock plan.entries.items plan.root.items
-  kept_after size same = subst (λ (n : ℕ). IsKept n plan.superblock plan.entries.items plan.root.items) (sym same)
+  pub kept_after : (size : ℕ) → size ≡ s0.size → KeepsLayout size plan.superblock plan.entries.items plan.root.items
+  kept_after size same = subst (λ (n : ℕ). KeepsLayout n plan.superblock plan.entries.items plan.root.items) (sym same)
       (record {
         sized = plan_here.sized;
         proper = plan_here.proper;
-        proper_catalogue = subst (λ (r : List ℕ). catalogues.IsProper plan.entries.items r) (sym plan_here.same_root)
+        proper_catalogue =
+            subst (λ (r : List ℕ). catalogues.IsProperCatalogue plan.entries.items r) (sym plan_here.same_root)
             plan_here.spelled.proper;
         laid_out = plan_here.laid_out;
       })
 
   module _ (ready : IsReady s0 super entries root0) where
-    older : (slot : ℕ) → slot < 2 → slot ≢ slot_of plan → (other : Super) → IsSuperblock slot (s0.reads slot) other
+    older : (slot : ℕ) → slot < 2 → slot ≢ plan_slot plan → (other : Super) → IsSuperblock slot (s0.reads slot) other
         → other.generation ≤ plan.superblock.generation
     older slot lt ne other is =
         let before : other.generation ≤ super.generation = ready.shows.newest slot lt other is in
@@ -192,7 +193,7 @@ module _ (s0 : DeviceState) (super : Super) (entries : List Entry) (root0 : List
 pub few_commit : (image : Image) (super : Super) (entries : List Entry) (root0 : List ℕ) (puts : List (ℕ × List ℕ))
     (drops root : List ℕ) (layout : ℕ)
     → IsFew (committed puts drops root layout (content_from image super entries root0))
-    → length (put_each (λ o. o.0) (map size_of puts) (sizes_at (drop_each (λ e. e.id) drops entries))) ≤ most_objects
+    → length (put_each (λ o. o.0) (map put_size puts) (sizes_at (drop_each (λ e. e.id) drops entries))) ≤ most_objects
 few_commit image super entries root0 puts drops root layout few =
     let parts : length (committed puts drops root layout (content_from image super entries root0)).objects
     ≡ length (put_all puts (drop_all drops (objects_at image entries))) =
@@ -203,9 +204,9 @@ few_commit image super entries root0 puts drops root layout few =
 
 -- the calls of a commit, as moments
 pub commit_leaves : (d0 d1 : Disk) (super : Super) (entries : List Entry) (root0 : List ℕ)
-    → IsKept d0.state.size super entries root0
+    → KeepsLayout d0.state.size super entries root0
     → (puts : List (ℕ × List ℕ)) (drops root : List ℕ) (layout : ℕ) (plan : CommitPlan)
-    → IsPlan super.sectors (used_by super entries) (drop_each (λ e. e.id) drops entries) puts root
+    → IsPlanForPuts super.sectors (used_by super entries) (drop_each (λ e. e.id) drops entries) puts root
     (super.generation + 1) layout plan → (d1.keeps_word → d0.keeps_word) → d1.state.size ≡ d0.state.size
     → (d0.keeps_word → IsReady d0.state super entries root0)
     → (d1.keeps_word → LeavesOnly d0.state d1.state (IsEither plan puts d0.state.reads))
@@ -222,14 +223,14 @@ commit_leaves d0 d1 super entries root0 kept puts drops root layout plan planned
 -- the first fits fail
 pub lacks_room : (sectors : ℕ) (used : List Extent) (entries : List Entry) (puts : List (ℕ × List ℕ))
     (drops root : List ℕ)
-    → LacksPlaces sectors used (asked_for (sizes_at (drop_each (λ e. e.id) drops entries)) puts root)
+    → LacksPlaces sectors used (sectors_asked_for (sizes_at (drop_each (λ e. e.id) drops entries)) puts root)
     → LacksRoom (record { sectors = sectors; used = used; sizes = sizes_at entries }) puts drops root
 unfolding LacksRoom
 lacks_room sectors used entries puts drops root lacks =
-    subst (λ (l : List (ℕ × ℕ)). LacksPlaces sectors used (asked_for l puts root))
+    subst (λ (l : List (ℕ × ℕ)). LacksPlaces sectors used (sectors_asked_for l puts root))
     (map-drop_each size_at (λ (e : Entry). e.id) (λ (o : ℕ × ℕ). o.0) (λ e. refl) drops entries) lacks
 
 pub lacks_first : (sectors : ℕ) (puts : List (ℕ × List ℕ)) (root : List ℕ)
-    → LacksPlaces sectors [] (asked_for [] puts root) → LacksRoom (empty_room sectors) puts [] root
+    → LacksPlaces sectors [] (sectors_asked_for [] puts root) → LacksRoom (empty_room sectors) puts [] root
 unfolding LacksRoom
 lacks_first sectors puts root lacks = lacks

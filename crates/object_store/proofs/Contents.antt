@@ -15,7 +15,7 @@ use Rattle.object_store.specs.declared.catalogue.entry.Entry.{Entry}
 use Rattle.object_store.specs.Content.{Content, look_up}
 use Rattle.object_store.specs.Commit.{find_by}
 use Rattle.object_store.proofs.Pieces.{length_run}
-use Rattle.object_store.specs.Places.{run_bytes, bytes_at, extent_of, extents_of, objects_at, used_by}
+use Rattle.object_store.specs.Places.{sectors_bytes, bytes_at, extent_of, extents_of, objects_at, used_by}
 use Rattle.object_store.specs.Shows.{ShowsBy}
 use Rattle.object_store.specs.Disk.{Disk, Leaves}
 use Rattle.object_store.specs.Ready.{content_from, IsReady}
@@ -65,9 +65,9 @@ pub length_bytes_at : (image : Image) (first bytes size : ℕ) → IsInRange siz
     → ((i : ℕ) → i < size → length (image i) ≡ 512) → length (bytes_at image first bytes) ≡ bytes
 length_bytes_at image first bytes size in_range whole =
     let ends = in_range.ends in
-    let run : length (run_bytes image first (sectors_of bytes)) ≡ sectors_of bytes * 512 =
+    let run : length (sectors_bytes image first (sectors_of bytes)) ≡ sectors_of bytes * 512 =
     length_run image first (sectors_of bytes) (λ k lt. whole (first + k) (omega (arith, lt, ends))) in
-    length-take-le bytes (run_bytes image first (sectors_of bytes)) (omega (arith, run))
+    length-take-le bytes (sectors_bytes image first (sectors_of bytes)) (omega (arith, run))
 
 -- an object's bytes, and how many they are
 module _ (image : Image) (entries : List Entry) (id : ℕ) where

@@ -12,13 +12,13 @@ use Rattle.object_store.specs.Catalogue as catalogues
 use Rattle.wire.specs.Limits.{most_objects}
 use Rattle.object_store.specs.declared.plan.CommitPlan.{CommitPlan}
 use Rattle.object_store.specs.Content.{Content}
-use Rattle.object_store.specs.Commit.{IsFew, created, put_all, put_each, size_of}
+use Rattle.object_store.specs.Commit.{IsFew, created, put_all, put_each, put_size}
 use Rattle.object_store.specs.Shows.{ShowsBy, HasNone}
 use Rattle.object_store.specs.Disk.{Disk, disk, Each, IsBlank, LeavesOrNone, OnlyImagesOf, ShowsSomeOrNone}
 use Rattle.object_store.specs.Moments.{passes_then}
-use Rattle.object_store.specs.Ready.{content_from, IsKept, IsReady}
+use Rattle.object_store.specs.Ready.{content_from, KeepsLayout, IsReady}
 use Rattle.object_store.specs.Reading.{IsOnlyRead, IsNewest}
-use Rattle.object_store.specs.Publish.{written_by, slot_of, IsPlan, IsUnchangedOutside, HasWritten, IsEither}
+use Rattle.object_store.specs.Publish.{written_by, plan_slot, IsPlanForPuts, IsUnchangedOutside, HasWritten, IsEither}
 use Rattle.object_store.proofs.Extents.{held_in_range}
 use Rattle.object_store.proofs.Looking.{none_same}
 use Rattle.object_store.proofs.Committing.{content_is, few_same}
@@ -42,18 +42,18 @@ module _ (puts : List (ℕ × List ℕ)) (root : List ℕ) (layout : ℕ) where
   root_is = refl
 
   -- as many objects as sizes
-  pub few_first : IsFew (created puts root layout) → length (put_each (λ o. o.0) (map size_of puts) []) ≤ most_objects
+  pub few_first : IsFew (created puts root layout) → length (put_each (λ o. o.0) (map put_size puts) []) ≤ most_objects
   few_first few =
       let parts : length (created puts root layout).objects ≡ length (put_all puts []) =
       ap (λ (l : List (ℕ × List ℕ)). length l) objects_is in
-      let same : length (put_each (λ o. o.0) (map size_of puts) []) ≡ length (put_all puts []) =
+      let same : length (put_each (λ o. o.0) (map put_size puts) []) ≡ length (put_all puts []) =
       few_same (λ i. []) [] puts [] in
       omega (arith, few, parts, same)
 
   -- a plan that was written over slots without a superblock
   module _ (s1 : DeviceState) (none : HasNone s1.reads) (plan : CommitPlan)
-      (planned : IsPlan s1.size [] [] puts root 1 layout plan) where
-    older : (slot : ℕ) → slot < 2 → slot ≢ slot_of plan → (other : Super) → IsSuperblock slot (s1.reads slot) other
+      (planned : IsPlanForPuts s1.size [] [] puts root 1 layout plan) where
+    older : (slot : ℕ) → slot < 2 → slot ≢ plan_slot plan → (other : Super) → IsSuperblock slot (s1.reads slot) other
         → other.generation ≤ plan.superblock.generation
     older slot lt ne other is = absurd (none slot lt other is)
 
@@ -105,13 +105,14 @@ module _ (puts : List (ℕ × List ℕ)) (root : List ℕ) (layout : ℕ) where
 
 -- what is kept in memory
 pub kept_created : (sectors size : ℕ) (puts : List (ℕ × List ℕ)) (root : List ℕ) (layout : ℕ) (plan : CommitPlan)
-    → sectors ≡ size → IsPlan sectors [] [] puts root 1 layout plan
-    → IsKept size plan.superblock plan.entries.items plan.root.items
+    → sectors ≡ size → IsPlanForPuts sectors [] [] puts root 1 layout plan
+    → KeepsLayout size plan.superblock plan.entries.items plan.root.items
 kept_created sectors size puts root layout plan same planned =
-    subst (λ (n : ℕ). IsKept n plan.superblock plan.entries.items plan.root.items) same (record {
+    subst (λ (n : ℕ). KeepsLayout n plan.superblock plan.entries.items plan.root.items) same (record {
       sized = planned.sized;
       proper = planned.proper;
-      proper_catalogue = subst (λ (r : List ℕ). catalogues.IsProper plan.entries.items r) (sym planned.same_root)
+      proper_catalogue =
+          subst (λ (r : List ℕ). catalogues.IsProperCatalogue plan.entries.items r) (sym planned.same_root)
           planned.spelled.proper;
       laid_out = planned.laid_out;
     })

@@ -10,7 +10,7 @@ use Rattle.extents.specs.Extents.{Holds, SomeHolds, AreApart, IsInRange, AreLaid
 use Rattle.extents.specs.Runs.{FreeSectors, IsFree, AreFreeFrom, IsFirstFit, TakesAway}
 use Rattle.superblock.specs.Superblock.{sectors_of}
 use Rattle.object_store.specs.declared.catalogue.entry.Entry.{Entry}
-use Rattle.object_store.specs.Commit.{size_of, puts_of, IsObject, ArePuts}
+use Rattle.object_store.specs.Commit.{put_size, puts_of, IsObject, ArePuts}
 use Rattle.object_store.specs.Places.{extent_of, extents_of, size_at}
 use Rattle.object_store.specs.Room.{AreFirstFits, FitsFail, lengths_of}
 use Rattle.object_store.specs.Planning.{ArePlaced}
@@ -61,7 +61,7 @@ module _ (first mid : FreeSectors) (puts : List (ℕ × List ℕ)) (entries : Li
 -- one more
 pub placed_more : (first mid next : FreeSectors) (puts : List (ℕ × List ℕ)) (entries : List Entry) (put : ℕ × List ℕ)
     (x : Entry) (e : Extent) → ArePlaced first puts entries mid
-    → x.id < 2 ^ 32 → size_at x ≡ size_of put → e ≡ extent_of x.first x.bytes
+    → x.id < 2 ^ 32 → size_at x ≡ put_size put → e ≡ extent_of x.first x.bytes
     → IsFirstFit mid (sectors_of (length put.1)) e → IsInRange mid.count e → TakesAway mid e next
     → ArePlaced first (puts ++ put ∷ []) (entries ++ x ∷ []) next
 placed_more first mid next puts entries put x e so_far id_fits size is_extent fit in_range away =
@@ -71,7 +71,7 @@ placed_more first mid next puts entries put x e so_far id_fits size is_extent fi
     ∙ sym (map-append (λ (y : Entry). extent_of y.first y.bytes) entries (x ∷ [])) in record {
       places =
           map-append size_at entries (x ∷ []) ∙ ap (λ (l : List (ℕ × ℕ)). l ++ size_at x ∷ []) so_far.places
-          ∙ ap (λ (s : ℕ × ℕ). map size_of puts ++ s ∷ []) size ∙ sym (map-append size_of puts (put ∷ []));
+          ∙ ap (λ (s : ℕ × ℕ). map put_size puts ++ s ∷ []) size ∙ sym (map-append put_size puts (put ∷ []));
       fits = subst (λ (l : List ℕ). AreFirstFits first l (extents_of (entries ++ x ∷ [])) next)
           (sym (map-append (λ (p : ℕ × List ℕ). sectors_of (length p.1)) puts (put ∷ [])))
           (subst (λ (l : List Extent). AreFirstFits first (lengths_of puts ++ sectors_of (length put.1) ∷ []) l next)

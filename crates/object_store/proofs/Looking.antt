@@ -1,7 +1,7 @@
 -- What the two slots and the catalogue of a device say.
 use Rattle.std.proofs.Common.{◌≡◌, ◌⊎◌, inl, inr, ℕ, zero, suc, ◌%◌, ◌<◌, ◌≤◌, ◌↔◌, List, Option, Some, None}
 use Rattle.std.proofs.Common.{MatchOption, refl, sym, ◌∙◌, ap, subst, arith}
-use Rattle.sector_device.specs.Device.{Image, DeviceState, IsSettled, Stays, Syncs}
+use Rattle.sector_device.specs.Device.{Image, DeviceState, IsSettled, CandidatesStay, Syncs}
 use Rattle.sector_device.specs.Moments.{none_written, synced_within}
 use Rattle.extents.specs.Extents.{AreLaidOut}
 use Rattle.superblock.specs.declared.superblock.Super.{Super}
@@ -13,9 +13,9 @@ use Rattle.object_store.specs.Catalogue.{IsCatalogue}
 use Rattle.object_store.specs.Content.{Content}
 use Rattle.object_store.specs.Places.{bytes_at, used_by}
 use Rattle.object_store.specs.Shows.{ShowsBy, Shows, HasNone}
-use Rattle.object_store.specs.Ready.{content_from, IsKept, IsReady}
+use Rattle.object_store.specs.Ready.{content_from, KeepsLayout, IsReady}
 use Rattle.object_store.specs.Reading.{IsOnlyRead, IsNewest, two}
-use Rattle.object_store.specs.Found.{IsFound, SpellNone, ShowsNothing}
+use Rattle.object_store.specs.Found.{IsFound, SpellNoCatalogue, ShowsNothing}
 use Rattle.object_store.specs.Frames.{shows_same}
 use Rattle.object_store.proofs.Pieces.{read_only}
 
@@ -70,11 +70,11 @@ module _ (s0 s1 s2 s3 : DeviceState) (only : (image : Image) → s0.left_since s
   pub synced : IsOnlyRead s0 s1
   synced = synced_within (λ _. ⊥) s0 s0 s1 (none_written (λ _. ⊥) s0 only) syncs
 
-  module _ (first : Stays s1 s2) where
+  module _ (first : CandidatesStay s1 s2) where
     pub read_first : IsOnlyRead s0 s2
     read_first = read_only s0 s1 s2 synced first
 
-    module _ (second : Stays s2 s3) where
+    module _ (second : CandidatesStay s2 s3) where
       pub read_second : IsOnlyRead s0 s3
       read_second = read_only s0 s2 s3 read_first second
 
@@ -115,7 +115,7 @@ nothing_sized size image super newest other c shows =
 
 -- one that names no catalogue
 pub nothing_spelled : (size : ℕ) (image : Image) (super : Super) → IsNewest image super → super.sectors ≡ size
-    → SpellNone super (bytes_at image super.catalogue super.bytes) → ShowsNothing size image
+    → SpellNoCatalogue super (bytes_at image super.catalogue super.bytes) → ShowsNothing size image
 nothing_spelled size image super newest sized none c shows =
     let same : super ≡ shows.0 = newest_shows size image super newest c shows.0 shows.1 shows.2 in
     none shows.1 c.root
@@ -126,7 +126,7 @@ nothing_spelled size image super newest sized none c shows =
 
 -- what was found is what the device shows
 pub ready_found : (s : DeviceState) (super : Super) (entries : List Entry) (root : List ℕ)
-    → IsKept s.size super entries root → IsFound s super entries root → IsReady s super entries root
+    → KeepsLayout s.size super entries root → IsFound s super entries root → IsReady s super entries root
 ready_found s super entries root kept found = record {
   settled = found.settled;
   shows = record {

@@ -6,22 +6,22 @@ use Rattle.std.proofs.lemmas.List.{length-take-le, drop-append-le, take-append-l
 use Rattle.std.proofs.lemmas.List.{take-append-drop, take_at, drop_all}
 use Rattle.std.proofs.Math.Seq.{drop-append-add, take-append-add, take-add}
 use borrow.Rule.Slice.PartMut.{put_mid, post_of}
-use Rattle.sector_device.specs.Device.{Image, DeviceState, Stays}
+use Rattle.sector_device.specs.Device.{Image, DeviceState, CandidatesStay}
 use Rattle.sector_device.specs.Moments.{synced_within}
 use Rattle.superblock.specs.Superblock.{sectors_of}
-use Rattle.object_store.specs.Places.{run_bytes, bytes_at}
+use Rattle.object_store.specs.Places.{sectors_bytes, bytes_at}
 use Rattle.object_store.specs.Reading.{IsOnlyRead}
 
 -- a piece within one sector of a run
 run_piece : (image : Image) (q r first m n : ℕ) → q < m → r + n ≤ 512
-    → ((k : ℕ) → k ≤ q → length (image (first + k)) ≡ 512) → take n (drop (q * 512 + r) (run_bytes image first m))
+    → ((k : ℕ) → k ≤ q → length (image (first + k)) ≡ 512) → take n (drop (q * 512 + r) (sectors_bytes image first m))
     ≡ take n (drop r (image (first + q)))
 run_piece image q r first zero n lt fits whole = absurd (omega (arith, lt))
 run_piece image zero r first (suc m) n lt fits whole =
     let here : first + 0 ≡ first = omega arith in
     let start : 0 * 512 + r ≡ r = omega arith in
     let long : length (image first) ≡ 512 = sym (ap (λ (i : ℕ). length (image i)) here) ∙ whole 0 (omega arith) in
-    let rest : List ℕ = run_bytes image (suc first) m in
+    let rest : List ℕ = sectors_bytes image (suc first) m in
     ap (λ (i : ℕ). take n (drop i (image first ++ rest))) start
     ∙ ap (λ (l : List ℕ). take n l) (drop-append-le r (image first) rest (omega (arith, fits, long)))
     ∙ take-append-le n (drop r (image first)) rest (omega (arith, fits, long, length-drop r (image first)))
@@ -29,7 +29,7 @@ run_piece image zero r first (suc m) n lt fits whole =
 run_piece image (suc q) r first (suc m) n lt fits whole =
     let here : first + 0 ≡ first = omega arith in
     let long : length (image first) ≡ 512 = sym (ap (λ (i : ℕ). length (image i)) here) ∙ whole 0 (omega arith) in
-    let rest : List ℕ = run_bytes image (suc first) m in
+    let rest : List ℕ = sectors_bytes image (suc first) m in
     let start : suc q * 512 + r ≡ length (image first) + (q * 512 + r) = omega (arith, long) in
     let there : suc first + q ≡ first + suc q = omega arith in
     ap (λ (i : ℕ). take n (drop i (image first ++ rest))) start
@@ -41,9 +41,10 @@ run_piece image (suc q) r first (suc m) n lt fits whole =
 
 -- of so many bytes, of which the last sector may have more
 within_total : (image : Image) (first place n total : ℕ) → place + n ≤ total
-    → take n (drop place (bytes_at image first total)) ≡ take n (drop place (run_bytes image first (sectors_of total)))
+    → take n (drop place (bytes_at image first total))
+    ≡ take n (drop place (sectors_bytes image first (sectors_of total)))
 within_total image first place n total within =
-    let run : List ℕ = run_bytes image first (sectors_of total) in
+    let run : List ℕ = sectors_bytes image first (sectors_of total) in
     let all : total ≡ place + (total - place) = omega (arith, within) in
     ap (λ (i : ℕ). take n (drop place (take i run))) all
     ∙ ap (λ (l : List ℕ). take n l) (drop-take place (total - place) run)
@@ -55,60 +56,61 @@ pub piece_is : (image : Image) (first place n total : ℕ) → 1 ≤ n → place
 piece_is image first place n total some fits within whole =
     let split : place ≡ place / 512 * 512 + place % 512 = omega arith in
     within_total image first place n total within
-    ∙ ap (λ (i : ℕ). take n (drop i (run_bytes image first (sectors_of total)))) split
+    ∙ ap (λ (i : ℕ). take n (drop i (sectors_bytes image first (sectors_of total)))) split
     ∙ run_piece image (place / 512) (place % 512) first (sectors_of total) n (omega (arith, some, within)) fits whole
 
 -- so many sectors have so many bytes
 pub length_run : (image : Image) (first n : ℕ) → ((k : ℕ) → k < n → length (image (first + k)) ≡ 512)
-    → length (run_bytes image first n) ≡ n * 512
+    → length (sectors_bytes image first n) ≡ n * 512
 length_run image first zero whole = refl
 length_run image first (suc n) whole =
     let here : first + 0 ≡ first = omega arith in
     let long : length (image first) ≡ 512 = sym (ap (λ (i : ℕ). length (image i)) here) ∙ whole 0 (omega arith) in
-    let rest : length (run_bytes image (suc first) n) ≡ n * 512 =
+    let rest : length (sectors_bytes image (suc first) n) ≡ n * 512 =
     length_run image (suc first) n
     (λ k lt. let at : suc first + k ≡ first + suc k = omega arith in ap (λ (i : ℕ). length (image i)) at
     ∙ whole (suc k) (omega (arith, lt))) in
-    omega (arith, long, rest, length-append (image first) (run_bytes image (suc first) n))
+    omega (arith, long, rest, length-append (image first) (sectors_bytes image (suc first) n))
 
 -- one run after another
-pub run-append : (image : Image) (first a b : ℕ) → run_bytes image first (a + b) ≡ run_bytes image first a
-    ++ run_bytes image (first + a) b
+pub run-append : (image : Image) (first a b : ℕ) → sectors_bytes image first (a + b) ≡ sectors_bytes image first a
+    ++ sectors_bytes image (first + a) b
 run-append image first zero b =
     let none : 0 + b ≡ b = omega arith in
     let here : first ≡ first + 0 = omega arith in
-    ap (λ (n : ℕ). run_bytes image first n) none ∙ ap (λ (i : ℕ). run_bytes image i b) here
+    ap (λ (n : ℕ). sectors_bytes image first n) none ∙ ap (λ (i : ℕ). sectors_bytes image i b) here
 run-append image first (suc a) b =
     let next : suc a + b ≡ suc (a + b) = omega arith in
     let there : suc first + a ≡ first + suc a = omega arith in
-    ap (λ (n : ℕ). run_bytes image first n) next
+    ap (λ (n : ℕ). sectors_bytes image first n) next
     ∙ ap (λ (l : List ℕ). image first ++ l)
-    (run-append image (suc first) a b ∙ ap (λ (i : ℕ). run_bytes image (suc first) a ++ run_bytes image i b) there)
-    ∙ sym (append_assoc (image first) (run_bytes image (suc first) a) (run_bytes image (first + suc a) b))
+    (run-append image (suc first) a b
+    ∙ ap (λ (i : ℕ). sectors_bytes image (suc first) a ++ sectors_bytes image i b) there)
+    ∙ sym (append_assoc (image first) (sectors_bytes image (suc first) a) (sectors_bytes image (first + suc a) b))
 
 -- whole sectors of so many bytes
 pub run_within : (image : Image) (first place m total : ℕ) → place % 512 ≡ 0 → place + m * 512 ≤ total
     → ((k : ℕ) → k < place / 512 + m → length (image (first + k)) ≡ 512)
-    → take (m * 512) (drop place (bytes_at image first total)) ≡ run_bytes image (first + place / 512) m
+    → take (m * 512) (drop place (bytes_at image first total)) ≡ sectors_bytes image (first + place / 512) m
 run_within image first place m total begins within whole =
     let q : ℕ = place / 512 in
     let more : ℕ = sectors_of total - (q + m) in
     let split : sectors_of total ≡ q + (m + more) = omega (arith, begins, within) in
-    let front : List ℕ = run_bytes image first q in
+    let front : List ℕ = sectors_bytes image first q in
     let long : length front ≡ q * 512 = length_run image first q (λ k lt. whole k (omega (arith, lt))) in
     let at : place ≡ length front + 0 = omega (arith, long, begins) in
-    let here : List ℕ = run_bytes image (first + q) m in
+    let here : List ℕ = sectors_bytes image (first + q) m in
     let short : length here ≡ m * 512 =
     length_run image (first + q) m
     (λ k lt. let there : first + q + k ≡ first + (q + k) = omega arith in ap (λ (i : ℕ). length (image i)) there
     ∙ whole (q + k) (omega (arith, lt))) in
     within_total image first place (m * 512) total within
-    ∙ ap (λ (n : ℕ). take (m * 512) (drop place (run_bytes image first n))) split
+    ∙ ap (λ (n : ℕ). take (m * 512) (drop place (sectors_bytes image first n))) split
     ∙ ap (λ (l : List ℕ). take (m * 512) (drop place l)) (run-append image first q (m + more))
-    ∙ ap (λ (i : ℕ). take (m * 512) (drop i (front ++ run_bytes image (first + q) (m + more)))) at
-    ∙ ap (λ (l : List ℕ). take (m * 512) l) (drop-append-add front (run_bytes image (first + q) (m + more)) 0
+    ∙ ap (λ (i : ℕ). take (m * 512) (drop i (front ++ sectors_bytes image (first + q) (m + more)))) at
+    ∙ ap (λ (l : List ℕ). take (m * 512) l) (drop-append-add front (sectors_bytes image (first + q) (m + more)) 0
     ∙ run-append image (first + q) m more)
-    ∙ take_at here (run_bytes image (first + q + m) more) (m * 512) short
+    ∙ take_at here (sectors_bytes image (first + q + m) more) (m * 512) short
 
 -- a piece more of what is read
 range_step : (bytes old whole piece rest post : List ℕ) (at done n : ℕ) → done ≤ length old
@@ -152,14 +154,14 @@ part_within done n to part k less fits long =
     )
 
 -- a read writes nothing
-pub read_only : (first mid new : DeviceState) → IsOnlyRead first mid → Stays mid new → IsOnlyRead first new
+pub read_only : (first mid new : DeviceState) → IsOnlyRead first mid → CandidatesStay mid new → IsOnlyRead first new
 read_only first mid new so_far stays =
     synced_within (λ _. ⊥) first mid new so_far
     (record { reads = stays.reads; no_more = stays.no_more; time = stays.time })
 
 -- whole sectors whose bytes are those of a run
 pub run_is : (n : ℕ) (bytes : List ℕ) (image : Image) (first : ℕ) → length bytes ≡ n * 512
-    → ((k : ℕ) → k < n → take 512 (drop (k * 512) bytes) ≡ image (first + k)) → bytes ≡ run_bytes image first n
+    → ((k : ℕ) → k < n → take 512 (drop (k * 512) bytes) ≡ image (first + k)) → bytes ≡ sectors_bytes image first n
 run_is zero [] image first long each = refl
 run_is zero (x ∷ bytes) image first long each = absurd (omega (arith, long))
 run_is (suc n) bytes image first long each =

@@ -8,7 +8,7 @@ use Rattle.sector_device.specs.Device.{Image}
 use Rattle.extents.specs.declared.extent.Extent.{Extent}
 use Rattle.extents.specs.Extents.{Holds, SomeHolds, AreApart, IsInRange, AreLaidOut}
 use Rattle.object_store.specs.declared.catalogue.entry.Entry.{Entry}
-use Rattle.object_store.specs.Commit.{size_of, puts_of}
+use Rattle.object_store.specs.Commit.{put_size, puts_of}
 use Rattle.object_store.specs.Places.{bytes_at, extent_of, extents_of, object_at, objects_at, size_at}
 use Rattle.object_store.specs.Publish.{AreFor}
 use Rattle.object_store.proofs.Extents.{before_apart, one_holds}
@@ -17,7 +17,7 @@ use Rattle.object_store.specs.Frames.{objects_same}
 module _ (placed : List Entry) (raw : List (ℕ × Bor (List ℕ))) (for_puts : AreFor placed (puts_of raw)) (k : ℕ)
     (d : Entry) (e : ℕ × Bor (List ℕ)) (lt : k < length placed) where
   pub many : length placed ≡ length raw
-  many = sym (length-map placed size_at) ∙ ap length for_puts ∙ length-map (puts_of raw) size_of
+  many = sym (length-map placed size_at) ∙ ap length for_puts ∙ length-map (puts_of raw) put_size
       ∙ length-map raw (λ put. (put.0, put.1.now))
 
   below : k < length raw
@@ -26,13 +26,13 @@ module _ (placed : List Entry) (raw : List (ℕ × Bor (List ℕ))) (for_puts : 
   put_is : get_or (puts_of raw) k (e.0, e.1.now) ≡ ((get_or raw k e).0, (get_or raw k e).1.now)
   put_is = get_or-map (λ put. (put.0, put.1.now)) raw k e (e.0, e.1.now) below
 
-  sizes : size_at (get_or placed k d) ≡ size_of ((get_or raw k e).0, (get_or raw k e).1.now)
+  sizes : size_at (get_or placed k d) ≡ put_size ((get_or raw k e).0, (get_or raw k e).1.now)
   sizes =
       let many_puts : length (puts_of raw) ≡ length raw = length-map raw (λ put. (put.0, put.1.now)) in
       sym (get_or-map size_at placed k d (0, 0) lt)
       ∙ ap (λ (l : List (ℕ × ℕ)). get_or l k (0, 0)) for_puts
-      ∙ get_or-map size_of (puts_of raw) k (e.0, e.1.now) (0, 0) (omega (arith, below, many_puts))
-      ∙ ap size_of put_is
+      ∙ get_or-map put_size (puts_of raw) k (e.0, e.1.now) (0, 0) (omega (arith, below, many_puts))
+      ∙ ap put_size put_is
 
   same_bytes : (get_or placed k d).bytes ≡ length (get_or raw k e).1.now
   same_bytes = ap (λ (s : ℕ × ℕ). s.1) sizes

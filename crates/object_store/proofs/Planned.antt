@@ -13,13 +13,13 @@ use Rattle.superblock.specs.Superblock.{sectors_of}
 use Rattle.wire.specs.Limits.{least_sectors, most_objects}
 use Rattle.object_store.specs.declared.catalogue.entry.Entry.{Entry}
 use Rattle.object_store.specs.Catalogue as catalogues
-use Rattle.object_store.specs.Catalogue.{FitsFields, IsProperEntry, AreAscending, IsCatalogue, catalogue_of}
+use Rattle.object_store.specs.Catalogue.{FitsFields, IsProperEntry, IdsAscend, IsCatalogue, catalogue_of}
 use Rattle.object_store.proofs.Catalogues.{length-catalogue_of}
 use Rattle.object_store.specs.declared.plan.CommitPlan.{CommitPlan}
-use Rattle.object_store.specs.Commit.{IsLayout, IsRoot, IsObject, ArePuts, put_each, size_of}
+use Rattle.object_store.specs.Commit.{IsLayout, FitsRoot, IsObject, ArePuts, put_each, put_size}
 use Rattle.object_store.specs.Places.{extent_of, extents_of, size_at, sizes_at}
-use Rattle.object_store.specs.Room.{FitsFail, LacksPlaces, asked_for, lengths_of, catalogue_bytes}
-use Rattle.object_store.specs.Publish.{AreFor, IsPlan}
+use Rattle.object_store.specs.Room.{FitsFail, LacksPlaces, sectors_asked_for, lengths_of, catalogue_bytes}
+use Rattle.object_store.specs.Publish.{AreFor, IsPlanForPuts}
 use Rattle.object_store.specs.Planning.{ArePlaced}
 use Rattle.object_store.proofs.Lists.{All-put_each, ascending-put_each, map-put_each}
 use Rattle.object_store.proofs.Extents.{apart_each, held_put_each, laid_out_put_each}
@@ -27,7 +27,7 @@ use Rattle.object_store.proofs.Fits.{was_free, not_placed, fail_more, fail_last}
 
 -- how many objects there are after it
 pub objects_after : (placed kept : List Entry) (puts : List (ℕ × List ℕ)) → AreFor placed puts
-    → length (put_each (λ e. e.id) placed kept) ≡ length (put_each (λ o. o.0) (map size_of puts) (sizes_at kept))
+    → length (put_each (λ e. e.id) placed kept) ≡ length (put_each (λ o. o.0) (map put_size puts) (sizes_at kept))
 objects_after placed kept puts are_for =
     sym (length-map (put_each (λ (e : Entry). e.id) placed kept) size_at)
     ∙ ap (λ (l : List (ℕ × ℕ)). length l)
@@ -39,12 +39,12 @@ placed_size : (placed : List Entry) (puts : List (ℕ × List ℕ)) → AreFor p
     → k < length placed → (1 ≤ (get_or placed k d).bytes) × ((get_or placed k d).bytes ≤ 134217728)
 placed_size placed puts are_for good k d lt =
     let many : length placed ≡ length puts = sym (length-map placed size_at)
-    ∙ ap (λ (l : List (ℕ × ℕ)). length l) are_for ∙ length-map puts size_of in
+    ∙ ap (λ (l : List (ℕ × ℕ)). length l) are_for ∙ length-map puts put_size in
     let below : k < length puts = omega (arith, lt, many) in
     let o : IsObject (get_or puts k (0, [])) = good.each k (0, []) below in
-    let size : size_at (get_or placed k d) ≡ size_of (get_or puts k (0, [])) =
+    let size : size_at (get_or placed k d) ≡ put_size (get_or puts k (0, [])) =
     sym (get_or-map size_at placed k d (0, 0) lt) ∙ ap (λ (l : List (ℕ × ℕ)). get_or l k (0, 0)) are_for
-    ∙ get_or-map size_of puts k (0, []) (0, 0) below in
+    ∙ get_or-map put_size puts k (0, []) (0, 0) below in
     let bytes : (get_or placed k d).bytes ≡ length (get_or puts k (0, [])).1 = ap (λ (s : ℕ × ℕ). s.1) size in
     (omega (arith, o.least, bytes), omega (arith, o.most, bytes))
 
@@ -70,9 +70,9 @@ module _ (sectors : ℕ) (used : List Extent) (kept : List Entry) (puts : List (
     (fits : generation < 2 ^ 64) (known : IsLayout layout)
     (kept_laid : AreLaidOut sectors (extents_of kept)) (in_use : (sector : ℕ) → SomeHolds (extents_of kept) sector
     → SomeHolds used sector)
-    (kept_fit : All FitsFields kept) (kept_proper : All IsProperEntry kept) (ascending : AreAscending kept)
-    (good : ArePuts puts) (is_root : IsRoot root)
-    (few : length (put_each (λ o. o.0) (map size_of puts) (sizes_at kept)) ≤ most_objects)
+    (kept_fit : All FitsFields kept) (kept_proper : All IsProperEntry kept) (ascending : IdsAscend kept)
+    (good : ArePuts puts) (is_root : FitsRoot root)
+    (few : length (put_each (λ o. o.0) (map put_size puts) (sizes_at kept)) ≤ most_objects)
     (outside : IsFreeOutside sectors used free) (placed : ArePlaced free puts plan.placed.items mid)
     (entries : plan.entries.items ≡ put_each (λ e. e.id) plan.placed.items kept) (same_root : plan.root.items ≡ root)
     (spelled : plan.catalogue.items ≡ catalogue_of plan.entries.items root)
@@ -135,7 +135,7 @@ module _ (sectors : ℕ) (used : List Extent) (kept : List Entry) (puts : List (
             placed.places,
       )
 
-  proper : superblocks.IsProper plan.superblock
+  proper : superblocks.IsProperSuperblock plan.superblock
   proper =
       let begins = range.begins in
       let ends = range.ends in record {
@@ -151,7 +151,7 @@ module _ (sectors : ℕ) (used : List Extent) (kept : List Entry) (puts : List (
         most_bytes = omega (arith, bytes, many_bytes, many_entries, is_root);
       }
 
-  proper_catalogue : catalogues.IsProper plan.entries.items root
+  proper_catalogue : catalogues.IsProperCatalogue plan.entries.items root
   proper_catalogue = record {
     fit = subst (λ (l : List Entry). All FitsFields l) (sym entries)
         (All-put_each FitsFields (λ (x : Entry). x.id) plan.placed.items kept (λ k d lt. record {
@@ -165,12 +165,12 @@ module _ (sectors : ℕ) (used : List Extent) (kept : List Entry) (puts : List (
           most_bytes = (placed_size plan.placed.items puts placed.places good k d lt).1;
         }) kept_proper);
     ascending =
-        subst AreAscending (sym entries) (ascending-put_each (λ (x : Entry). x.id) plan.placed.items kept ascending);
+        subst IdsAscend (sym entries) (ascending-put_each (λ (x : Entry). x.id) plan.placed.items kept ascending);
     most_entries = many_entries;
     most_root = is_root;
   }
 
-  pub planned : IsPlan sectors used kept puts root generation layout plan
+  pub planned : IsPlanForPuts sectors used kept puts root generation layout plan
   planned = record {
     sized = sized;
     numbered = numbered;
@@ -192,12 +192,12 @@ module _ (sectors : ℕ) (used : List Extent) (kept : List Entry) (puts : List (
 -- where no place is found for a put
 pub lacks_put : (sectors : ℕ) (used : List Extent) (kept : List Entry) (puts : List (ℕ × List ℕ)) (root : List ℕ)
     (free : FreeSectors) → IsFreeOutside sectors used free → FitsFail free (lengths_of puts)
-    → LacksPlaces sectors used (asked_for (sizes_at kept) puts root)
+    → LacksPlaces sectors used (sectors_asked_for (sizes_at kept) puts root)
 lacks_put sectors used kept puts root free outside fail = record {
   free = free;
   outside = outside;
   fail = fail_more free (lengths_of puts)
-      (sectors_of (catalogue_bytes (length (put_each (λ o. o.0) (map size_of puts) (sizes_at kept))) (length root)))
+      (sectors_of (catalogue_bytes (length (put_each (λ o. o.0) (map put_size puts) (sizes_at kept))) (length root)))
       fail;
 }
 
@@ -207,10 +207,10 @@ pub lacks_catalogue : (sectors : ℕ) (used : List Extent) (kept placed entries 
     → ArePlaced free puts placed mid
     → entries ≡ put_each (λ e. e.id) placed kept → catalogue ≡ catalogue_of entries root
     → len ≡ sectors_of (length catalogue) → ((at : ℕ) → ¬ AreFreeFrom mid len at)
-    → LacksPlaces sectors used (asked_for (sizes_at kept) puts root)
+    → LacksPlaces sectors used (sectors_asked_for (sizes_at kept) puts root)
 lacks_catalogue sectors used kept placed entries puts root catalogue free mid len outside are merged spelled asked
     none =
-    let many : length catalogue ≡ catalogue_bytes (length (put_each (λ o. o.0) (map size_of puts) (sizes_at kept)))
+    let many : length catalogue ≡ catalogue_bytes (length (put_each (λ o. o.0) (map put_size puts) (sizes_at kept)))
     (length root) =
     ap (λ (l : List ℕ). length l) spelled ∙ length-catalogue_of entries root
     ∙ ap (λ (n : ℕ). catalogue_bytes n (length root)) (ap (λ (l : List Entry). length l) merged
@@ -218,7 +218,8 @@ lacks_catalogue sectors used kept placed entries puts root catalogue free mid le
       free = free;
       outside = outside;
       fail = fail_last free mid puts placed
-          (sectors_of (catalogue_bytes (length (put_each (λ o. o.0) (map size_of puts) (sizes_at kept))) (length root)))
+          (sectors_of
+          (catalogue_bytes (length (put_each (λ o. o.0) (map put_size puts) (sizes_at kept))) (length root)))
           are
           (λ at. subst (λ (n : ℕ). ¬ AreFreeFrom mid n at) (asked ∙ ap (λ (n : ℕ). sectors_of n) many) (none at));
     }

@@ -1,13 +1,14 @@
 -- How the writes of a plan go on, call by call.
 use Rattle.std.proofs.Common.{◌≡◌, ◌≢◌, ◌⊎◌, inl, inr, ⊎_elim, ℕ, ◌<◌, ◌≤◌, List, sym, ◌∙◌, ap, arith}
 use Rattle.std.proofs.lemmas.Bool.{cases_eq}
-use Rattle.sector_device.specs.Device.{Image, DeviceState, IsImage, IsSettled, Writes, WritesWithin, Syncs, LeavesOnly}
+use Rattle.sector_device.specs.Device.{Image, DeviceState, IsImage, IsSettled, WritesSector, WritesWithin, Syncs}
+use Rattle.sector_device.specs.Device.{LeavesOnly}
 use Rattle.sector_device.specs.Moments.{goes_on, leaves_also, synced_within}
 use Rattle.extents.specs.Extents.{SomeHolds, AreLaidOut}
 use Rattle.superblock.specs.Superblock.{sector_of}
 use Rattle.object_store.specs.declared.plan.CommitPlan.{CommitPlan}
 use Rattle.object_store.specs.Places.{bytes_at, objects_at}
-use Rattle.object_store.specs.Publish.{written_by, slot_of, HasWritten, IsEither}
+use Rattle.object_store.specs.Publish.{written_by, plan_slot, HasWritten, IsEither}
 use Rattle.object_store.proofs.Extents.{held_in_range}
 use Rattle.object_store.specs.Frames.{bytes_same, objects_same}
 
@@ -23,12 +24,12 @@ module _ (plan : CommitPlan) (puts : List (ℕ × List ℕ)) (s0 : DeviceState) 
       (objects : objects_at s1.reads plan.placed.items ≡ puts)
       (catalogue : bytes_at s1.reads plan.superblock.catalogue plan.superblock.bytes ≡ plan.catalogue.items)
       (syncs : Syncs s1 s2) (settled2 : IsSettled s2) (block : List ℕ) (is_block : block ≡ sector_of plan.superblock)
-      (writes : Writes (slot_of plan) block s2 s3) where
+      (writes : WritesSector (plan_slot plan) block s2 s3) where
     kept : WritesWithin (SomeHolds (written_by plan)) s0 s2
     kept = synced_within (SomeHolds (written_by plan)) s0 s1 s2 written syncs
 
     -- an image with the superblock in its slot, and as it was synced else
-    after : (image : Image) → image (slot_of plan) ≡ block → ((i : ℕ) → i ≢ slot_of plan → image i ≡ s2.reads i)
+    after : (image : Image) → image (plan_slot plan) ≡ block → ((i : ℕ) → i ≢ plan_slot plan → image i ≡ s2.reads i)
         → HasWritten plan puts s0.reads image
     after image here others =
         let off : (i : ℕ) → SomeHolds (written_by plan) i → image i ≡ s1.reads i = λ i held.
@@ -43,19 +44,19 @@ module _ (plan : CommitPlan) (puts : List (ℕ × List ℕ)) (s0 : DeviceState) 
         }
 
     each : (image : Image) → IsImage s3 image → IsEither plan puts s0.reads image
-    each image is = by (writes.no_more (slot_of plan) (image (slot_of plan)) (is (slot_of plan)))
+    each image is = by (writes.no_more (plan_slot plan) (image (plan_slot plan)) (is (plan_slot plan)))
       where
-        others : (i : ℕ) → i ≢ slot_of plan → image i ≡ s2.reads i
+        others : (i : ℕ) → i ≢ plan_slot plan → image i ≡ s2.reads i
         others i ne =
             settled2 i (image i) (⊎_elim (λ was. was) (λ put. absurd (ne put.0)) (writes.no_more i (image i) (is i)))
 
-        by : s2.may_hold (slot_of plan) (image (slot_of plan))
-            ⊎ ((slot_of plan ≡ slot_of plan) × (image (slot_of plan) ≡ block)) → IsEither plan puts s0.reads image
+        by : s2.may_hold (plan_slot plan) (image (plan_slot plan))
+            ⊎ ((plan_slot plan ≡ plan_slot plan) × (image (plan_slot plan) ≡ block)) → IsEither plan puts s0.reads image
         by (inr here) = inr (after image here.1 others)
-        by (inl was) = inl (λ i out. at i (cases_eq i (slot_of plan)) ∙ kept.others i out)
+        by (inl was) = inl (λ i out. at i (cases_eq i (plan_slot plan)) ∙ kept.others i out)
           where
-            at : (i : ℕ) → (i ≡ slot_of plan) ⊎ (i ≡ slot_of plan → ⊥) → image i ≡ s2.reads i
-            at i (inl e) = ap image e ∙ settled2 (slot_of plan) (image (slot_of plan)) was ∙ ap s2.reads (sym e)
+            at : (i : ℕ) → (i ≡ plan_slot plan) ⊎ (i ≡ plan_slot plan → ⊥) → image i ≡ s2.reads i
+            at i (inl e) = ap image e ∙ settled2 (plan_slot plan) (image (plan_slot plan)) was ∙ ap s2.reads (sym e)
             at i (inr ne) = others i ne
 
     -- the superblock is written
@@ -67,7 +68,7 @@ module _ (plan : CommitPlan) (puts : List (ℕ × List ℕ)) (s0 : DeviceState) 
     ended s4 last =
         goes_on s0 s3 s4 _ switching last.time (λ image is. each image (λ i. last.no_more i (image i) (is i)))
 
-    pub has_written : (s4 : DeviceState) → Syncs s3 s4 → s3.reads (slot_of plan) ≡ block
+    pub has_written : (s4 : DeviceState) → Syncs s3 s4 → s3.reads (plan_slot plan) ≡ block
         → HasWritten plan puts s0.reads s4.reads
     has_written s4 last here =
-        after s4.reads (last.reads (slot_of plan) ∙ here) (λ i ne. last.reads i ∙ writes.others i ne)
+        after s4.reads (last.reads (plan_slot plan) ∙ here) (λ i ne. last.reads i ∙ writes.others i ne)

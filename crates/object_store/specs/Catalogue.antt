@@ -10,12 +10,12 @@ abbrev pub entry_of : Entry → List ℕ
 entry_of entry = spelling 4 entry.id ++ (spelling 4 entry.first ++ spelling 8 entry.bytes)
 
 -- the 12 bytes before the entries: the name, how many entries, how many bytes of the root
-abbrev pub header_of : ℕ → ℕ → List ℕ
-header_of entries root = codes "CAT1" ++ (spelling 4 entries ++ spelling 4 root)
+abbrev pub catalogue_header : ℕ → ℕ → List ℕ
+catalogue_header entries root = codes "CAT1" ++ (spelling 4 entries ++ spelling 4 root)
 
 -- the bytes of a catalogue: the header, the entries one after the other, the root
 abbrev pub catalogue_of : List Entry → List ℕ → List ℕ
-catalogue_of entries root = header_of (length entries) (length root) ++ (flat_map entry_of entries ++ root)
+catalogue_of entries root = catalogue_header (length entries) (length root) ++ (flat_map entry_of entries ++ root)
 
 -- the numbers of an entry fit its fields
 pub record FitsFields (entry : Entry) : Type 0 where
@@ -29,18 +29,18 @@ pub record IsProperEntry (entry : Entry) : Type 0 where
   pub most_bytes : entry.bytes ≤ most_object_bytes
 
 -- each id is below those after it
-abbrev pub AreAscending : List Entry → Type 0
-AreAscending entries = AllPairs (λ one other. one.id < other.id) entries
+abbrev pub IdsAscend : List Entry → Type 0
+IdsAscend entries = AllPairs (λ one other. one.id < other.id) entries
 
 -- the rules of a catalogue
-pub record IsProper (entries : List Entry) (root : List ℕ) : Type 0 where
+pub record IsProperCatalogue (entries : List Entry) (root : List ℕ) : Type 0 where
   pub fit : All FitsFields entries
   pub each : All IsProperEntry entries
-  pub ascending : AreAscending entries
+  pub ascending : IdsAscend entries
   pub most_entries : length entries ≤ most_objects
   pub most_root : length root ≤ most_root_bytes
 
 -- the bytes are those of a proper catalogue: there is no other spelling of it
 pub record IsCatalogue (bytes : List ℕ) (entries : List Entry) (root : List ℕ) : Type 0 where
   pub spelled : bytes ≡ catalogue_of entries root
-  pub proper : IsProper entries root
+  pub proper : IsProperCatalogue entries root

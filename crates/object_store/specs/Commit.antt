@@ -51,8 +51,8 @@ abbrev pub puts_of : List (ℕ × Bor (List ℕ)) → List (ℕ × List ℕ)
 puts_of puts = map (λ put. (put.0, put.1.now)) puts
 
 -- an object's id and how many bytes it has
-abbrev pub size_of : ℕ × List ℕ → ℕ × ℕ
-size_of object = (object.0, length object.1)
+abbrev pub put_size : ℕ × List ℕ → ℕ × ℕ
+put_size object = (object.0, length object.1)
 
 -- an object has 1 to 134,217,728 bytes
 pub record IsObject (object : ℕ × List ℕ) : Type 0 where
@@ -65,8 +65,8 @@ pub record ArePuts (puts : List (ℕ × List ℕ)) : Type 0 where
   pub distinct : AllPairs (λ a b. a.0 ≢ b.0) puts
 
 -- a root has 65,536 bytes at most
-abbrev pub IsRoot : List ℕ → Type 0
-IsRoot root = length root ≤ most_root_bytes
+abbrev pub FitsRoot : List ℕ → Type 0
+FitsRoot root = length root ≤ most_root_bytes
 
 abbrev pub IsLayout : ℕ → Type 0
 IsLayout layout = (1 ≤ layout) × (layout ≤ 2)

@@ -19,8 +19,8 @@ pub record IsFound (s : DeviceState) (super : Super) (entries : List Entry) (roo
   pub spelled : IsCatalogue (bytes_at s.reads super.catalogue super.bytes) entries root
 
 -- bytes that spell no catalogue whose extents keep the rules of the layout
-abbrev pub SpellNone : Super → List ℕ → Type 0
-SpellNone super bytes = (entries : List Entry) (root : List ℕ) → IsCatalogue bytes entries root
+abbrev pub SpellNoCatalogue : Super → List ℕ → Type 0
+SpellNoCatalogue super bytes = (entries : List Entry) (root : List ℕ) → IsCatalogue bytes entries root
     → AreLaidOut super.sectors (used_by super entries) → ⊥
 
 abbrev pub ShowsNothing : ℕ → Image → Type 0
@@ -35,8 +35,8 @@ is_of_layout fault = false
 
 -- What a refusal of the layout says of an image of so many sectors: it has no valid superblock, or its newest one is of
 -- a device of this size, or it is of another, or the device is too small.
-abbrev pub Explains : Fault → ℕ → Image → Type 0
-Explains NotFormatted size image = HasNone image
-Explains BadLayout size image = (super : Super) × IsNewest image super × (super.sectors ≡ size)
-Explains DeviceSize size image = (size < 64) ⊎ ((super : Super) × IsNewest image super × (super.sectors ≢ size))
-Explains fault size image = ⊤
+abbrev pub ExplainsRefusal : Fault → ℕ → Image → Type 0
+ExplainsRefusal NotFormatted size image = HasNone image
+ExplainsRefusal BadLayout size image = (super : Super) × IsNewest image super × (super.sectors ≡ size)
+ExplainsRefusal DeviceSize size image = (size < 64) ⊎ ((super : Super) × IsNewest image super × (super.sectors ≢ size))
+ExplainsRefusal fault size image = ⊤

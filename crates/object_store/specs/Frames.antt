@@ -9,17 +9,18 @@ use Rattle.superblock.specs.Superblock.{sectors_of, IsSuperblock}
 use Rattle.object_store.specs.declared.catalogue.entry.Entry.{Entry}
 use Rattle.object_store.specs.Catalogue as catalogues
 use Rattle.object_store.specs.Content.{Content}
-use Rattle.object_store.specs.Places.{run_bytes, bytes_at, extent_of, extents_of, object_at, objects_at, used_by}
+use Rattle.object_store.specs.Places.{sectors_bytes, bytes_at, extent_of, extents_of, object_at, objects_at, used_by}
 use Rattle.object_store.specs.Shows.{Spells, ShowsBy, Shows}
 use Rattle.object_store.specs.Ready.{content_from, IsReady}
 use Rattle.object_store.specs.Disk.{AllShow}
 use Rattle.object_store.specs.Store.{content_of, disk_of, has_failed}
 use Rattle.object_store.specs.declared.store.Store.{Store}
 
-run_same : (a b : Image) (at n : ℕ) → ((i : ℕ) → at ≤ i → i < at + n → a i ≡ b i) → run_bytes a at n ≡ run_bytes b at n
+run_same : (a b : Image) (at n : ℕ) → ((i : ℕ) → at ≤ i → i < at + n → a i ≡ b i)
+    → sectors_bytes a at n ≡ sectors_bytes b at n
 run_same a b at zero same = refl
 run_same a b at (suc n) same =
-    ap (λ (x : List ℕ). x ++ run_bytes a (suc at) n) (same at (omega arith) (omega arith))
+    ap (λ (x : List ℕ). x ++ sectors_bytes a (suc at) n) (same at (omega arith) (omega arith))
     ∙ ap (λ (x : List ℕ). b at ++ x)
     (run_same a b (suc at) n (λ i low high. same i (omega (arith, low)) (omega (arith, high))))
 

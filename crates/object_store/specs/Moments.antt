@@ -2,7 +2,7 @@
 use Rattle.std.specs.Prelude.{ℕ, refl}
 use Rattle.std.proofs.Common.{◌∙◌, subst}
 use Rattle.sector_device.specs.Device.{Image, IsImage, LeavesOnly}
-use Rattle.sector_device.specs.Moments.{started, and_then, leaves_also}
+use Rattle.sector_device.specs.Moments.{started, join_runs, leaves_also}
 use Rattle.object_store.specs.Content.{Content}
 use Rattle.object_store.specs.Disk.{Disk, Each, AllShow, Passes, Leaves, ShowsSome, OnlyImagesOf}
 
@@ -21,7 +21,7 @@ pub passes_then : (P : ℕ → Image → Type 0) (old mid new : Disk) → Passes
 passes_then P old mid new first second = record {
   word = λ w. first.word (second.word w);
   size = λ w. second.size w ∙ first.size (second.word w);
-  moments = λ w. and_then old.state mid.state new.state (P old.state.size) (first.moments (second.word w))
+  moments = λ w. join_runs old.state mid.state new.state (P old.state.size) (first.moments (second.word w))
       (subst (λ (n : ℕ). LeavesOnly mid.state new.state (P n)) (first.size (second.word w)) (second.moments w));
 }
 

@@ -7,13 +7,13 @@ use Rattle.superblock.specs.Superblock.{sectors_of}
 use Rattle.object_store.specs.declared.catalogue.entry.Entry.{Entry}
 
 -- so many sectors put end to end
-abbrev pub run_bytes : Image → ℕ → ℕ → List ℕ
-run_bytes image at zero = []
-run_bytes image at (suc n) = image at ++ run_bytes image (suc at) n
+abbrev pub sectors_bytes : Image → ℕ → ℕ → List ℕ
+sectors_bytes image at zero = []
+sectors_bytes image at (suc n) = image at ++ sectors_bytes image (suc at) n
 
 -- so many bytes, from the front of a sector on
 abbrev pub bytes_at : Image → ℕ → ℕ → List ℕ
-bytes_at image first bytes = take bytes (run_bytes image first (sectors_of bytes))
+bytes_at image first bytes = take bytes (sectors_bytes image first (sectors_of bytes))
 
 -- the sectors of so many bytes
 abbrev pub extent_of : ℕ → ℕ → Extent

@@ -21,8 +21,8 @@ pub record IsReady (s : DeviceState) (super : Super) (entries : List Entry) (roo
   pub shows : ShowsBy s.size s.reads (content_from s.reads super entries root) super entries
 
 -- what is kept in memory keeps the rules of the layout, on a device of this size
-pub record IsKept (size : ℕ) (super : Super) (entries : List Entry) (root : List ℕ) : Type 0 where
+pub record KeepsLayout (size : ℕ) (super : Super) (entries : List Entry) (root : List ℕ) : Type 0 where
   pub sized : super.sectors ≡ size
-  pub proper : superblocks.IsProper super
-  pub proper_catalogue : catalogues.IsProper entries root
+  pub proper : superblocks.IsProperSuperblock super
+  pub proper_catalogue : catalogues.IsProperCatalogue entries root
   pub laid_out : AreLaidOut size (used_by super entries)

@@ -3,7 +3,7 @@ use Rattle.std.specs.Prelude.{◌≡◌, ℕ, ◌+◌, ◌*◌, ◌<◌, List, [
 use Rattle.extents.specs.declared.extent.Extent.{Extent}
 use Rattle.extents.specs.Runs.{FreeSectors, AreFreeFrom, IsFirstFit, TakesAway, IsFreeOutside}
 use Rattle.superblock.specs.Superblock.{sectors_of}
-use Rattle.object_store.specs.Commit.{size_of, put_each, drop_each}
+use Rattle.object_store.specs.Commit.{put_size, put_each, drop_each}
 
 pub record Room : Type 0 where
   -- how many sectors the device has
@@ -27,9 +27,9 @@ lengths_of puts = map (λ put. sectors_of (length put.1)) puts
 
 -- how many sectors in a row are asked for, where objects of these sizes are kept: for each put in order, and then for
 -- the catalogue
-abbrev pub asked_for : List (ℕ × ℕ) → List (ℕ × List ℕ) → List ℕ → List ℕ
-asked_for kept puts root =
-    let objects = length (put_each (λ o. o.0) (map size_of puts) kept) in
+abbrev pub sectors_asked_for : List (ℕ × ℕ) → List (ℕ × List ℕ) → List ℕ → List ℕ
+sectors_asked_for kept puts root =
+    let objects = length (put_each (λ o. o.0) (map put_size puts) kept) in
     lengths_of puts ++ sectors_of (catalogue_bytes objects (length root)) ∷ []
 
 -- Each extent in turn is the first fit of so many sectors, taken from those that are still free.
@@ -58,4 +58,4 @@ pub record LacksPlaces (sectors : ℕ) (used : List Extent) (lens : List ℕ) : 
 -- The first fits fail: there is no room for these puts and then the catalogue, outside what is used.
 unfoldable pub LacksRoom : Room → List (ℕ × List ℕ) → List ℕ → List ℕ → Type 0
 LacksRoom room puts drops root =
-    LacksPlaces room.sectors room.used (asked_for (drop_each (λ o. o.0) drops room.sizes) puts root)
+    LacksPlaces room.sectors room.used (sectors_asked_for (drop_each (λ o. o.0) drops room.sizes) puts root)

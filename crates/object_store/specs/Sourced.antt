@@ -18,7 +18,7 @@ pub record HasOnlyRead {D : Type 0} (g : Ghosts D) (old new : Store D g) : Type 
   pub leaves : has_failed old ≡ false → Leaves (disk_of g old) (disk_of g new) (λ c. c ≡ content_of g old)
 
 -- and so it does with a read after such reads that is refused
-pub record CannotRead {D : Type 0} (g : Ghosts D) (fault : Fault) (old new : Store D g) : Type 0 where
+pub record ReadIsRefused {D : Type 0} (g : Ghosts D) (fault : Fault) (old new : Store D g) : Type 0 where
   pub failed_before : fault ≡ Failed → (has_failed old ≡ true) × IsStill g old new
   pub breaks : fault ≡ Device → Breaks g old new
   pub leaves : has_failed old ≡ false → Leaves (disk_of g old) (disk_of g new) (λ c. c ≡ content_of g old)
@@ -69,7 +69,7 @@ reads_on g old mid new first second = record {
 
 -- a refusal after a run of reads
 pub fails_later : {D : Type 0} (g : Ghosts D) (fault : Fault) (old mid new : Store D g) → HasOnlyRead g old mid
-    → CannotRead g fault mid new → CannotRead g fault old new
+    → ReadIsRefused g fault mid new → ReadIsRefused g fault old new
 fails_later g fault old mid new first second = record {
   failed_before = λ is. let before = second.failed_before is in
       (sym first.still.failed ∙ before.0, still_then g old mid new first.still before.1);

@@ -2,10 +2,10 @@
 ghost use Rattle.std.specs.Prelude.{◌≡◌, ◌≢◌, ◌⊎◌, ◌+◌, ◌-◌, ◌^◌, ◌≤◌, ◌<◌, ℕ, [], min, IfOk, IfErr, OnOk, OnErr};
 ghost use Rattle.cube_model.specs.declared.fault.Fault.{Fault};
 ghost use Rattle.sector_device.specs.Device.{IsSettled, LeavesOnly};
-ghost use Rattle.object_store.specs.Commit.{ArePuts, IsFew, IsLayout, IsRoot, created, puts_of};
+ghost use Rattle.object_store.specs.Commit.{ArePuts, IsFew, IsLayout, FitsRoot, created, puts_of};
 ghost use Rattle.object_store.specs.Disk.{disk, Each, IsBlank, LeavesOrNone, OnlyImagesOf, ShowsSomeOrNone};
-ghost use Rattle.object_store.specs.Ready.{IsKept, IsReady, content_from};
-ghost use Rattle.object_store.specs.Room.{LacksPlaces, asked_for};
+ghost use Rattle.object_store.specs.Ready.{KeepsLayout, IsReady, content_from};
+ghost use Rattle.object_store.specs.Room.{LacksPlaces, sectors_asked_for};
 ghost use Rattle.object_store.specs.Shows.{HasNone};
 
 use crate::find::newest;
@@ -25,11 +25,11 @@ pub(crate) fn create<D: Sectors>(
 ) -> Result<CommitPlan, Fault>
     requires least { 64 ≤ (D.state device.old).size }
     requires puts { ArePuts (puts_of puts.now) }
-    requires root { IsRoot root.now }
+    requires root { FitsRoot root.now }
     requires layout { IsLayout layout }
     requires few { IsFew (created (puts_of puts.now) root.now layout) }
     ensures kept { IfOk result
-        (λ plan. IsKept (D.state device.new).size plan.superblock plan.entries.items plan.root.items) }
+        (λ plan. KeepsLayout (D.state device.new).size plan.superblock plan.entries.items plan.root.items) }
     ensures ready { IfOk result (λ plan. D.keeps_word device.new
         → IsReady (D.state device.new) plan.superblock plan.entries.items plan.root.items) }
     ensures content { IfOk result (λ plan. D.keeps_word device.new
@@ -52,7 +52,7 @@ pub(crate) fn create<D: Sectors>(
         → D.failed device.new ≡ min (D.failed device.old + 1) (2 ^ 64 - 1)) }
     ensures full { IfErr result
         (λ fault. fault ≡ Fault.Full
-        → LacksPlaces (D.state device.old).size [] (asked_for [] (puts_of puts.now) root.now)) }
+        → LacksPlaces (D.state device.old).size [] (sectors_asked_for [] (puts_of puts.now) root.now)) }
     ensures causes { IfErr result (λ fault. (fault ≡ Fault.AlreadyFormatted)
         ⊎ ((fault ≡ Fault.Device) ⊎ ((fault ≡ Fault.Memory) ⊎ (fault ≡ Fault.Full)))) }
 {
@@ -74,7 +74,7 @@ fn publish_first<D: Sectors>(
 ) -> Result<CommitPlan, Fault>
     requires least { 64 ≤ (D.state device.old).size }
     requires puts { ArePuts (puts_of puts.now) }
-    requires root { IsRoot root.now }
+    requires root { FitsRoot root.now }
     requires layout { IsLayout layout }
     requires few { IsFew (created (puts_of puts.now) root.now layout) }
     requires settled { D.keeps_word device.old → IsSettled (D.state device.old) }
@@ -82,7 +82,7 @@ fn publish_first<D: Sectors>(
     ensures size { (D.state device.new).size ≡ (D.state device.old).size }
     ensures word { D.keeps_word device.new → D.keeps_word device.old }
     ensures kept { IfOk result
-        (λ plan. IsKept (D.state device.new).size plan.superblock plan.entries.items plan.root.items) }
+        (λ plan. KeepsLayout (D.state device.new).size plan.superblock plan.entries.items plan.root.items) }
     ensures ready { IfOk result (λ plan. D.keeps_word device.new
         → IsReady (D.state device.new) plan.superblock plan.entries.items plan.root.items) }
     ensures content { IfOk result (λ plan. D.keeps_word device.new
@@ -97,7 +97,7 @@ fn publish_first<D: Sectors>(
         → D.failed device.new ≡ min (D.failed device.old + 1) (2 ^ 64 - 1)) }
     ensures full { IfErr result
         (λ fault. fault ≡ Fault.Full
-        → LacksPlaces (D.state device.old).size [] (asked_for [] (puts_of puts.now) root.now)) }
+        → LacksPlaces (D.state device.old).size [] (sectors_asked_for [] (puts_of puts.now) root.now)) }
     ensures causes { IfErr result (λ fault. (fault ≡ Fault.Device) ⊎ ((fault ≡ Fault.Memory) ⊎ (fault ≡ Fault.Full))) }
 {
     let plan = first_plan(alloc, device.count(), puts, root, layout)?;

@@ -2,7 +2,7 @@
 ghost use Rattle.std.specs.Prelude.{◌≡◌, ◌≤◌, ◌<◌, ℕ, length, slice_index_or, IfErr, IfOk, OnOk, MatchResult};
 ghost use Rattle.cube_model.specs.declared.fault.Fault.{Fault};
 ghost use Rattle.object_store.specs.declared.catalogue.entry.Entry.{Entry};
-ghost use Rattle.object_store.specs.Catalogue.{AreAscending};
+ghost use Rattle.object_store.specs.Catalogue.{IdsAscend};
 ghost use Rattle.object_store.specs.Commit.{put_by, drop_by, put_each, drop_each, find_by};
 ghost use Rattle.object_store.specs.Entries.{IsPlace, IsEntryAt, IsMissing};
 
@@ -12,7 +12,7 @@ use std::alloc::Global;
 
 /// The entry of an object.
 pub(crate) fn find(entries: &[Entry], id: u32) -> Option<Entry>
-    requires { AreAscending entries.now }
+    requires { IdsAscend entries.now }
     ensures { result ≡ find_by (λ e. e.id) id entries.now }
 {
     match search(entries, id) {
@@ -23,7 +23,7 @@ pub(crate) fn find(entries: &[Entry], id: u32) -> Option<Entry>
 
 /// The entries that are left without some objects.
 pub(crate) fn without(alloc: Global, entries: &[Entry], drops: &[u32]) -> Result<Vec<Entry>, Fault>
-    requires { AreAscending entries.now }
+    requires { IdsAscend entries.now }
     ensures ok { IfOk result (λ kept. kept.items ≡ drop_each (λ e. e.id) drops.now entries.now) }
     ensures memory { IfErr result (λ fault. fault ≡ Fault.Memory) }
 {
@@ -36,7 +36,7 @@ pub(crate) fn without(alloc: Global, entries: &[Entry], drops: &[u32]) -> Result
 
 /// Adds entries, each in the place of an earlier one with its id.
 pub(crate) fn put_entries(entries: &mut Vec<Entry>, placed: &[Entry]) -> Result<(), Fault>
-    requires { AreAscending entries.old.items }
+    requires { IdsAscend entries.old.items }
     ensures ok { OnOk result (entries.new.items ≡ put_each (λ e. e.id) placed.now entries.old.items) }
     ensures memory { IfErr result (λ fault. fault ≡ Fault.Memory) }
 {
@@ -47,7 +47,7 @@ pub(crate) fn put_entries(entries: &mut Vec<Entry>, placed: &[Entry]) -> Result<
 }
 
 fn put_entry(entries: &mut Vec<Entry>, entry: Entry) -> Result<(), Fault>
-    requires { AreAscending entries.old.items }
+    requires { IdsAscend entries.old.items }
     ensures ok { OnOk result (entries.new.items ≡ put_by (λ e. e.id) entry entries.old.items) }
     ensures memory { IfErr result (λ fault. fault ≡ Fault.Memory) }
 {
@@ -63,7 +63,7 @@ fn put_entry(entries: &mut Vec<Entry>, entry: Entry) -> Result<(), Fault>
 }
 
 fn drop_entry(entries: &mut Vec<Entry>, id: u32)
-    requires { AreAscending entries.old.items }
+    requires { IdsAscend entries.old.items }
     ensures { entries.new.items ≡ drop_by (λ e. e.id) id entries.old.items }
 {
     if let Ok(place) = search(entries, id) {
@@ -73,7 +73,7 @@ fn drop_entry(entries: &mut Vec<Entry>, id: u32)
 
 // The place of an object's entry, or the one that it would take.
 fn search(entries: &[Entry], id: u32) -> Result<usize, usize>
-    requires { AreAscending entries.now }
+    requires { IdsAscend entries.now }
     ensures place { MatchResult result (IsPlace entries.now id) (IsPlace entries.now id) }
     ensures found { IfOk result (IsEntryAt entries.now id) }
     ensures missing { IfErr result (λ place. IsMissing entries.now id) }
@@ -87,7 +87,7 @@ fn search(entries: &[Entry], id: u32) -> Result<usize, usize>
 
 // How many entries have a lower id.
 fn place_of(entries: &[Entry], id: u32) -> usize
-    requires { AreAscending entries.now }
+    requires { IdsAscend entries.now }
     ensures within { result ≤ length entries.now }
     ensures before { (k : ℕ) (d : Entry) → k < result → (slice_index_or entries.now k d).id < id }
     ensures after { (k : ℕ) (d : Entry) → result ≤ k → k < length entries.now

@@ -3,15 +3,15 @@ ghost use Rattle.std.specs.Prelude.{◌≡◌, ◌⊎◌, ◌+◌, ◌-◌, ◌^
 ghost use Rattle.std.specs.Prelude.{MatchOption};
 ghost use Rattle.cube_model.specs.declared.fault.Fault.{Fault};
 ghost use Rattle.sector_device.specs.Device.{CountsFailure, IsSettled, Syncs};
-ghost use Rattle.superblock.specs.Superblock.{IsProper};
+ghost use Rattle.superblock.specs.Superblock.{IsProperSuperblock};
 ghost use Rattle.object_store.specs.Shows.{HasNone};
 ghost use Rattle.object_store.specs.Reading.{IsOnlyRead, IsNewest, two};
-ghost use Rattle.object_store.specs.Ready.{IsKept, IsReady};
+ghost use Rattle.object_store.specs.Ready.{KeepsLayout, IsReady};
 ghost use Rattle.extents.specs.Extents.{AreLaidOut};
 ghost use Rattle.object_store.specs.Catalogue as catalogues;
 ghost use Rattle.object_store.specs.Catalogue.{IsCatalogue};
 ghost use Rattle.object_store.specs.Places.{bytes_at, used_by};
-ghost use Rattle.object_store.specs.Found.{Explains, ShowsNothing, SpellNone, is_of_layout};
+ghost use Rattle.object_store.specs.Found.{ExplainsRefusal, ShowsNothing, SpellNoCatalogue, is_of_layout};
 
 use crate::catalogue::{Catalogue, decode as decode_catalogue};
 use crate::layout::check_extents;
@@ -35,7 +35,7 @@ pub(crate) fn find<D: Sectors>(alloc: Global, device: &mut D) -> Result<Found, F
     ensures word { D.keeps_word device.new → D.keeps_word device.old }
     ensures only { D.keeps_word device.new → IsOnlyRead (D.state device.old) (D.state device.new) }
     ensures kept { IfOk result
-        (λ found. IsKept (D.state device.new).size found.superblock found.catalogue.entries.items
+        (λ found. KeepsLayout (D.state device.new).size found.superblock found.catalogue.entries.items
         found.catalogue.root.items) }
     ensures ready { IfOk result (λ found. D.keeps_word device.new
         → IsReady (D.state device.new) found.superblock found.catalogue.entries.items found.catalogue.root.items) }
@@ -45,7 +45,7 @@ pub(crate) fn find<D: Sectors>(alloc: Global, device: &mut D) -> Result<Found, F
     ensures nothing { IfErr result (λ fault. is_of_layout fault ≡ true → D.keeps_word device.new
         → ShowsNothing (D.state device.old).size (D.state device.old).reads) }
     ensures explained { IfErr result (λ fault. D.keeps_word device.new
-        → Explains fault (D.state device.old).size (D.state device.old).reads) }
+        → ExplainsRefusal fault (D.state device.old).size (D.state device.old).reads) }
     ensures causes { IfErr result (λ fault. (fault ≡ Fault.Memory) ⊎ (fault ≡ Fault.Device)
         ⊎ (is_of_layout fault ≡ true)) }
 {
@@ -72,7 +72,7 @@ pub(crate) fn newest<D: Sectors>(device: &mut D) -> Result<Option<Super>, Device
     ensures word { D.keeps_word device.new → D.keeps_word device.old }
     ensures only { D.keeps_word device.new → IsOnlyRead (D.state device.old) (D.state device.new) }
     ensures settled { OnOk result (D.keeps_word device.new → IsSettled (D.state device.new)) }
-    ensures proper { IfOk result (λ found. IfSome found IsProper) }
+    ensures proper { IfOk result (λ found. IfSome found IsProperSuperblock) }
     ensures found { IfOk result (λ found. D.keeps_word device.new
         → MatchOption found (HasNone (D.state device.new).reads) (IsNewest (D.state device.new).reads)) }
 {
@@ -108,12 +108,12 @@ fn read_catalogue<D: Sectors>(
     device: &mut D,
     superblock: &Super,
 ) -> Result<Catalogue, Fault>
-    requires proper { IsProper superblock.now }
+    requires proper { IsProperSuperblock superblock.now }
     requires sized { superblock.now.sectors ≡ (D.state device.old).size }
     ensures size { (D.state device.new).size ≡ (D.state device.old).size }
     ensures word { D.keeps_word device.new → D.keeps_word device.old }
     ensures only { D.keeps_word device.new → IsOnlyRead (D.state device.old) (D.state device.new) }
-    ensures proper { IfOk result (λ c. catalogues.IsProper c.entries.items c.root.items) }
+    ensures proper { IfOk result (λ c. catalogues.IsProperCatalogue c.entries.items c.root.items) }
     ensures laid_out { IfOk result (λ c. AreLaidOut superblock.now.sectors (used_by superblock.now c.entries.items)) }
     ensures spelled { IfOk result (λ c. D.keeps_word device.new
         → IsCatalogue (bytes_at (D.state device.old).reads superblock.now.catalogue superblock.now.bytes)
@@ -124,7 +124,7 @@ fn read_catalogue<D: Sectors>(
     ensures refused { IfErr result
         (λ fault. (fault ≡ Fault.Memory) ⊎ ((fault ≡ Fault.Device) ⊎ ((fault ≡ Fault.BadLayout)
         × (D.keeps_word device.new
-        → SpellNone superblock.now
+        → SpellNoCatalogue superblock.now
         (bytes_at (D.state device.old).reads superblock.now.catalogue superblock.now.bytes))))) }
 {
     let bytes = read_bytes(alloc, device, superblock)?;
@@ -137,7 +137,7 @@ fn read_bytes<D: Sectors>(
     device: &mut D,
     superblock: &Super,
 ) -> Result<Vec<u8>, Fault>
-    requires proper { IsProper superblock.now }
+    requires proper { IsProperSuperblock superblock.now }
     requires sized { superblock.now.sectors ≡ (D.state device.old).size }
     ensures size { (D.state device.new).size ≡ (D.state device.old).size }
     ensures word { D.keeps_word device.new → D.keeps_word device.old }
@@ -158,11 +158,11 @@ fn read_bytes<D: Sectors>(
 
 // The catalogue that bytes spell, where its extents keep the rules of the layout.
 fn parse(alloc: Global, superblock: &Super, bytes: &[u8]) -> Result<Catalogue, Fault>
-    requires { IsProper superblock.now }
+    requires { IsProperSuperblock superblock.now }
     ensures spelled { IfOk result (λ c. IsCatalogue bytes.now c.entries.items c.root.items) }
     ensures laid_out { IfOk result (λ c. AreLaidOut superblock.now.sectors (used_by superblock.now c.entries.items)) }
     ensures refused { IfErr result
-        (λ fault. (fault ≡ Fault.Memory) ⊎ ((fault ≡ Fault.BadLayout) × SpellNone superblock.now bytes.now)) }
+        (λ fault. (fault ≡ Fault.Memory) ⊎ ((fault ≡ Fault.BadLayout) × SpellNoCatalogue superblock.now bytes.now)) }
 {
     let catalogue = decode_catalogue(alloc, bytes)?;
     check_extents(alloc, superblock, &catalogue.entries)?;

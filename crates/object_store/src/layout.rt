@@ -2,7 +2,7 @@
 ghost use Rattle.std.specs.Prelude.{◌≡◌, ◌⊎◌, ◌≤◌, ℕ, All, IfErr, IfOk, OnOk};
 ghost use Rattle.cube_model.specs.declared.fault.Fault.{Fault};
 ghost use Rattle.extents.specs.Extents.{AreLaidOut};
-ghost use Rattle.superblock.specs.Superblock.{IsProper};
+ghost use Rattle.superblock.specs.Superblock.{IsProperSuperblock};
 ghost use Rattle.object_store.specs.Catalogue.{IsProperEntry};
 ghost use Rattle.object_store.specs.Places.{extent_of, used_by};
 
@@ -18,7 +18,7 @@ pub(crate) fn used_extents(
     superblock: &Super,
     entries: &[Entry],
 ) -> Result<Vec<Extent>, Fault>
-    requires proper { IsProper superblock.now }
+    requires proper { IsProperSuperblock superblock.now }
     requires entries { All IsProperEntry entries.now }
     ensures ok { IfOk result (λ used. used.items ≡ used_by superblock.now entries.now) }
     ensures memory { IfErr result (λ fault. fault ≡ Fault.Memory) }
@@ -37,7 +37,7 @@ pub(crate) fn check_extents(
     superblock: &Super,
     entries: &[Entry],
 ) -> Result<(), Fault>
-    requires proper { IsProper superblock.now }
+    requires proper { IsProperSuperblock superblock.now }
     requires entries { All IsProperEntry entries.now }
     ensures ok { OnOk result (AreLaidOut superblock.now.sectors (used_by superblock.now entries.now)) }
     ensures refused { IfErr result (λ fault. (fault ≡ Fault.Memory) ⊎ ((fault ≡ Fault.BadLayout)

@@ -3,13 +3,13 @@ ghost use Rattle.std.specs.Prelude.{◌≡◌, ◌+◌, ◌≤◌, ◌<◌, ◌^
 ghost use Rattle.cube_model.specs.declared.fault.Fault.{Fault};
 ghost use Rattle.extents.specs.Extents.{SomeHolds, AreLaidOut};
 ghost use Rattle.superblock.specs.Superblock as superblocks;
-ghost use Rattle.object_store.specs.Catalogue.{FitsFields, IsProperEntry, AreAscending, catalogue_of};
+ghost use Rattle.object_store.specs.Catalogue.{FitsFields, IsProperEntry, IdsAscend, catalogue_of};
 ghost use Rattle.wire.specs.Limits.{least_sectors, most_objects};
-ghost use Rattle.object_store.specs.Commit.{ArePuts, IsLayout, IsRoot, drop_each, put_each, puts_of, size_of};
+ghost use Rattle.object_store.specs.Commit.{ArePuts, IsLayout, FitsRoot, drop_each, put_each, puts_of, put_size};
 ghost use Rattle.object_store.specs.Places.{extents_of, sizes_at, used_by};
-ghost use Rattle.object_store.specs.Room.{LacksPlaces, asked_for};
+ghost use Rattle.object_store.specs.Room.{LacksPlaces, sectors_asked_for};
 ghost use Rattle.object_store.specs.Planning.{LacksMemoryOr};
-ghost use Rattle.object_store.specs.Publish.{IsPlan};
+ghost use Rattle.object_store.specs.Publish.{IsPlanForPuts};
 
 use crate::catalogue::{Entry, encode};
 use crate::entries::{put_entries, without};
@@ -60,15 +60,15 @@ pub(crate) fn prepare(
     requires in_use { (sector : ℕ) → SomeHolds (extents_of kept.items) sector → SomeHolds used.now sector }
     requires fit { All FitsFields kept.items }
     requires proper { All IsProperEntry kept.items }
-    requires ascending { AreAscending kept.items }
+    requires ascending { IdsAscend kept.items }
     requires puts { ArePuts (puts_of puts.now) }
-    requires root { IsRoot root.now }
-    requires few { length (put_each (λ o. o.0) (map size_of (puts_of puts.now)) (sizes_at kept.items)) ≤ most_objects }
+    requires root { FitsRoot root.now }
+    requires few { length (put_each (λ o. o.0) (map put_size (puts_of puts.now)) (sizes_at kept.items)) ≤ most_objects }
     ensures ok { IfOk result
-        (IsPlan stamp.sectors used.now kept.items (puts_of puts.now) root.now stamp.generation stamp.layout) }
+        (IsPlanForPuts stamp.sectors used.now kept.items (puts_of puts.now) root.now stamp.generation stamp.layout) }
     ensures refused { IfErr result
         (LacksMemoryOr
-        (LacksPlaces stamp.sectors used.now (asked_for (sizes_at kept.items) (puts_of puts.now) root.now))) }
+        (LacksPlaces stamp.sectors used.now (sectors_asked_for (sizes_at kept.items) (puts_of puts.now) root.now))) }
 {
     let (mut free, placed) = place_outside(alloc, stamp.sectors, used, puts)?;
     let (entries, catalogue, root) = catalogued(alloc, &placed, kept, root)?;
@@ -96,9 +96,9 @@ fn catalogued(
     kept: Vec<Entry>,
     root: &[u8],
 ) -> Result<(Vec<Entry>, Vec<u8>, Vec<u8>), Fault>
-    requires ascending { AreAscending kept.items }
+    requires ascending { IdsAscend kept.items }
     requires few { length (put_each (λ e. e.id) placed.now kept.items) ≤ most_objects }
-    requires root { IsRoot root.now }
+    requires root { FitsRoot root.now }
     ensures entries { IfOk result (λ made. made.0.items ≡ put_each (λ e. e.id) placed.now kept.items) }
     ensures catalogue { IfOk result (λ made. made.1.items ≡ catalogue_of made.0.items root.now) }
     ensures root { IfOk result (λ made. made.2.items ≡ root.now) }
@@ -121,25 +121,25 @@ pub(crate) fn next_plan(
     root: &[u8],
     layout: u32,
 ) -> Result<CommitPlan, Fault>
-    requires superblock { superblocks.IsProper superblock.now }
+    requires superblock { superblocks.IsProperSuperblock superblock.now }
     requires last { superblock.now.generation + 1 < 2 ^ 64 }
     requires fit { All FitsFields entries.now }
     requires proper { All IsProperEntry entries.now }
-    requires ascending { AreAscending entries.now }
+    requires ascending { IdsAscend entries.now }
     requires laid_out { AreLaidOut superblock.now.sectors (used_by superblock.now entries.now) }
     requires puts { ArePuts (puts_of puts.now) }
-    requires root { IsRoot root.now }
+    requires root { FitsRoot root.now }
     requires layout { IsLayout layout }
     requires few { length
-        (put_each (λ o. o.0) (map size_of (puts_of puts.now)) (sizes_at (drop_each (λ e. e.id) drops.now entries.now)))
+        (put_each (λ o. o.0) (map put_size (puts_of puts.now)) (sizes_at (drop_each (λ e. e.id) drops.now entries.now)))
         ≤ most_objects }
     ensures ok { IfOk result
-        (IsPlan superblock.now.sectors (used_by superblock.now entries.now)
+        (IsPlanForPuts superblock.now.sectors (used_by superblock.now entries.now)
         (drop_each (λ e. e.id) drops.now entries.now)
         (puts_of puts.now) root.now (superblock.now.generation + 1) layout) }
     ensures refused { IfErr result
         (LacksMemoryOr (LacksPlaces superblock.now.sectors (used_by superblock.now entries.now)
-        (asked_for (sizes_at (drop_each (λ e. e.id) drops.now entries.now)) (puts_of puts.now) root.now))) }
+        (sectors_asked_for (sizes_at (drop_each (λ e. e.id) drops.now entries.now)) (puts_of puts.now) root.now))) }
 {
     let used = used_extents(alloc, superblock, entries)?;
     let kept = without(alloc, entries, drops)?;
@@ -161,11 +161,12 @@ pub(crate) fn first_plan(
 ) -> Result<CommitPlan, Fault>
     requires sectors { least_sectors ≤ sectors }
     requires puts { ArePuts (puts_of puts.now) }
-    requires root { IsRoot root.now }
+    requires root { FitsRoot root.now }
     requires layout { IsLayout layout }
-    requires few { length (put_each (λ o. o.0) (map size_of (puts_of puts.now)) []) ≤ most_objects }
-    ensures ok { IfOk result (IsPlan sectors [] [] (puts_of puts.now) root.now 1 layout) }
-    ensures refused { IfErr result (LacksMemoryOr (LacksPlaces sectors [] (asked_for [] (puts_of puts.now) root.now))) }
+    requires few { length (put_each (λ o. o.0) (map put_size (puts_of puts.now)) []) ≤ most_objects }
+    ensures ok { IfOk result (IsPlanForPuts sectors [] [] (puts_of puts.now) root.now 1 layout) }
+    ensures refused { IfErr result
+        (LacksMemoryOr (LacksPlaces sectors [] (sectors_asked_for [] (puts_of puts.now) root.now))) }
 {
     let stamp = Stamp {
         sectors,

@@ -4,7 +4,7 @@ ghost use Rattle.std.specs.Prelude.{IfOk, OnOk};
 ghost use Rattle.std.specs.Vec.{vec_capacity};
 ghost use Rattle.sector_device.specs.Device.{CountsFailure};
 ghost use Rattle.superblock.specs.Superblock.{sectors_of};
-ghost use Rattle.object_store.specs.Places.{bytes_at, run_bytes};
+ghost use Rattle.object_store.specs.Places.{bytes_at, sectors_bytes};
 ghost use Rattle.object_store.specs.Reading.{IsOnlyRead};
 
 use sector_device::{DeviceError, Sectors};
@@ -67,7 +67,7 @@ fn read_whole<D: Sectors>(device: &mut D, first: u32, to: &mut [u8]) -> Result<u
     ensures only { D.keeps_word device.new → IsOnlyRead (D.state device.old) (D.state device.new) }
     ensures many { IfOk result (λ n. n ≡ length to.old / 512 * 512) }
     ensures bytes { IfOk result (λ n. D.keeps_word device.new
-        → to.new ≡ run_bytes (D.state device.old).reads first (length to.old / 512) ++ drop n to.old) }
+        → to.new ≡ sectors_bytes (D.state device.old).reads first (length to.old / 512) ++ drop n to.old) }
 {
     let n = to.len() / 512 * 512;
     device.read_run(first, &mut to[..n])?;
@@ -114,7 +114,7 @@ pub(crate) fn push_sectors<D: Sectors>(
     ensures word { D.keeps_word device.new → D.keeps_word device.old }
     ensures only { D.keeps_word device.new → IsOnlyRead (D.state device.old) (D.state device.new) }
     ensures bytes { OnOk result (D.keeps_word device.new
-        → to.new.items ≡ to.old.items ++ run_bytes (D.state device.old).reads first n) }
+        → to.new.items ≡ to.old.items ++ sectors_bytes (D.state device.old).reads first n) }
 {
     let at = to.len();
     to.resize(at + n as usize * 512, 0).unwrap();

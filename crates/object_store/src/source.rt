@@ -9,7 +9,7 @@ use wire::Source;
 
 impl<D: Sectors> Source for Store<D> {
     ghost use Rattle.object_store.specs.Store.{content_of, device_of, size_in};
-    ghost use Rattle.object_store.specs.Sourced.{HasOnlyRead, CannotRead, none_read, reads_on, fails_later};
+    ghost use Rattle.object_store.specs.Sourced.{HasOnlyRead, ReadIsRefused, none_read, reads_on, fails_later};
 
     ghost totals = { λ store id. size_in store id };
 
@@ -21,7 +21,7 @@ impl<D: Sectors> Source for Store<D> {
 
     ghost reads = { HasOnlyRead D.Sectors };
 
-    ghost fails = { CannotRead D.Sectors };
+    ghost fails = { ReadIsRefused D.Sectors };
 
     fn total(&self, id: u32) -> Option<u64> {
         self.size(id)

@@ -7,13 +7,13 @@ ghost use Rattle.std.specs.Vec.{vec_capacity};
 ghost use Rattle.superblock.specs.Superblock.{sectors_of};
 ghost use Rattle.wire.specs.Parts.{Gives};
 ghost use Rattle.object_store.specs.Content.{bytes_of};
-ghost use Rattle.object_store.specs.Commit.{ArePuts, IsFew, IsLayout, IsRoot, committed, created, puts_of, find_by};
-ghost use Rattle.object_store.specs.Ready.{IsKept, IsReady};
+ghost use Rattle.object_store.specs.Commit.{ArePuts, IsFew, IsLayout, FitsRoot, committed, created, puts_of, find_by};
+ghost use Rattle.object_store.specs.Ready.{KeepsLayout, IsReady};
 ghost use Rattle.object_store.specs.Publish.{IsPlanOver, IsSomePlanOver};
 ghost use Rattle.object_store.specs.Room.{LacksRoom, empty_room};
 ghost use Rattle.object_store.specs.Disk.{disk, IsBlank, AllShow, Leaves, LeavesOrNone, Each, OnlyImagesOf, IsShown};
 ghost use Rattle.object_store.specs.Disk.{MayShowNothing, HasOneImage};
-ghost use Rattle.object_store.specs.Found.{Explains, is_of_layout};
+ghost use Rattle.object_store.specs.Found.{ExplainsRefusal, is_of_layout};
 ghost use Rattle.object_store.specs.Shows.{HasNone};
 
 use crate::catalogue::Entry;
@@ -40,7 +40,7 @@ pub struct Store<D: Sectors> {
     entries: Vec<Entry>,
     root: Vec<u8>,
     failed: bool,
-    ghost kept: { IsKept (D.state device).size superblock entries.items root.items },
+    ghost kept: { KeepsLayout (D.state device).size superblock entries.items root.items },
     ghost ready: { failed ≡ false → D.keeps_word device
         → IsReady (D.state device) superblock entries.items root.items },
 }
@@ -58,7 +58,7 @@ impl<D: Sectors> Store<D> {
         layout: u32,
     ) -> Result<Store<D>, (Fault, D)>
         requires puts { ArePuts (puts_of puts.now) }
-        requires root { IsRoot root.now }
+        requires root { FitsRoot root.now }
         requires layout { IsLayout layout }
         requires few { IsFew (created (puts_of puts.now) root.now layout) }
 
@@ -135,7 +135,7 @@ impl<D: Sectors> Store<D> {
         ensures nothing { IfErr result (λ e. is_of_layout e.0 ≡ true → D.keeps_word e.1
             → MayShowNothing (disk D.Sectors device)) }
         ensures explained { IfErr result
-            (λ e. D.keeps_word e.1 → Explains e.0 (D.state device).size (D.state device).reads) }
+            (λ e. D.keeps_word e.1 → ExplainsRefusal e.0 (D.state device).size (D.state device).reads) }
         ensures device { IfErr result (λ e. e.0 ≡ Device → D.failed e.1 ≡ min (D.failed device + 1) (2 ^ 64 - 1)) }
         ensures causes { IfErr result (λ e. (e.0 ≡ Memory) ⊎ ((e.0 ≡ Device) ⊎ (is_of_layout e.0 ≡ true))) }
     {
@@ -358,7 +358,7 @@ impl<D: Sectors> Store<D> {
         layout: u32,
     ) -> Result<(), Fault>
         requires puts { ArePuts (puts_of puts.now) }
-        requires root { IsRoot root.now }
+        requires root { FitsRoot root.now }
         requires layout { IsLayout layout }
         requires few { IsFew (committed (puts_of puts.now) drops.now root.now layout (content_of D.Sectors self.old)) }
 
@@ -397,7 +397,7 @@ impl<D: Sectors> Store<D> {
         layout: u32,
     ) -> Result<CommitPlan, Fault>
         requires puts { ArePuts (puts_of puts.now) }
-        requires root { IsRoot root.now }
+        requires root { FitsRoot root.now }
         requires layout { IsLayout layout }
         requires few { IsFew (committed (puts_of puts.now) drops.now root.now layout (content_of D.Sectors self.now)) }
         ensures ok { IfOk result

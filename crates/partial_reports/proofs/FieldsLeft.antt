@@ -10,7 +10,7 @@ use Rattle.cube_model.specs.declared.query.Query.{Query}
 use Rattle.answer_merge.specs.Readable.{HasNoByte, IsPlainMember, IsReadableLine, IsWholeNumber}
 use Rattle.answer_merge.proofs.CallerLemmas.{line_bar}
 use Rattle.ssb_reports.specs.Report.{member_text, value_text}
-use Rattle.partial_reports.specs.Reading.{AreLeft, fields_of}
+use Rattle.partial_reports.specs.Reading.{FieldsAreLeft, line_fields}
 
 -- the last field
 pub record IsLastField (text field : List ℕ) (others : List (List ℕ)) : Type 0 where
@@ -23,10 +23,10 @@ pub record IsNextField (text field : List ℕ) (others : List (List ℕ)) : Type
   pub back : List ℕ
   pub spelled : text ≡ field ++ 124 ∷ back
   pub lacks : HasNoByte 124 field
-  pub left : AreLeft (Some back) others
+  pub left : FieldsAreLeft (Some back) others
 
 pub last_or_next_field : (left : Option (List ℕ)) (text field : List ℕ) (others : List (List ℕ)) → left ≡ Some text
-    → AreLeft left (field ∷ others)
+    → FieldsAreLeft left (field ∷ others)
     → IsLastField text field others ⊎ IsNextField text field others
 last_or_next_field left text field [] is fields =
     let alone : text ≡ field = same_Some text field (sym is ∙ fields.joined) in
@@ -38,11 +38,11 @@ last_or_next_field left text field (next ∷ others) is fields = inr (record {
   left = record { each = fields.each.1; joined = refl };
 })
 
-pub some_left : (field : List ℕ) (others : List (List ℕ)) → AreLeft None (field ∷ others) → ⊥
+pub some_left : (field : List ℕ) (others : List (List ℕ)) → FieldsAreLeft None (field ∷ others) → ⊥
 some_left field others fields = none-some (join_with_byte 124 (field ∷ others)) fields.joined
 
 -- no field is left, of none
-pub none_left : (others : List (List ℕ)) → others ≡ [] → AreLeft None others
+pub none_left : (others : List (List ℕ)) → others ≡ [] → FieldsAreLeft None others
 none_left [] e = record { each = tt; joined = tt }
 none_left (field ∷ others) e = cc
 
@@ -53,7 +53,7 @@ pub record KeyLeft (key read : List Member) (columns taken : ℕ) (left : Option
   pub is : key ≡ read ++ rest
   pub size : taken + length rest ≡ columns
   pub plain : AllByRecursion IsPlainMember rest
-  pub fields : AreLeft left (map member_text rest ++ others)
+  pub fields : FieldsAreLeft left (map member_text rest ++ others)
 
 -- another member
 pub record IsNextMember (key read : List Member) (columns taken : ℕ) (left : Option (List ℕ))
@@ -61,8 +61,8 @@ pub record IsNextMember (key read : List Member) (columns taken : ℕ) (left : O
   pub member : Member
   pub plain : IsPlainMember member
   pub more : List (List ℕ)
-  pub fields : AreLeft left (member_text member ∷ more)
-  pub after : (new : List Member) (moved : Option (List ℕ)) → new ≡ read ++ member ∷ [] → AreLeft moved more
+  pub fields : FieldsAreLeft left (member_text member ∷ more)
+  pub after : (new : List Member) (moved : Option (List ℕ)) → new ≡ read ++ member ∷ [] → FieldsAreLeft moved more
       → KeyLeft key new columns (taken + 1) moved others
 
 pub next_member : (key read : List Member) (columns taken : ℕ) (left : Option (List ℕ)) (others : List (List ℕ))
@@ -71,7 +71,7 @@ pub next_member : (key read : List Member) (columns taken : ℕ) (left : Option 
 next_member key read columns taken left others less k = by k.rest k.is k.size k.plain k.fields
   where
     by : (rest : List Member) → key ≡ read ++ rest → taken + length rest ≡ columns → AllByRecursion IsPlainMember rest
-        → AreLeft left (map member_text rest ++ others)
+        → FieldsAreLeft left (map member_text rest ++ others)
         → IsNextMember key read columns taken left others
     by [] is size plain fields = absurd (omega (arith, size, less))
     by (member ∷ rest) is size plain fields = record {
@@ -89,11 +89,11 @@ next_member key read columns taken left others less k = by k.rest k.is k.size k.
     }
 
 pub all_members : (key read : List Member) (columns : ℕ) (left : Option (List ℕ)) (others : List (List ℕ))
-    → KeyLeft key read columns columns left others → (read ≡ key) × AreLeft left others
+    → KeyLeft key read columns columns left others → (read ≡ key) × FieldsAreLeft left others
 all_members key read columns left others k = by k.rest k.is k.size k.fields
   where
     by : (rest : List Member) → key ≡ read ++ rest → columns + length rest ≡ columns
-        → AreLeft left (map member_text rest ++ others) → (read ≡ key) × AreLeft left others
+        → FieldsAreLeft left (map member_text rest ++ others) → (read ≡ key) × FieldsAreLeft left others
     by [] is size fields = (sym (is ∙ append-nil read), fields)
     by (member ∷ rest) is size fields = absurd (omega (arith, size))
 
@@ -103,15 +103,15 @@ pub record ValuesLeft (values read : List Value) (aggregates taken : ℕ) (left 
   pub is : values ≡ read ++ rest
   pub size : taken + length rest ≡ aggregates
   pub whole : AllByRecursion IsWholeNumber rest
-  pub fields : AreLeft left (map value_text rest)
+  pub fields : FieldsAreLeft left (map value_text rest)
 
 -- another number
 pub record IsNextValue (values read : List Value) (aggregates taken : ℕ) (left : Option (List ℕ)) : Type 0 where
   pub value : Value
   pub whole : IsWholeNumber value
   pub more : List (List ℕ)
-  pub fields : AreLeft left (value_text value ∷ more)
-  pub after : (new : List Value) (moved : Option (List ℕ)) → new ≡ read ++ value ∷ [] → AreLeft moved more
+  pub fields : FieldsAreLeft left (value_text value ∷ more)
+  pub after : (new : List Value) (moved : Option (List ℕ)) → new ≡ read ++ value ∷ [] → FieldsAreLeft moved more
       → ValuesLeft values new aggregates (taken + 1) moved
 
 pub next_value : (values read : List Value) (aggregates taken : ℕ) (left : Option (List ℕ)) → taken < aggregates
@@ -119,7 +119,7 @@ pub next_value : (values read : List Value) (aggregates taken : ℕ) (left : Opt
 next_value values read aggregates taken left less k = by k.rest k.is k.size k.whole k.fields
   where
     by : (rest : List Value) → values ≡ read ++ rest → taken + length rest ≡ aggregates
-        → AllByRecursion IsWholeNumber rest → AreLeft left (map value_text rest)
+        → AllByRecursion IsWholeNumber rest → FieldsAreLeft left (map value_text rest)
         → IsNextValue values read aggregates taken left
     by [] is size whole fields = absurd (omega (arith, size, less))
     by (value ∷ rest) is size whole fields = record {
@@ -137,20 +137,20 @@ next_value values read aggregates taken left less k = by k.rest k.is k.size k.wh
     }
 
 pub all_values : (values read : List Value) (aggregates : ℕ) (left : Option (List ℕ))
-    → ValuesLeft values read aggregates aggregates left → (read ≡ values) × AreLeft left []
+    → ValuesLeft values read aggregates aggregates left → (read ≡ values) × FieldsAreLeft left []
 all_values values read aggregates left k = by k.rest k.is k.size k.fields
   where
     by : (rest : List Value) → values ≡ read ++ rest → aggregates + length rest ≡ aggregates
-        → AreLeft left (map value_text rest) → (read ≡ values) × AreLeft left []
+        → FieldsAreLeft left (map value_text rest) → (read ≡ values) × FieldsAreLeft left []
     by [] is size fields = (sym (is ∙ append-nil read), fields)
     by (value ∷ rest) is size fields = absurd (omega (arith, size))
 
 -- the fields of a line are left of its text
 all_joined : (fields : List (List ℕ)) (text : List ℕ) → AllByRecursion (HasNoByte 124) fields
-    → text ≡ join_with_byte 124 fields → AreLeft (Some text) fields
+    → text ≡ join_with_byte 124 fields → FieldsAreLeft (Some text) fields
 all_joined [] text each e = record { each = tt; joined = e }
 all_joined (field ∷ fields) text each e = record { each = each; joined = ap Some e }
 
 pub line_left : (query : Query) (line : Line) (text : List ℕ) → IsReadableLine query line
-    → text ≡ join_with_byte 124 (fields_of line) → AreLeft (Some text) (fields_of line)
-line_left query line text is e = all_joined (fields_of line) text (line_bar query line is) e
+    → text ≡ join_with_byte 124 (line_fields line) → FieldsAreLeft (Some text) (line_fields line)
+line_left query line text is e = all_joined (line_fields line) text (line_bar query line is) e

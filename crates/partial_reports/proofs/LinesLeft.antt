@@ -13,7 +13,7 @@ use Rattle.cube_model.specs.Orders.{answer_cmp}
 use Rattle.answer_merge.specs.Readable.{HasNoByte, IsReadableLine}
 use Rattle.answer_merge.proofs.CallerLemmas.{line_lf}
 use Rattle.ssb_reports.specs.Report.{count_text, line_text}
-use Rattle.partial_reports.specs.Reading.{IsNextLine, SpellsLines, fields_of}
+use Rattle.partial_reports.specs.Reading.{IsNextLine, SpellsPartLines, line_fields}
 use Rattle.partial_reports.proofs.NumbersLeft.{digits_lack, lack_both}
 use Rattle.partial_reports.proofs.NumberTexts.{digits}
 
@@ -98,7 +98,7 @@ end_or_line query all read text taken size w = by w.rest w.is w.readable w.spell
               arith,
               ap length is_left,
               sizes,
-              length-append (join_with_byte 124 (fields_of line)) (10 ∷ []),
+              length-append (join_with_byte 124 (line_fields line)) (10 ∷ []),
               w.room,
             );
           };
@@ -106,7 +106,7 @@ end_or_line query all read text taken size w = by w.rest w.is w.readable w.spell
 
 -- no line was read
 pub all_lines : (query : Query) (all read : List Line) (text : List ℕ) (taken : ℕ) → length read ≡ 0 → taken ≡ 0
-    → SpellsLines query text all → LinesLeft query all read text taken (length text)
+    → SpellsPartLines query text all → LinesLeft query all read text taken (length text)
 all_lines query all [] text taken none start is =
     record {
       rest = all;
@@ -139,10 +139,10 @@ count_lacks n few = lack_both 10 (codes "rows ") (decimal n) (refl, (refl, (refl
 pub count_front : (n : ℕ) → count_text n ≡ (codes "rows " ++ decimal n) ++ 10 ∷ []
 count_front n = sym (append_assoc (codes "rows ") (decimal n) (10 ∷ []))
 
-pub line_front : (line : Line) (left : List ℕ) → line_text line ++ left ≡ join_with_byte 124 (fields_of line) ++ 10
+pub line_front : (line : Line) (left : List ℕ) → line_text line ++ left ≡ join_with_byte 124 (line_fields line) ++ 10
     ∷ left
-line_front line left = append_assoc (join_with_byte 124 (fields_of line)) (10 ∷ []) left
+line_front line left = append_assoc (join_with_byte 124 (line_fields line)) (10 ∷ []) left
 
 pub line_lacks : (query : Query) (line : Line) → IsReadableLine query line
-    → HasNoByte 10 (join_with_byte 124 (fields_of line))
+    → HasNoByte 10 (join_with_byte 124 (line_fields line))
 line_lacks query line is = line_lf query line is

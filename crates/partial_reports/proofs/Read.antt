@@ -5,7 +5,7 @@ use Rattle.std.proofs.lemmas.Grind.{flat_map-append}
 use Rattle.cube_model.specs.declared.answer.Line.{Line}
 use Rattle.cube_model.specs.declared.query.Query.{Query}
 use Rattle.ssb_reports.specs.Report.{line_text}
-use Rattle.partial_reports.specs.Reading.{AreLinesOf, ReadsCount, ReadsLine, SpellsLines}
+use Rattle.partial_reports.specs.Reading.{AreLinesOf, ReadsCount, ReadsLine, SpellsPartLines}
 
 -- no line was read
 pub no_lines : (query : Query) (lines : List Line) → length lines ≡ 0 → AreLinesOf query lines
@@ -30,7 +30,7 @@ one_more query old new text left rest is reads =
 -- the number of lines was read, and with it all
 pub all_read : (query : Query) (old new : List Line) (text left : List ℕ) → AreLinesOf query old
     → text ≡ flat_map line_text old ++ left → ReadsCount query old new left
-    → SpellsLines query text new
+    → SpellsPartLines query text new
 all_read query old new text left are is reads = rw reads.same (record {
   are = are;
   few = reads.few;

@@ -8,14 +8,14 @@ use Rattle.dimension_objects.specs.Spelled.{dimension_spelling}
 use Rattle.sha2.specs.Sha256.{sha256}
 
 -- the bytes of a dimension, as a warehouse stores them
-abbrev pub object_of : DimRows → Axis → List ℕ
-object_of dimensions axis = dimension_spelling axis (rows_on dimensions axis)
+abbrev pub dimension_object : DimRows → Axis → List ℕ
+dimension_object dimensions axis = dimension_spelling axis (rows_on dimensions axis)
 
 -- the four objects, one after the other
 abbrev pub objects_of : DimRows → List ℕ
 objects_of dimensions =
-    ((object_of dimensions Customer ++ object_of dimensions Supplier) ++ object_of dimensions Part)
-    ++ object_of dimensions Date
+    ((dimension_object dimensions Customer ++ dimension_object dimensions Supplier) ++ dimension_object dimensions Part)
+    ++ dimension_object dimensions Date
 
 abbrev pub digest_of : DimRows → List ℕ
 digest_of dimensions = sha256 (objects_of dimensions)

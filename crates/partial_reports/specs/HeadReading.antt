@@ -23,5 +23,5 @@ abbrev pub part_line : Head → List ℕ
 part_line head = codes "part " ++ (numbers_text head.numbers ++ 47 ∷ decimal head.parts)
 
 -- memory ran out where it did before
-abbrev pub IsRefusedFor : Fault → Refused → Type 0
-IsRefusedFor was refused = was ≡ fault.Memory → refused ≡ Memory
+abbrev pub IsSameCause : Fault → Refused → Type 0
+IsSameCause was refused = was ≡ fault.Memory → refused ≡ Memory

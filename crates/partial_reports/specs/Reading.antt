@@ -9,8 +9,8 @@ use Rattle.answer_merge.specs.Readable.{HasNoByte, IsReadableLine}
 use Rattle.ssb_reports.specs.Report.{count_text, line_text, member_text, value_text}
 
 -- the fields of a line: its members, then its numbers
-abbrev pub fields_of : Line → List (List ℕ)
-fields_of line = map member_text line.key ++ map value_text line.values
+abbrev pub line_fields : Line → List (List ℕ)
+line_fields line = map member_text line.key ++ map value_text line.values
 
 -- fields, joined by bars, are what is left of a line's text: nothing, or no byte, where they are none
 abbrev pub AreJoined : Option (List ℕ) → List (List ℕ) → Type 0
@@ -18,7 +18,7 @@ AreJoined left [] = IfSome left (λ text. text ≡ [])
 AreJoined left (field ∷ fields) = left ≡ Some (join_with_byte 124 (field ∷ fields))
 
 -- and none of them has a bar (124)
-pub record AreLeft (left : Option (List ℕ)) (fields : List (List ℕ)) : Type 0 where
+pub record FieldsAreLeft (left : Option (List ℕ)) (fields : List (List ℕ)) : Type 0 where
   pub each : AllByRecursion (HasNoByte 124) fields
   pub joined : AreJoined left fields
 
@@ -48,7 +48,7 @@ pub record ReadsCount (query : Query) (old new : List Line) (text : List ℕ) : 
   pub spelled : text ≡ count_text (length old)
 
 -- a text spells lines and their number
-pub record SpellsLines (query : Query) (text : List ℕ) (lines : List Line) : Type 0 where
+pub record SpellsPartLines (query : Query) (text : List ℕ) (lines : List Line) : Type 0 where
   pub are : AreLinesOf query lines
   pub few : length lines < 2 ^ 63
   pub spelled : text ≡ flat_map line_text lines ++ count_text (length lines)

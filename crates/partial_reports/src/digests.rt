@@ -1,7 +1,7 @@
 //! The digest of dimension rows.
 ghost use Rattle.std.specs.Prelude.{◌≡◌, ◌++◌, ℕ, List, IfErr, IfOk, OnOk};
 ghost use Rattle.sha2.specs.Hashers.{Holds256};
-ghost use Rattle.partial_reports.specs.Dimensions.{digest_of, object_of};
+ghost use Rattle.partial_reports.specs.Dimensions.{digest_of, dimension_object};
 
 use cube_model::{Axis, Fault};
 use dimension_objects::encode;
@@ -26,7 +26,7 @@ pub fn digest_of(alloc: Global, dims: &Dims) -> Result<[u8; 32], Fault>
 // Adds the bytes of a dimension to what is digested.
 fn add_object(alloc: Global, hasher: &mut Sha256, dims: &Dims, axis: Axis) -> Result<(), Fault>
     ensures ok { OnOk result ((bytes : List ℕ) → Holds256 hasher.old bytes
-        → Holds256 hasher.new (bytes ++ object_of dims.now axis)) }
+        → Holds256 hasher.new (bytes ++ dimension_object dims.now axis)) }
     ensures only { IfErr result (λ fault. fault ≡ Fault.Memory) }
 {
     let bytes = encode(alloc, dims, axis)?;

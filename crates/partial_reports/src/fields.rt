@@ -11,7 +11,7 @@ ghost use Rattle.cube_model.specs.declared.answer.Value.{Value};
 ghost use Rattle.answer_merge.specs.Readable.{IsPlainMember, IsReadableLine, IsWholeNumber};
 ghost use Rattle.ssb_reports.specs.Report.{member_text, value_text};
 ghost use Rattle.partial_reports.specs.HeadReading.{UnlessMemory};
-ghost use Rattle.partial_reports.specs.Reading.{AreLeft, fields_of};
+ghost use Rattle.partial_reports.specs.Reading.{FieldsAreLeft, line_fields};
 
 use crate::head_reading::cut;
 use crate::refused::{Refused, Wrong};
@@ -26,7 +26,7 @@ pub(crate) fn parse_line(
     query: &Query,
     text: &[u8],
 ) -> Result<Line, Refused>
-    ensures { (line : Line) → IsReadableLine query.now line → text.now ≡ join_with_byte 124 (fields_of line)
+    ensures { (line : Line) → IsReadableLine query.now line → text.now ≡ join_with_byte 124 (line_fields line)
         → UnlessMemory result (λ read. read ≡ line) }
 {
     let mut fields = LineFields { left: Some(text) };
@@ -48,9 +48,9 @@ impl<'a> LineFields<'a> {
     // The next field.
     fn next(&mut self) -> Option<&'a [u8]>
         ensures { (field : List ℕ) (others : List (List ℕ))
-            → AreLeft (option_map (λ text. text.now) self.old.left) (field ∷ others)
+            → FieldsAreLeft (option_map (λ text. text.now) self.old.left) (field ∷ others)
             → IsSomeAnd result (λ read. read.now ≡ field)
-            × AreLeft (option_map (λ text. text.now) self.new.left) others }
+            × FieldsAreLeft (option_map (λ text. text.now) self.new.left) others }
     {
         let left = self.left?;
         match cut(left, b'|') {
@@ -67,7 +67,7 @@ impl<'a> LineFields<'a> {
 
     // Whether there is text that no field was taken of.
     fn has_more(&self) -> bool
-        ensures { AreLeft (option_map (λ text. text.now) self.now.left) [] → result ≡ false }
+        ensures { FieldsAreLeft (option_map (λ text. text.now) self.now.left) [] → result ≡ false }
     {
         match self.left {
             Some(left) => !left.is_empty(),
@@ -84,8 +84,9 @@ fn parse_key(
     fields: &mut LineFields<'_>,
 ) -> Result<Items<Member>, Refused>
     ensures { (key : List Member) (others : List (List ℕ)) → length key ≡ columns → AllByRecursion IsPlainMember key
-        → AreLeft (option_map (λ text. text.now) fields.old.left) (map member_text key ++ others)
-        → UnlessMemory result (λ read. (read ≡ key) × AreLeft (option_map (λ text. text.now) fields.new.left) others) }
+        → FieldsAreLeft (option_map (λ text. text.now) fields.old.left) (map member_text key ++ others)
+        → UnlessMemory result
+        (λ read. (read ≡ key) × FieldsAreLeft (option_map (λ text. text.now) fields.new.left) others) }
 {
     let mut key = Items::new(alloc);
     for _column in 0..columns {
@@ -105,8 +106,9 @@ fn parse_values(
     fields: &mut LineFields<'_>,
 ) -> Result<Items<Value>, Refused>
     ensures { (values : List Value) → length values ≡ aggregates → AllByRecursion IsWholeNumber values
-        → AreLeft (option_map (λ text. text.now) fields.old.left) (map value_text values)
-        → UnlessMemory result (λ read. (read ≡ values) × AreLeft (option_map (λ text. text.now) fields.new.left) []) }
+        → FieldsAreLeft (option_map (λ text. text.now) fields.old.left) (map value_text values)
+        → UnlessMemory result
+        (λ read. (read ≡ values) × FieldsAreLeft (option_map (λ text. text.now) fields.new.left) []) }
 {
     let mut values = Items::new(alloc);
     for _aggregate in 0..aggregates {

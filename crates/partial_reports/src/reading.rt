@@ -9,7 +9,7 @@ ghost use Rattle.answer_merge.specs.Readable.{IsReadableAnswer};
 ghost use Rattle.ssb_reports.specs.Report.{count_text, header_text, line_text, report_of};
 ghost use Rattle.partial_reports.specs.declared.refused.Refused.TheVariants.{Memory};
 ghost use Rattle.partial_reports.specs.HeadReading.{UnlessMemory};
-ghost use Rattle.partial_reports.specs.Reading.{AreLinesOf, IsNextLine, ReadsCount, ReadsLine, SpellsLines};
+ghost use Rattle.partial_reports.specs.Reading.{AreLinesOf, IsNextLine, ReadsCount, ReadsLine, SpellsPartLines};
 
 use crate::fields::parse_line;
 use crate::head_reading::cut;
@@ -63,8 +63,8 @@ fn after_names<'a>(
 // The lines up to their number, which ends the text. Each line takes a byte at least, so the loop does not end before.
 #[tactic(auto, using(crate::proofs::Read::no_lines, crate::proofs::Read::no_text, crate::proofs::Read::one_more, crate::proofs::Read::all_read))]
 fn read_lines(alloc: Global, query: &Query, first: u64, text: &[u8]) -> Result<Items<Line>, Refused>
-    ensures spelled { IfOk result (SpellsLines query.now text.now) }
-    ensures complete { (lines : List Line) → SpellsLines query.now text.now lines
+    ensures spelled { IfOk result (SpellsPartLines query.now text.now) }
+    ensures complete { (lines : List Line) → SpellsPartLines query.now text.now lines
         → UnlessMemory result (λ read. read ≡ lines) }
 {
     let mut lines = Items::new(alloc);

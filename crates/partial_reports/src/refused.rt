@@ -66,9 +66,9 @@ impl<T: Drop> From<AllocFailed<T>> for Refused {
 }
 
 impl From<Fault> for Refused {
-    ghost use Rattle.partial_reports.specs.HeadReading.{IsRefusedFor};
+    ghost use Rattle.partial_reports.specs.HeadReading.{IsSameCause};
 
-    ghost from_gives = { IsRefusedFor };
+    ghost from_gives = { IsSameCause };
 
     // Texts are spelled in memory, so no other fault than `Memory` comes here.
     fn from(_fault: Fault) -> Refused {

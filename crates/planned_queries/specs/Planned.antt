@@ -10,11 +10,11 @@ use Rattle.planner.specs.declared.price.Priced.{Priced}
 use Rattle.planner.specs.declared.stored.Stored.{Stored}
 use Rattle.planner.specs.Listed.{HasCheapestFirst}
 use Rattle.planner.specs.Plans.{AnswersAt, IsPlan}
-use Rattle.warehouse_objects.specs.Warehouse.{Cuboid, Warehouse, cells_in, cuboid_at}
+use Rattle.warehouse_objects.specs.Warehouse.{Cuboid, Warehouse, cell_count, cuboid_at}
 
 -- what the planner looks at of a stored cuboid
 abbrev pub seen_of : Cuboid → Stored
-seen_of cuboid = record { view = cuboid.view; mark = cuboid.mark; cells = cells_in cuboid.runs }
+seen_of cuboid = record { view = cuboid.view; mark = cuboid.mark; cells = cell_count cuboid.runs }
 
 -- the stored cuboids of a warehouse, as the planner looks at them
 abbrev pub stored_of : Warehouse → List Stored

@@ -37,8 +37,8 @@ abbrev pub stepped : Started → ℕ → Started
 stepped s left = record { query = s.query; as_of = s.as_of; rows = s.rows; batches = s.batches; left = left }
 
 -- its answer is the definition's
-abbrev pub answer_of : Started → Answer
-answer_of s = answer_as_of s.query s.as_of s.rows s.batches
+abbrev pub started_answer : Started → Answer
+started_answer s = answer_as_of s.query s.as_of s.rows s.batches
 
 -- the batches of the start are the first, whatever rows the dimensions have now
 pub record Extends (s : Started) (w : Warehouse) : Type 0 where
@@ -58,4 +58,4 @@ pub record IsRunning (running : RunningState) (s : Started) : Type 0 where
 -- a step of a running query: one batch more, or the answer after the last one
 abbrev pub Advances : Started → RunningState → Option Answer → Type 0
 Advances s new None = (left : ℕ) × (s.left ≡ left + 1) × IsRunning new (stepped s left)
-Advances s new (Some found) = (s.left ≡ 0) × (found ≡ answer_of s)
+Advances s new (Some found) = (s.left ≡ 0) × (found ≡ started_answer s)

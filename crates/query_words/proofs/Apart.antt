@@ -19,7 +19,7 @@ use Rattle.mode_queries.specs.Names.{ship_mode_name}
 use Rattle.ssb_reports.specs.declared.number.QNumber.{QNumber}
 use Rattle.ssb_reports.specs.declared.number.QNumber.TheVariants.{Q11, Q12, Q13, Q21, Q22, Q23, Q31, Q32, Q33, Q34, Q41}
 use Rattle.ssb_reports.specs.declared.number.QNumber.TheVariants.{Q42, Q43}
-use Rattle.ssb_reports.specs.Benchmark.{number_text}
+use Rattle.ssb_reports.specs.Benchmark.{query_number_text}
 use Rattle.query_words.specs.declared.known.Column.{Column}
 use Rattle.query_words.specs.declared.known.Column.TheVariants.{Attribute, ShipMode}
 use Rattle.query_words.specs.Known.{column_name}
@@ -116,9 +116,9 @@ number_of text =
     cond (bytes_eq text (codes "4.2")) Q42 (
     Q43))))))))))))
 
-number_back : (value : QNumber) → number_of (number_text value) ≡ value
+number_back : (value : QNumber) → number_of (query_number_text value) ≡ value
 unfolding number_of
-number_back value = elim value as (λ one. number_of (number_text one) ≡ one) [
+number_back value = elim value as (λ one. number_of (query_number_text one) ≡ one) [
   | Q11 ↦ refl
   | Q12 ↦ refl
   | Q13 ↦ refl
@@ -134,7 +134,7 @@ number_back value = elim value as (λ one. number_of (number_text one) ≡ one) 
   | Q43 ↦ refl
 ]
 
-pub number_once : (one other : QNumber) → number_text one ≡ number_text other → one ≡ other
+pub number_once : (one other : QNumber) → query_number_text one ≡ query_number_text other → one ≡ other
 number_once one other same = sym (number_back one) ∙ ap number_of same ∙ number_back other
 
 kind_of : List ℕ → Kind

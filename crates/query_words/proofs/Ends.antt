@@ -19,7 +19,7 @@ use Rattle.query_words.specs.declared.known.Subject.{Subject}
 use Rattle.query_words.specs.declared.known.Subject.TheVariants as subjects
 use Rattle.query_words.specs.Known.{column_name}
 use Rattle.query_words.specs.Spelled.{SpellsAfter}
-use Rattle.query_words.specs.Words.{AreBounds, parts_by}
+use Rattle.query_words.specs.Words.{SpellsBounds, parts_by}
 use Rattle.query_words.proofs.Shapes.{apart}
 
 -- nothing that can be a column has the name of a number
@@ -82,7 +82,7 @@ some_part sign text = let count : length (parts_by sign text) ≡ count_by (λ b
     (λ byte. eqb byte sign) text in omega arith
 
 -- a range has two ends
-bounds_two : (range : List ℕ) (m n : ℕ) → AreBounds range m n → length (parts_by 124 range) ≡ 2
+bounds_two : (range : List ℕ) (m n : ℕ) → SpellsBounds range m n → length (parts_by 124 range) ≡ 2
 bounds_two range m n bounds = ap length bounds.parts
 
 pub two_ends : (subject : Subject) (range : List ℕ) (condition : Condition) → SpellsAfter subject 58 range condition

@@ -13,14 +13,14 @@ use Rattle.mode_queries.specs.declared.query.ModeCond.TheVariants as modes
 use Rattle.mode_queries.specs.declared.query.ModeQuery.{ModeQuery}
 use Rattle.mode_queries.specs.Lawful.{without_modes}
 use Rattle.mode_queries.specs.Names.{ship_mode_name}
-use Rattle.ssb_reports.specs.Benchmark.{benchmark_query, number_text}
+use Rattle.ssb_reports.specs.Benchmark.{benchmark_query, query_number_text}
 use Rattle.query_words.specs.declared.cube_parts.Condition.{Condition}
 use Rattle.query_words.specs.declared.cube_parts.Condition.TheVariants.{Dimension, Modes}
 use Rattle.query_words.specs.declared.known.Column.{Column}
 use Rattle.query_words.specs.Known.{column_name}
-use Rattle.query_words.specs.Parts.{attribute_in, dimensions_in, is_ship_mode, modes_in}
+use Rattle.query_words.specs.Parts.{attribute_in, dimensions_in, is_ship_mode, mode_conditions_in}
 use Rattle.query_words.specs.Spelled.{AreNamed}
-use Rattle.query_words.specs.Words.{AreBounds, SpellsAggregate, SpellsAggregates, SpellsBenchmark, SpellsColumns}
+use Rattle.query_words.specs.Words.{SpellsBounds, SpellsAggregate, SpellsAggregates, SpellsBenchmark, SpellsColumns}
 use Rattle.query_words.specs.Words.{SpellConditions, SpellsCondition, SpellsCube, SpellsKind, SpellsMembers}
 use Rattle.query_words.specs.Words.{SpellsQuery, Words}
 use Rattle.query_words.specs.Words.{condition_name, condition_sign, parts_by}
@@ -31,7 +31,7 @@ use Rattle.query_words.proofs.Ends.{no_such_number}
 use Rattle.query_words.proofs.Placed.{attributes_back, columns_with, named_with, place_back}
 use Rattle.query_words.proofs.Shapes.{apart, condition_mark, plain_condition}
 
-bounds_once : (text : List ℕ) (low high from to : ℕ) → AreBounds text low high → AreBounds text from to
+bounds_once : (text : List ℕ) (low high from to : ℕ) → SpellsBounds text low high → SpellsBounds text from to
     → (low ≡ from) × (high ≡ to)
 bounds_once text low high from to one other =
     let texts : one.low_text ∷ one.high_text ∷ [] ≡ other.low_text ∷ other.high_text ∷ [] = sym one.parts
@@ -129,7 +129,7 @@ conditions_once words on others modes_on modes_others spells spelled =
     let same : spells.conditions ≡ spelled.conditions = zip_once SpellsCondition condition_once words
     spells.conditions spelled.conditions spells.spelled spelled.spelled in (
       sym spells.dimensions_are ∙ ap (flat_map dimensions_in) same ∙ spelled.dimensions_are,
-      sym spells.modes_are ∙ ap (flat_map modes_in) same ∙ spelled.modes_are,
+      sym spells.modes_are ∙ ap (flat_map mode_conditions_in) same ∙ spelled.modes_are,
     )
 
 kinds_once : (set : Option (List ℕ)) (one other : Kind) → SpellsKind set one → SpellsKind set other → one ≡ other
@@ -193,13 +193,14 @@ cube_once words one other spells spelled =
 benchmark_once : (words : Words) (one other : ModeQuery) → SpellsBenchmark words one → SpellsBenchmark words other
     → one ≡ other
 benchmark_once words one other spells spelled =
-    let texts : Some (number_text spells.number) ≡ Some (number_text spelled.number) = sym spells.named
+    let texts : Some (query_number_text spells.number) ≡ Some (query_number_text spelled.number) = sym spells.named
     ∙ spelled.named in
     let number : spells.number ≡ spelled.number = number_once spells.number spelled.number (cc) in
     spells.query_is ∙ ap (λ one. without_modes (benchmark_query one)) number ∙ sym spelled.query_is
 
 number_or_parts : (words : Words) (one other : ModeQuery) → SpellsBenchmark words one → SpellsCube words other → ⊥
-number_or_parts words one other number parts = let texts : Some (number_text number.number) ≡ None = sym number.named
+number_or_parts words one other number parts = let texts : Some (query_number_text number.number) ≡ None =
+    sym number.named
     ∙ parts.no_number in
     cc
 

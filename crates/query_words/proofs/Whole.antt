@@ -9,7 +9,7 @@ use Rattle.std.proofs.lemmas.List.{length-map}
 use Rattle.std.proofs.lemmas.Slice.Zip.{AllZip-long}
 use Rattle.mode_queries.specs.declared.query.ModeQuery.{ModeQuery}
 use Rattle.mode_queries.specs.Proper.{IsProperByModes}
-use Rattle.ssb_reports.specs.Benchmark.{number_text}
+use Rattle.ssb_reports.specs.Benchmark.{query_number_text}
 use Rattle.query_words.specs.declared.cube_parts.Condition.{Condition}
 use Rattle.query_words.specs.declared.cube_parts.CubeParts.{CubeParts}
 use Rattle.query_words.specs.declared.known.Column.{Column}
@@ -21,7 +21,7 @@ use Rattle.query_words.specs.Known.{column_name}
 use Rattle.query_words.specs.Limits.{AreDistinct, IsLimitMistake, IsTooMany, IsWithinLimits, OccursTwice}
 use Rattle.query_words.specs.Mistakes.{IsColumnMistake, IsConditionMistake, IsMistakeAmong, IsMistakeOf}
 use Rattle.query_words.specs.Mistakes.{IsPartMistake}
-use Rattle.query_words.specs.Parts.{attribute_in, is_ship_mode, query_of}
+use Rattle.query_words.specs.Parts.{attribute_in, is_ship_mode, query_of_parts}
 use Rattle.query_words.specs.Reading.{Reads}
 use Rattle.query_words.specs.Spelled.{AreNamed, IsFit, SpellsFit}
 use Rattle.query_words.specs.Words.{SpellsAggregate, SpellsColumns, SpellsCondition, SpellsCube, SpellsKind}
@@ -43,7 +43,7 @@ some_none text e = cc
 
 -- words without a number spell a cube query alone
 its_cube : (words : Words) (query : ModeQuery) → words.q ≡ None → SpellsQuery words query → SpellsCube words query
-its_cube words query none (inl number) = absurd (some_none (number_text number.number) (sym number.named ∙ none))
+its_cube words query none (inl number) = absurd (some_none (query_number_text number.number) (sym number.named ∙ none))
 its_cube words query none (inr cube) = cube
 
 pub cube_in : (set by : Option (List ℕ)) (agg : List ℕ) (conditions : List (List ℕ)) (query : ModeQuery) → SpellsProper
@@ -146,7 +146,7 @@ spells_columns (Some text) columns distinct named = (
 
 -- which may be asked
 proper : (set by : Option (List ℕ)) (agg : List ℕ) (conditions : List (List ℕ)) (parts : CubeParts)
-    → ArePartsOf set by agg conditions parts → IsWithinLimits parts → IsProperByModes (query_of parts)
+    → ArePartsOf set by agg conditions parts → IsWithinLimits parts → IsProperByModes (query_of_parts parts)
 proper set by agg conditions parts are limits =
     let long : length parts.aggregates ≡ length (parts_by 44 agg) = AllZip-long SpellsAggregate
     (parts_by 44 agg) parts.aggregates are.aggregates in
@@ -181,13 +181,13 @@ proper set by agg conditions parts are limits =
     still None count all most below within = tt
     still (Some place) count all most below within = omega (arith, below, within)
 
-    no_order : (place : Option ℕ) → IfSome place (λ place. (query_of parts).query.order ≡ None)
+    no_order : (place : Option ℕ) → IfSome place (λ place. (query_of_parts parts).query.order ≡ None)
     no_order None = tt
     no_order (Some place) = refl
 
 pub within : (set by : Option (List ℕ)) (agg : List ℕ) (conditions : List (List ℕ)) (parts : CubeParts)
     → ArePartsOf set by agg conditions parts → IsWithinLimits parts
-    → SpellsProper (cube_words set by agg conditions) (query_of parts)
+    → SpellsProper (cube_words set by agg conditions) (query_of_parts parts)
 within set by agg conditions parts are limits =
     let long : length parts.aggregates ≡ length (parts_by 44 agg) = AllZip-long SpellsAggregate
     (parts_by 44 agg) parts.aggregates are.aggregates in

@@ -7,7 +7,7 @@ use Rattle.cube_model.specs.declared.query.Kind.{Kind}
 use Rattle.cube_model.specs.Names.{attr_name, measure_name}
 use Rattle.mode_queries.specs.Names.{ship_mode_name}
 use Rattle.ssb_reports.specs.declared.number.QNumber.{QNumber}
-use Rattle.ssb_reports.specs.Benchmark.{number_text}
+use Rattle.ssb_reports.specs.Benchmark.{query_number_text}
 use Rattle.query_words.specs.declared.known.Column.{Column}
 use Rattle.query_words.specs.declared.known.Column.TheVariants.{Attribute, ShipMode}
 use Rattle.query_words.specs.declared.known.Known.{Known}
@@ -44,7 +44,7 @@ subject_name Discount = codes "discount"
 
 -- a word is a name
 abbrev pub IsName : Known → List ℕ → Type 0
-IsName known.Query word = (number : QNumber) × (word ≡ number_text number)
+IsName known.Query word = (number : QNumber) × (word ≡ query_number_text number)
 IsName known.Set word = (kind : Kind) × (word ≡ kind_name kind)
 IsName known.Attribute word = (column : Column) × (word ≡ column_name column)
 IsName known.Aggregate word = (word ≡ codes "count") ⊎ ((taken : Taken) × (word ≡ taken_name taken))

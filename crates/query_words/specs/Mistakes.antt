@@ -34,14 +34,14 @@ IsSetMistake text (Unknown word Set) = (word.now ≡ text) × (IsName Set word.n
 IsSetMistake text refused = ⊥
 
 -- one of some words is no name
-abbrev pub IsUnknownIn : Known → List (List ℕ) → Refused → Type 0
-IsUnknownIn known words (Unknown word other) = (other ≡ known) × Contains words word.now × (IsName known word.now → ⊥)
-IsUnknownIn known words refused = ⊥
+abbrev pub IsUnknownWord : Known → List (List ℕ) → Refused → Type 0
+IsUnknownWord known words (Unknown word other) = (other ≡ known) × Contains words word.now × (IsName known word.now → ⊥)
+IsUnknownWord known words refused = ⊥
 
 -- columns: none, one that there is not, too many, or one twice
 abbrev pub IsColumnMistake : List ℕ → Refused → Type 0
 IsColumnMistake text refused = ((refused ≡ NoColumn) × (text ≡ []))
-    ⊎ IsUnknownIn Attribute (parts_by 44 text) refused
+    ⊎ IsUnknownWord Attribute (parts_by 44 text) refused
     ⊎ IsTooMany Columns (length (parts_by 44 text)) most_columns refused
     ⊎ IsTwice (parts_by 44 text) refused
 
@@ -133,6 +133,6 @@ abbrev pub IsMistakeOf : Words → Refused → Type 0
 IsMistakeOf words refused = IsAskedMistake words refused ⊎ IsPartMistake words refused
 
 -- the fault of a refusal
-abbrev pub fault_of : Refused → Fault
-fault_of Memory = fault.Memory
-fault_of refused = fault.BadQuery
+abbrev pub mistake_fault : Refused → Fault
+mistake_fault Memory = fault.Memory
+mistake_fault refused = fault.BadQuery

@@ -25,12 +25,12 @@ abbrev pub dimensions_in : Condition → List Cond
 dimensions_in (Dimension condition) = condition ∷ []
 dimensions_in (Modes condition) = []
 
-abbrev pub modes_in : Condition → List ModeCond
-modes_in (Dimension condition) = []
-modes_in (Modes condition) = condition ∷ []
+abbrev pub mode_conditions_in : Condition → List ModeCond
+mode_conditions_in (Dimension condition) = []
+mode_conditions_in (Modes condition) = condition ∷ []
 
-abbrev pub query_of : CubeParts → ModeQuery
-query_of parts = record {
+abbrev pub query_of_parts : CubeParts → ModeQuery
+query_of_parts parts = record {
   query = record {
     kind = parts.kind;
     columns = flat_map attribute_in parts.columns;
@@ -39,5 +39,5 @@ query_of parts = record {
     order = None;
   };
   place = position is_ship_mode parts.columns;
-  conditions = flat_map modes_in parts.conditions;
+  conditions = flat_map mode_conditions_in parts.conditions;
 }

@@ -19,10 +19,10 @@ use Rattle.mode_queries.specs.Lawful.{without_modes}
 use Rattle.mode_queries.specs.Names.{names_with, ship_mode_name}
 use Rattle.mode_queries.specs.Proper.{IsProperByModes}
 use Rattle.ssb_reports.specs.declared.number.QNumber.{QNumber}
-use Rattle.ssb_reports.specs.Benchmark.{benchmark_query, number_text}
+use Rattle.ssb_reports.specs.Benchmark.{benchmark_query, query_number_text}
 use Rattle.query_words.specs.declared.cube_parts.Condition.{Condition}
 use Rattle.query_words.specs.declared.cube_parts.Condition.TheVariants.{Dimension, Modes}
-use Rattle.query_words.specs.Parts.{dimensions_in, modes_in}
+use Rattle.query_words.specs.Parts.{dimensions_in, mode_conditions_in}
 
 -- the words: the number of a query, the name of a set, the columns, the aggregates, and a word for each condition
 pub record Words : Type 0 where
@@ -96,7 +96,7 @@ pub record IsSmallNumber (text : List ℕ) (number : ℕ) : Type 0 where
   pub small : number ≤ 255
 
 -- two such numbers, separated by a bar
-pub record AreBounds (text : List ℕ) (low high : ℕ) : Type 0 where
+pub record SpellsBounds (text : List ℕ) (low high : ℕ) : Type 0 where
   pub low_text : List ℕ
   pub high_text : List ℕ
   pub parts : parts_by 124 text ≡ low_text ∷ high_text ∷ []
@@ -106,8 +106,8 @@ pub record AreBounds (text : List ℕ) (low high : ℕ) : Type 0 where
 abbrev pub SpellsMembers : List ℕ → Condition → Type 0
 SpellsMembers text (Dimension (OneOf attr texts)) = texts ≡ parts_by 124 text
 SpellsMembers text (Dimension (Between attr low high)) = low ∷ high ∷ [] ≡ parts_by 124 text
-SpellsMembers text (Dimension (Quantity low high)) = AreBounds text low high
-SpellsMembers text (Dimension (Discount low high)) = AreBounds text low high
+SpellsMembers text (Dimension (Quantity low high)) = SpellsBounds text low high
+SpellsMembers text (Dimension (Discount low high)) = SpellsBounds text low high
 SpellsMembers text (Modes (modes.OneOf texts)) = texts ≡ parts_by 124 text
 SpellsMembers text (Modes (modes.Between low high)) = low ∷ high ∷ [] ≡ parts_by 124 text
 
@@ -122,12 +122,12 @@ pub record SpellConditions (words : List (List ℕ)) (on_dimensions : List Cond)
     pub conditions : List Condition
     pub spelled : AllZip SpellsCondition words conditions
     pub dimensions_are : flat_map dimensions_in conditions ≡ on_dimensions
-    pub modes_are : flat_map modes_in conditions ≡ on_modes
+    pub modes_are : flat_map mode_conditions_in conditions ≡ on_modes
 
 -- a query of the benchmark: its number, and no other word
 pub record SpellsBenchmark (words : Words) (asked : ModeQuery) : Type 0 where
   pub number : QNumber
-  pub named : words.q ≡ Some (number_text number)
+  pub named : words.q ≡ Some (query_number_text number)
   pub no_set : words.set ≡ None
   pub no_columns : words.by ≡ None
   pub no_aggregates : words.agg ≡ None

@@ -2,7 +2,7 @@
 ghost use Rattle.std.specs.Prelude.{◌≡◌, Some, map};
 ghost use Rattle.std.specs.Option.{option_map, IsSomeAnd};
 ghost use Rattle.query_words.specs.Known.{column_name};
-ghost use Rattle.query_words.specs.Mistakes.{IsColumnMistake, IsUnknownIn};
+ghost use Rattle.query_words.specs.Mistakes.{IsColumnMistake, IsUnknownWord};
 ghost use Rattle.query_words.specs.declared.known.Known.TheVariants.{Attribute};
 ghost use Rattle.query_words.specs.Reading.{Reads};
 ghost use Rattle.query_words.specs.Spelled.{AreNamed};
@@ -38,7 +38,7 @@ fn columns_named(alloc: Global, text: &str) -> Result<Items<Column>, Refused<'_>
 // The columns of names.
 fn columns_of<'a>(alloc: Global, names: &[&'a str]) -> Result<Items<Column>, Refused<'a>>
     ensures { let names = map (λ name. name.now) names.now in
-        Reads (λ columns. map column_name columns ≡ names) (IsUnknownIn Attribute names) result }
+        Reads (λ columns. map column_name columns ≡ names) (IsUnknownWord Attribute names) result }
 {
     let mut columns = Items::new(alloc);
     for name in names {

@@ -1,7 +1,8 @@
 //! The parts of a cube query in the order of their words, and the query of them.
 ghost use Rattle.std.specs.Prelude.{◌≡◌, IfOk};
 ghost use Rattle.std.specs.List.{flat_map, position};
-ghost use Rattle.query_words.specs.Parts.{attribute_in, dimensions_in, is_ship_mode, modes_in, query_of};
+ghost use Rattle.query_words.specs.Parts.{attribute_in, dimensions_in, is_ship_mode, mode_conditions_in};
+ghost use Rattle.query_words.specs.Parts.{query_of_parts};
 ghost use Rattle.query_words.specs.Spelled.{between, one_of};
 
 use crate::known::Column;
@@ -53,7 +54,7 @@ impl CubeParts {
     /// The query of the parts: the ship mode apart from its other columns and conditions. It can only fail when out of
     /// memory.
     pub fn into_query(self, alloc: Global) -> Result<ModeQuery, AllocError>
-        ensures { IfOk result (λ asked. asked ≡ query_of self) }
+        ensures { IfOk result (λ asked. asked ≡ query_of_parts self) }
     {
         let CubeParts {
             kind,
@@ -108,7 +109,7 @@ fn divided(
     conditions: Items<Condition>,
 ) -> Result<(Items<Cond>, Items<ModeCond>), AllocError>
     ensures dimensions { IfOk result (λ divided. divided.0 ≡ flat_map dimensions_in conditions) }
-    ensures modes { IfOk result (λ divided. divided.1 ≡ flat_map modes_in conditions) }
+    ensures modes { IfOk result (λ divided. divided.1 ≡ flat_map mode_conditions_in conditions) }
 {
     let mut dimensions = Items::new(alloc);
     let mut modes = Items::new(alloc);

@@ -1,7 +1,7 @@
 //! Look-ups by name.
 ghost use Rattle.std.specs.Prelude.{◌≡◌, ◌≢◌, MatchOption};
 ghost use Rattle.cube_model.specs.Names.{attr_name, measure_name};
-ghost use Rattle.ssb_reports.specs.Benchmark.{number_text};
+ghost use Rattle.ssb_reports.specs.Benchmark.{query_number_text};
 ghost use Rattle.query_words.specs.declared.known.Subject.TheVariants.{Quantity, Discount};
 ghost use Rattle.query_words.specs.Known.{column_name, subject_name, taken_name};
 ghost use Rattle.query_words.specs.Reading.{Finds};
@@ -84,7 +84,7 @@ pub fn taken(name: &str) -> Option<Taken>
 
 /// The query of the benchmark with a number, such as `2.1`.
 pub fn number(name: &str) -> Option<QNumber>
-    ensures { Finds (λ number. name.now ≡ number_text number) result }
+    ensures { Finds (λ number. name.now ≡ query_number_text number) result }
 {
     for number in QNumber::ALL {
         if number.name() == name {

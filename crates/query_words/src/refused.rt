@@ -145,9 +145,9 @@ impl<T: Drop> From<AllocFailed<T>> for Refused<'_> {
 }
 
 impl From<Refused<'_>> for Fault {
-    ghost use Rattle.query_words.specs.Mistakes.{fault_of};
+    ghost use Rattle.query_words.specs.Mistakes.{mistake_fault};
 
-    ghost from_gives = { λ refused fault. fault ≡ fault_of refused };
+    ghost from_gives = { λ refused fault. fault ≡ mistake_fault refused };
 
     fn from(refused: Refused<'_>) -> Fault {
         match refused {

@@ -3,7 +3,7 @@ use Rattle.std.proofs.Common.{◌≡◌, ℕ, List, Option, None, Some, option_m
 use Rattle.std.specs.Prelude.{IfNone, IfSome}
 use Rattle.cube_model.specs.declared.answer.Member.{Member}
 use Rattle.cube_model.specs.declared.answer.Member.TheVariants.{All, Text}
-use Rattle.report_formats.specs.Fields.{member_of}
+use Rattle.mode_queries.specs.Joining.{member_of}
 
 pub member_found : {R : Type 0} (now : R → List ℕ) (found : Option R) (member : Member)
     → IfSome found (λ text. member ≡ Text (now text))

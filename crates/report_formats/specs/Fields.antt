@@ -22,14 +22,14 @@ use Rattle.report_formats.specs.declared.layout.Layout.{Layout}
 use Rattle.report_formats.specs.Arrangements.{arrangement_in}
 use Rattle.report_formats.specs.Decimals.{decimal_text}
 use Rattle.report_formats.specs.Escapes.{csv_text, tsv_text, json_text}
-use Rattle.report_formats.specs.Rows.{counts_averages, is_plain, row_text}
+use Rattle.report_formats.specs.Rows.{counts_averages, is_plain, formatted_row}
 
 -- a text of a column
-abbrev pub text_in : Format → List ℕ → List ℕ
-text_in Bars text = text
-text_in Csv text = csv_text text
-text_in Tsv text = tsv_text text
-text_in Json text = json_text text
+abbrev pub formatted_text : Format → List ℕ → List ℕ
+formatted_text Bars text = text
+formatted_text Csv text = csv_text text
+formatted_text Tsv text = tsv_text text
+formatted_text Json text = json_text text
 
 -- ALL in a column
 abbrev pub all_in : Format → List ℕ
@@ -38,9 +38,9 @@ all_in Csv = []
 all_in Tsv = []
 all_in Json = codes "null"
 
-abbrev pub member_text : Format → Member → List ℕ
-member_text format (Text text) = text_in format text
-member_text format All = all_in format
+abbrev pub formatted_member : Format → Member → List ℕ
+formatted_member format (Text text) = formatted_text format text
+formatted_member format All = all_in format
 
 -- the name of a field, which json has in each line. No name has a character that json writes in another way
 abbrev pub name_text : Format → List ℕ → List ℕ
@@ -49,14 +49,9 @@ name_text Bars name = []
 name_text Csv name = []
 name_text Tsv name = []
 
--- the member of a text, where none is ALL
-abbrev pub member_of : Option (List ℕ) → Member
-member_of (Some text) = Text text
-member_of None = All
-
 -- a member with the name of its column
 abbrev pub member_field : Format → List ℕ × Member → List ℕ
-member_field format field = name_text format field.0 ++ member_text format field.1
+member_field format field = name_text format field.0 ++ formatted_member format field.1
 
 -- a whole number, and an average as a fraction or as a decimal with at most 18 digits after the point
 abbrev pub number_text : Option ℕ → Value → List ℕ
@@ -87,18 +82,18 @@ member_fields asked line = map (member_field asked.layout.format) (zip (column_n
 abbrev pub value_fields : Asked → Line → List (List ℕ)
 value_fields asked line = map (value_field asked.layout (count_in asked line)) (zip asked.aggregates line.values)
 
-abbrev pub line_text : Asked → Line → List ℕ
-line_text asked line = row_text asked.layout.format (member_fields asked line ++ value_fields asked line)
+abbrev pub formatted_line : Asked → Line → List ℕ
+formatted_line asked line = formatted_row asked.layout.format (member_fields asked line ++ value_fields asked line)
 
 -- the names of columns and aggregates, but in json
 abbrev pub names_text : Format → List (List ℕ) → List ℕ
 names_text Json names = []
-names_text Bars names = row_text Bars names
-names_text Csv names = row_text Csv names
-names_text Tsv names = row_text Tsv names
+names_text Bars names = formatted_row Bars names
+names_text Csv names = formatted_row Csv names
+names_text Tsv names = formatted_row Tsv names
 
-abbrev pub header_text : Asked → List ℕ
-header_text asked = names_text asked.layout.format (column_names asked.query ++ map agg_name asked.aggregates)
+abbrev pub formatted_header : Asked → List ℕ
+formatted_header asked = names_text asked.layout.format (column_names asked.query ++ map agg_name asked.aggregates)
 
 -- the number of lines, with bars alone
 abbrev pub footer_text : Format → ℕ → List ℕ
@@ -109,8 +104,8 @@ footer_text Json count = []
 
 abbrev pub laid_out : Asked → Answer → List ℕ
 laid_out asked answer =
-    header_text asked
-    ++ (flat_map (line_text asked) answer.lines ++ footer_text asked.layout.format (length answer.lines))
+    formatted_header asked
+    ++ (flat_map (formatted_line asked) answer.lines ++ footer_text asked.layout.format (length answer.lines))
 
 -- the report is that of a query of the dimensions alone: with bars, averages as fractions, and no column of ship modes
 abbrev pub is_plain_report : Asked → Bool

@@ -47,8 +47,8 @@ ending_of Bars = codes "\n"
 ending_of Tsv = codes "\n"
 
 -- a line of some fields
-abbrev pub row_text : Format → List (List ℕ) → List ℕ
-row_text format fields = opening_of format ++ (join_with_byte (separator_of format) fields ++ ending_of format)
+abbrev pub formatted_row : Format → List (List ℕ) → List ℕ
+formatted_row format fields = opening_of format ++ (join_with_byte (separator_of format) fields ++ ending_of format)
 
 -- whether averages are written as their sum and their count
 abbrev pub counts_averages : Layout → Bool

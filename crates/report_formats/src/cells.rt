@@ -1,7 +1,9 @@
 //! What is written of a member and of a value.
 ghost use Rattle.std.specs.Prelude.{◌++◌, codes, option_map};
-ghost use Rattle.report_formats.specs.Fields.{all_in, average_text, counted_text, member_field, member_of, member_text};
-ghost use Rattle.report_formats.specs.Fields.{name_text, number_text, text_in, value_field};
+ghost use Rattle.mode_queries.specs.Joining.{member_of};
+ghost use Rattle.report_formats.specs.Fields.{all_in, average_text, counted_text, member_field};
+ghost use Rattle.report_formats.specs.Fields.{formatted_member};
+ghost use Rattle.report_formats.specs.Fields.{name_text, number_text, formatted_text, value_field};
 ghost use Rattle.ssb_reports.specs.Report.{value_text};
 ghost use Rattle.ssb_reports.specs.Writing.{Writes};
 
@@ -41,7 +43,7 @@ pub(crate) fn write_member_field<W: Write>(
 // Hands a writer a member: none is ALL.
 fn write_member<W: Write>(out: &mut W, format: Format, text: Option<&[u8]>) -> Result<(), Fault>
     ensures { Writes (W.contents out.old) (W.contents out.new) result
-        (member_text format (member_of (option_map (λ one. one.now) text.entry))) }
+        (formatted_member format (member_of (option_map (λ one. one.now) text.entry))) }
 {
     match text {
         Some(text) => write_text(out, format, text),
@@ -99,7 +101,7 @@ fn write_json_name<W: Write, F: Field>(out: &mut W, name: &F) -> Result<(), Faul
 }
 
 fn write_text<W: Write>(out: &mut W, format: Format, text: &[u8]) -> Result<(), Fault>
-    ensures { Writes (W.contents out.old) (W.contents out.new) result (text_in format text.now) }
+    ensures { Writes (W.contents out.old) (W.contents out.new) result (formatted_text format text.now) }
 {
     match format {
         Format::Bars => write_bytes(out, text),

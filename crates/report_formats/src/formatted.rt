@@ -3,8 +3,9 @@ ghost use Rattle.std.specs.Prelude.{◌≡◌, ◌<◌, ◌++◌, length, None};
 ghost use Rattle.std.specs.List.{flat_map};
 ghost use Rattle.cube_query.specs.GroupLines.{line_at};
 ghost use Rattle.report_formats.specs.Arranged.{WritesOrLacksMemory};
-ghost use Rattle.report_formats.specs.Fields.{footer_text, formatted, header_text, laid_out, line_text, unarranged};
-ghost use Rattle.report_formats.specs.Rows.{row_text};
+ghost use Rattle.report_formats.specs.Fields.{footer_text, formatted, formatted_header, laid_out, formatted_line};
+ghost use Rattle.report_formats.specs.Fields.{unarranged};
+ghost use Rattle.report_formats.specs.Rows.{formatted_row};
 ghost use Rattle.ssb_reports.specs.Writing.{Writes};
 
 use crate::asked::Asked;
@@ -59,7 +60,7 @@ fn write_laid_out<L: Lines, W: Write>(asked: &Asked, lines: &L, out: &mut W) -> 
 }
 
 fn write_header<W: Write>(out: &mut W, asked: &Asked) -> Result<(), Fault>
-    ensures { Writes (W.contents out.old) (W.contents out.new) result (header_text asked.now) }
+    ensures { Writes (W.contents out.old) (W.contents out.new) result (formatted_header asked.now) }
 {
     let columns = ColumnNames(&asked.query);
     let aggregates = asked.aggregates.as_slice();
@@ -71,7 +72,7 @@ fn write_header<W: Write>(out: &mut W, asked: &Asked) -> Result<(), Fault>
 
 fn write_lines<L: Lines, W: Write>(out: &mut W, asked: &Asked, lines: &L) -> Result<(), Fault>
     ensures { Writes (W.contents out.old) (W.contents out.new) result
-        (flat_map (line_text asked.now) (L.lines lines.now)) }
+        (flat_map (formatted_line asked.now) (L.lines lines.now)) }
 {
     for place in 0..lines.count() {
         write_line(out, asked, lines, place)?;
@@ -87,7 +88,7 @@ fn write_line<L: Lines, W: Write>(
 ) -> Result<(), Fault>
     requires { place < length (L.lines lines.now) }
     ensures { Writes (W.contents out.old) (W.contents out.new) result
-        (line_text asked.now (line_at (L.lines lines.now) place)) }
+        (formatted_line asked.now (line_at (L.lines lines.now) place)) }
 {
     let members = MemberFields {
         asked,
@@ -110,7 +111,7 @@ fn write_row<W: Write, F: Fields, G: Fields>(
     others: &G,
 ) -> Result<(), Fault>
     ensures { Writes (W.contents out.old) (W.contents out.new) result
-        (row_text format (F.texts fields.now ++ G.texts others.now)) }
+        (formatted_row format (F.texts fields.now ++ G.texts others.now)) }
 {
     write_bytes(out, format.opening())?;
     write_joined(out, format.separator(), fields, others)?;

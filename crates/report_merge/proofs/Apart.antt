@@ -11,7 +11,7 @@ use Rattle.std.proofs.lemmas.List.Folds.{Any-from_list_any, list_any_at}
 use Rattle.std.proofs.lemmas.List.Sorted.{All-permutation}
 use Rattle.std.proofs.lemmas.Map.Keys.{IsDistinct-IsPermutation, IsStrictlyIncreasing-from_distinct}
 use Rattle.partial_reports.specs.Head.{ascend_between}
-use Rattle.report_merge.specs.Refusals.{AreApart, IsLeastOfBoth}
+use Rattle.report_merge.specs.Refusals.{AreDisjoint, IsLeastOfBoth}
 use Rattle.report_merge.proofs.Ascent.{at_each, from_each}
 use Rattle.report_merge.proofs.Gaps.{joined, next}
 
@@ -65,7 +65,7 @@ all_both : (P : ℕ → Type 0) (xs ys : List ℕ) → AllByRecursion P xs → A
 all_both P [] ys one other = other
 all_both P (x ∷ xs) ys one other = (one.0, all_both P xs ys one.1 other)
 
-distinct_both : (xs ys : List ℕ) → IsDistinct eqb xs → IsDistinct eqb ys → AreApart xs ys → IsDistinct eqb (xs ++ ys)
+distinct_both : (xs ys : List ℕ) → IsDistinct eqb xs → IsDistinct eqb ys → AreDisjoint xs ys → IsDistinct eqb (xs ++ ys)
 unfolding IsDistinct
 distinct_both [] ys one other apart = other
 distinct_both (x ∷ xs) ys one other apart = (
@@ -103,7 +103,7 @@ from_zero (n ∷ ns) high all inc (suc k) h =
 
 -- the numbers of two lists without a number in both, sorted
 pub merged_ascend : (parts : ℕ) (ones others numbers : List ℕ) → ascend_between 0 parts ones ≡ true
-    → ascend_between 0 parts others ≡ true → AreApart ones others
+    → ascend_between 0 parts others ≡ true → AreDisjoint ones others
     → IsPermutation (ones ++ others) numbers → IsNonDecreasing numbers → ascend_between 0 parts numbers ≡ true
 merged_ascend parts ones others numbers one other apart moved sorted =
     let differs =
@@ -192,5 +192,5 @@ first_least ones others place inc within before test = record {
 
 -- none is among others
 pub all_apart : (ones others : List ℕ) → ((k : ℕ) → k < length ones → is_in others (get_or ones k 0) ≡ false)
-    → AreApart ones others
+    → AreDisjoint ones others
 all_apart ones others none number one other = absent ones others number one other (none one.0 one.1)

@@ -17,7 +17,7 @@ use Rattle.answer_merge.specs.Parts.{value_number}
 use Rattle.answer_merge.specs.Readable.{IsWholeNumber}
 use Rattle.report_formats.specs.declared.layout.Layout.{Layout}
 use Rattle.report_formats.specs.Asked.{query_for}
-use Rattle.report_merge.specs.Finishing.{asks_for_counts, count_in, partial_for, recounted, recounted_line}
+use Rattle.report_merge.specs.Finishing.{asks_for_counts, count_alone, partial_for, recounted, recounted_line}
 use Rattle.report_merge.proofs.Ascent.{at_each}
 
 abbrev answer_with : List Line → Answer
@@ -77,7 +77,7 @@ all_whole [] ys one other = other
 all_whole (x ∷ xs) ys one other = (one.0, all_whole xs ys one.1 other)
 
 fine_again : (values : List Value) → CountsRows values → AllByRecursion IsWholeNumber values
-    → CountsRows (values ++ count_in values) × AllByRecursion IsWholeNumber (values ++ count_in values)
+    → CountsRows (values ++ count_alone values) × AllByRecursion IsWholeNumber (values ++ count_alone values)
 fine_again [] some all = (tt, tt)
 fine_again (count ∷ kept) some all = (some, (all.0, all_whole kept (count ∷ []) all.1 (all.0, tt)))
 

@@ -14,14 +14,14 @@ use Rattle.answer_merge.specs.declared.wide.WideLine.{WideLine}
 use Rattle.answer_merge.specs.Merges.{merged_answer}
 use Rattle.answer_merge.specs.Parts.{partial_query}
 use Rattle.answer_merge.specs.Readable.{IsReadableAnswer}
-use Rattle.answer_merge.specs.Wide.{Rise, lines_of}
+use Rattle.answer_merge.specs.Wide.{Rise, narrow_lines}
 use Rattle.partial_reports.specs.declared.head.Head.{Head}
 use Rattle.partial_reports.specs.Head.{are_parts, ascend_between, head_text, is_proper, is_short_word, most_parts}
 use Rattle.ssb_reports.specs.Report.{report_of}
-use Rattle.report_merge.specs.Kept.{IsKept, IsMore, with_lines}
+use Rattle.report_merge.specs.Kept.{IsKeptPart, IsMore, with_lines}
 use Rattle.partial_reports.specs.HeadReading.{IsDigest}
 use Rattle.report_merge.specs.Refusals.{IsAlike}
-use Rattle.report_merge.specs.Merging.{Adds, IsPartialReport, Part, SpellsWords}
+use Rattle.report_merge.specs.Merging.{AddsPart, IsPartialReport, Part, SpellsWords}
 use Rattle.report_merge.proofs.Gaps.{both, joined}
 
 some : (n : ℕ) → nat_lt 0 n ≡ true → 0 < n
@@ -75,9 +75,9 @@ pub first_report : (text : List ℕ) (head : Head) (digest : List ℕ) (query pa
     (answer : Answer) (lines : List WideLine)
     → text ≡ head_text head digest ++ report → is_proper head ≡ true → IsDigest digest → SpellsWords head.words query
     → partial ≡ partial_query query
-    → IsRead partial report answer → lines_of lines ≡ answer.lines
+    → IsRead partial report answer → narrow_lines lines ≡ answer.lines
     → IsPartialReport text
-    (record { head = head; digest = digest; query = query; answer = record { lines = lines_of lines } })
+    (record { head = head; digest = digest; query = query; answer = record { lines = narrow_lines lines } })
 first_report text head digest query partial report answer lines spelled proper is words partial_is read same =
     subst (λ all. IsPartialReport text
     (record { head = head; digest = digest; query = query; answer = record { lines = all } })) (sym same)
@@ -86,7 +86,7 @@ first_report text head digest query partial report answer lines spelled proper i
 pub first_kept : (head : Head) (digest : List ℕ) (query partial : Query) (report : List ℕ) (answer : Answer)
     (lines : List WideLine)
     → is_proper head ≡ true → IsDigest digest → SpellsWords head.words query → partial ≡ partial_query query
-    → IsRead partial report answer → lines_of lines ≡ answer.lines → IsKept head digest query partial lines
+    → IsRead partial report answer → narrow_lines lines ≡ answer.lines → IsKeptPart head digest query partial lines
 first_kept head digest query partial report answer lines proper is words partial_is read same = record {
   proper = proper;
   digest_is = is;
@@ -98,7 +98,7 @@ first_kept head digest query partial report answer lines proper is words partial
 -- what was read of one more partial report
 pub one_more : (start : Part) (text : List ℕ) (head : Head) (digest : List ℕ) (partial : Query)
     (report numbers : List ℕ) (answer : Answer) (own : List WideLine)
-    → IsKept start.head start.digest start.query partial own
+    → IsKeptPart start.head start.digest start.query partial own
     → text ≡ head_text head digest ++ report → is_proper head ≡ true → IsAlike start.head start.digest head digest
     → IsPermutation (start.head.numbers ++ head.numbers) numbers → ascend_between 0 start.head.parts numbers ≡ true
     → IsRead partial report answer
@@ -118,10 +118,10 @@ one_more start text head digest partial report numbers answer own kept spelled p
 -- a part with the lines of one more
 pub added : (start : Part) (text : List ℕ) (partial : Query) (numbers : List ℕ) (answer : Answer)
     (own lines : List WideLine)
-    → start.answer ≡ record { lines = lines_of own } → partial ≡ partial_query start.query
+    → start.answer ≡ record { lines = narrow_lines own } → partial ≡ partial_query start.query
     → IsMore start text numbers answer
-    → lines_of lines ≡ (merged_answer partial (record { lines = lines_of own }) answer).lines
-    → Adds start text (with_lines start numbers lines)
+    → narrow_lines lines ≡ (merged_answer partial (record { lines = narrow_lines own }) answer).lines
+    → AddsPart start text (with_lines start numbers lines)
 added start text partial numbers answer own lines start_is partial_is more merged = record {
   other = more.other;
   report = more.report;
@@ -138,8 +138,9 @@ added start text partial numbers answer own lines start_is partial_is more merge
 -- what is kept with it
 pub still_kept : (start : Part) (text : List ℕ) (partial : Query) (numbers : List ℕ) (answer : Answer)
     (own lines : List WideLine)
-    → IsKept start.head start.digest start.query partial own → IsMore start text numbers answer → Rise lines
-    → IsKept (record { numbers = numbers; parts = start.head.parts; words = start.head.words }) start.digest start.query
+    → IsKeptPart start.head start.digest start.query partial own → IsMore start text numbers answer → Rise lines
+    → IsKeptPart (record { numbers = numbers; parts = start.head.parts; words = start.head.words }) start.digest
+    start.query
     partial lines
 still_kept start text partial numbers answer own lines kept more rise = record {
   proper = more.proper;

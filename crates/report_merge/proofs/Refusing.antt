@@ -28,8 +28,9 @@ use Rattle.report_merge.specs.declared.refused.Refused.TheVariants.{Memory, Inpu
 use Rattle.report_merge.specs.declared.refused.Refused.TheVariants.{OtherDimensions, Twice}
 use Rattle.report_merge.specs.Given.{no_query, unspelled}
 use Rattle.report_merge.specs.Lawful.{PartialReportsAreOfOnePart}
-use Rattle.report_merge.specs.Merging.{Adds, AreOfOne, IsMergeOf, IsPartialReport, Part, SpellsWords}
-use Rattle.report_merge.specs.Refusals.{AddRefuses, AreApart, BeginsWith, IsAlike, IsLeastOfBoth, IsUnlike, NewRefuses}
+use Rattle.report_merge.specs.Merging.{AddsPart, AreOfOne, IsMergedPart, IsPartialReport, Part, SpellsWords}
+use Rattle.report_merge.specs.Refusals.{RefusesAdding, AreDisjoint, BeginsWith, IsAlike, IsLeastOfBoth, IsUnlike}
+use Rattle.report_merge.specs.Refusals.{NewRefuses}
 use Rattle.report_merge.specs.Refusals.{NumbersRefuse, WordsRefuse, refused_of}
 use Rattle.report_merge.proofs.Gaps.{both}
 use Rattle.report_merge.proofs.Given.{one_query, spelled_by}
@@ -60,10 +61,10 @@ new_unread text refused (WrongAt line wrong) none is =
 
 pub add_unread : (start : Part) (text : List ℕ) (refused : Refused) (was : Unread)
     → ((part : Part) → IsPartialReport text part → was ≡ NoMemory)
-    → refused ≡ refused_of was → AddRefuses start text refused
-add_unread start text refused NoMemory none is = subst (AddRefuses start text) (sym is) tt
+    → refused ≡ refused_of was → RefusesAdding start text refused
+add_unread start text refused NoMemory none is = subst (RefusesAdding start text) (sym is) tt
 add_unread start text refused (WrongAt line wrong) none is =
-    subst (AddRefuses start text) (sym is)
+    subst (RefusesAdding start text) (sym is)
     (λ part report. let e : WrongAt line wrong ≡ NoMemory = none part report in cc)
 
 -- words that spell a query are refused for memory only
@@ -131,7 +132,7 @@ new_words text words (Twice number) is spelled = absurd is
 -- a head that is not alike
 pub add_unlike : (start : Part) (text : List ℕ) (head : Head) (digest : List ℕ) (refused : Refused)
     → BeginsWith text head digest
-    → IsUnlike start.head start.digest head digest refused → AddRefuses start text refused
+    → IsUnlike start.head start.digest head digest refused → RefusesAdding start text refused
 add_unlike start text head digest Memory begins is = absurd is
 add_unlike start text head digest Input begins is = absurd is
 add_unlike start text head digest (At line wrong) begins is = absurd is
@@ -144,7 +145,7 @@ add_unlike start text head digest (Twice number) begins is = absurd is
 pub add_numbers : (start : Part) (text : List ℕ) (head : Head) (digest ones others : List ℕ) (refused : Refused)
     → BeginsWith text head digest
     → IsAlike start.head start.digest head digest → ones ≡ start.head.numbers → others ≡ head.numbers
-    → NumbersRefuse ones others refused → AddRefuses start text refused
+    → NumbersRefuse ones others refused → RefusesAdding start text refused
 add_numbers start text head digest ones others Memory begins alike one other is = tt
 add_numbers start text head digest ones others Input begins alike one other is = absurd is
 add_numbers start text head digest ones others (At line wrong) begins alike one other is = absurd is
@@ -174,8 +175,8 @@ same_head heads text head digest other begins report =
 
 -- one more part of the whole, whose numbers are not in, is refused for memory only
 pub add_memory : HeadsReadBack → (start other : Part) (text : List ℕ) (refused : Refused)
-    → AddRefuses start text refused → IsPartialReport text other
-    → AreOfOne start other → AreApart start.head.numbers other.head.numbers → refused ≡ Memory
+    → RefusesAdding start text refused → IsPartialReport text other
+    → AreOfOne start other → AreDisjoint start.head.numbers other.head.numbers → refused ≡ Memory
 add_memory heads start other text Memory is report alike apart = refl
 add_memory heads start other text Input is report alike apart = absurd is
 add_memory heads start other text (At line wrong) is report alike apart = absurd (is other report)
@@ -194,10 +195,10 @@ add_memory heads start other text (Twice number) is report alike apart =
     absurd (apart number least.one least.other)
 
 -- what was added is that part
-pub add_whole : PartialReportsAreOfOnePart → (start other next : Part) (text : List ℕ) → Adds start text next
-    → IsPartialReport text other → IsMergeOf start other next
+pub add_whole : PartialReportsAreOfOnePart → (start other next : Part) (text : List ℕ) → AddsPart start text next
+    → IsPartialReport text other → IsMergedPart start other next
 add_whole one start other next text adds report =
-    subst (λ (part : Part). IsMergeOf start part next) (one text adds.other other adds.report report) adds.merged
+    subst (λ (part : Part). IsMergedPart start part next) (one text adds.other other adds.report report) adds.merged
 
 -- the numbers of a proper head ascend
 pub proper_ascend : (head : Head) → is_proper head ≡ true → ascend_between 0 head.parts head.numbers ≡ true

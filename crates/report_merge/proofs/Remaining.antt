@@ -7,7 +7,7 @@ use Rattle.report_merge.specs.declared.refused.Refused.TheVariants.{Memory, Inpu
 use Rattle.report_merge.specs.Lawful.{PartialReportsAreOfOnePart}
 use Rattle.report_merge.specs.Mergeable.{CanAdd, CanMerge, IsOutside}
 use Rattle.report_merge.proofs.Refusing.{add_whole}
-use Rattle.report_merge.specs.Merging.{Adds, IsMerged, IsPartialReport, Merges, Part}
+use Rattle.report_merge.specs.Merging.{AddsPart, IsMerged, IsPartialReport, MergesTexts, Part}
 
 module _ {R : Type 0} (left : R → Option (List ℕ)) where
   first_text : (reader : R) (readers : List R) (text : List ℕ) (texts : List (List ℕ))
@@ -21,7 +21,7 @@ module _ {R : Type 0} (left : R → Option (List ℕ)) where
 
   -- of no reader nothing is merged in
   pub no_more : (start : Part) (readers : List R) (texts : List (List ℕ)) → length readers ≡ 0
-      → map left readers ≡ map Some texts → Merges start texts start
+      → map left readers ≡ map Some texts → MergesTexts start texts start
   no_more start [] [] none e = refl
   no_more start [] (text ∷ texts) none e = absurd (cc)
   no_more start (reader ∷ readers) texts none e = absurd (omega (arith, none))
@@ -29,9 +29,9 @@ module _ {R : Type 0} (left : R → Option (List ℕ)) where
   -- the text of the first reader, and then those of the others
   pub first_more : (start next whole : Part) (readers rest : List R) (first : R) (texts : List (List ℕ))
       → 0 < length readers → first ≡ get_or readers 0 first
-      → rest ≡ remove readers 0 → ((text : List ℕ) → left first ≡ Some text → Adds start text next)
-      → ((others : List (List ℕ)) → map left rest ≡ map Some others → Merges next others whole)
-      → map left readers ≡ map Some texts → Merges start texts whole
+      → rest ≡ remove readers 0 → ((text : List ℕ) → left first ≡ Some text → AddsPart start text next)
+      → ((others : List (List ℕ)) → map left rest ≡ map Some others → MergesTexts next others whole)
+      → map left readers ≡ map Some texts → MergesTexts start texts whole
   first_more start next whole [] rest first texts some is rest_is adds merges e = absurd (omega (arith, some))
   first_more start next whole (reader ∷ readers) rest first [] some is rest_is adds merges e = absurd (cc)
   first_more start next whole (reader ∷ readers) rest first (text ∷ texts) some is rest_is adds merges e = (
@@ -43,7 +43,7 @@ module _ {R : Type 0} (left : R → Option (List ℕ)) where
   pub all_merged : (start whole : Part) (readers rest : List R) (first : R) (texts : List (List ℕ)) → 0 < length readers
       → first ≡ get_or readers 0 first
       → rest ≡ remove readers 0 → ((text : List ℕ) → left first ≡ Some text → IsPartialReport text start)
-      → ((others : List (List ℕ)) → map left rest ≡ map Some others → Merges start others whole)
+      → ((others : List (List ℕ)) → map left rest ≡ map Some others → MergesTexts start others whole)
       → map left readers ≡ map Some texts → IsMerged texts whole
   all_merged start whole [] rest first texts some is rest_is report merges e = absurd (omega (arith, some))
   all_merged start whole (reader ∷ readers) rest first [] some is rest_is report merges e = absurd (cc)
@@ -90,7 +90,7 @@ can_first one text others texts merge are can report =
     subst (λ (part : Part). CanAdd part others) (one text all.0 merge all.1 report) all.2
 
 pub can_next : PartialReportsAreOfOnePart → (text : List ℕ) (others texts : List (List ℕ)) (start next : Part)
-    → texts ≡ text ∷ others → CanAdd start texts → Adds start text next
+    → texts ≡ text ∷ others → CanAdd start texts → AddsPart start text next
     → CanAdd next others
 can_next one text others texts start next are can adds =
     let all : CanAdd start (text ∷ others) = subst (CanAdd start) are can in

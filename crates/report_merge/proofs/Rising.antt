@@ -9,7 +9,7 @@ use Rattle.cube_model.specs.Keys.{key_cmp}
 use Rattle.cube_model.specs.Orders.{answer_cmp}
 use Rattle.answer_merge.specs.declared.wide.WideLine.{WideLine}
 use Rattle.answer_merge.specs.Parts.{finished_line}
-use Rattle.answer_merge.specs.Wide.{Rise, lines_of}
+use Rattle.answer_merge.specs.Wide.{Rise, narrow_lines}
 use Rattle.report_merge.specs.Finishing.{recounted_line}
 
 module _ (f : Line → Line) (own : (line : Line) → (f line).key ≡ line.key) where
@@ -23,12 +23,14 @@ module _ (f : Line → Line) (own : (line : Line) → (f line).key ≡ line.key)
   map_rise (line ∷ lines) rise = (below line lines rise.0, map_rise lines rise.1)
 
 pub finished_rise : (aggs : List Agg) (wide : List WideLine) (lines : List Line)
-    → lines ≡ map (finished_line aggs) (lines_of wide) → Rise wide
+    → lines ≡ map (finished_line aggs) (narrow_lines wide) → Rise wide
     → IsAscending (answer_cmp None) lines
 finished_rise aggs wide lines are rise =
-    subst (IsAscending (answer_cmp None)) (sym are) (map_rise (finished_line aggs) (λ line. refl) (lines_of wide) rise)
+    subst (IsAscending (answer_cmp None)) (sym are)
+    (map_rise (finished_line aggs) (λ line. refl) (narrow_lines wide) rise)
 
-pub recounted_rise : (wide found : List WideLine) → lines_of found ≡ map recounted_line (lines_of wide) → Rise wide
+pub recounted_rise : (wide found : List WideLine) → narrow_lines found ≡ map recounted_line (narrow_lines wide)
+    → Rise wide
     → Rise found
 recounted_rise wide found are rise =
-    subst (IsAscending (answer_cmp None)) (sym are) (map_rise recounted_line (λ line. refl) (lines_of wide) rise)
+    subst (IsAscending (answer_cmp None)) (sym are) (map_rise recounted_line (λ line. refl) (narrow_lines wide) rise)

@@ -17,7 +17,7 @@ use Rattle.partial_reports.specs.HeadLaws.{HeadsReadBack}
 use Rattle.partial_reports.specs.HeadReading.{IsDigest}
 use Rattle.report_merge.specs.Lawful.{AreWritten, CountsAreAppended, IsWritten, MergedTextsAreTheAnswer}
 use Rattle.report_merge.specs.Lawful.{MergedTextsCanBeFinished}
-use Rattle.report_merge.specs.Merging.{Adds, IsMerged, IsPartialReport, Merges, Part, SpellsWords}
+use Rattle.report_merge.specs.Merging.{AddsPart, IsMerged, IsPartialReport, MergesTexts, Part, SpellsWords}
 use Rattle.report_merge.proofs.Given.{one_query}
 
 -- a part has the partial answer to a query over some rows
@@ -50,7 +50,7 @@ module _ (heads : HeadsReadBack) (words : SpellOneQuery) (reports : ReportsReadB
 
   add_over : (before rows : List LineOrder) (text : List ℕ) (start next : Part) → IsOver query dimensions before start
       → IsWritten query dimensions digest rows text
-      → Adds start text next → IsOver query dimensions (before ++ rows) next
+      → AddsPart start text next → IsOver query dimensions (before ++ rows) next
   add_over before rows text start next so_far written adds =
       let other = read_back rows text adds.other written adds.report in record {
         query_is = adds.merged.same.query ∙ so_far.query_is;
@@ -61,7 +61,7 @@ module _ (heads : HeadsReadBack) (words : SpellOneQuery) (reports : ReportsReadB
 
   all_over : (before : List LineOrder) (parts : List (List LineOrder)) (texts : List (List ℕ)) (start whole : Part)
       → IsOver query dimensions before start
-      → AreWritten query dimensions digest parts texts → Merges start texts whole
+      → AreWritten query dimensions digest parts texts → MergesTexts start texts whole
       → IsOver query dimensions (before ++ all_rows parts) whole
   all_over before [] [] start whole so_far written merges =
       subst (IsOver query dimensions (before ++ [])) merges

@@ -19,7 +19,7 @@ use Rattle.partial_reports.specs.declared.words.Word.{Word}
 use Rattle.partial_reports.specs.HeadReading.{IsDigest}
 use Rattle.report_merge.specs.Lawful.{AreOfWhole, AreWritten, IsWritten, WrittenTextsCanBeMerged, heads_in}
 use Rattle.report_merge.specs.Mergeable.{CanAdd}
-use Rattle.report_merge.specs.Merging.{IsMergeOf, IsPartialReport, Part}
+use Rattle.report_merge.specs.Merging.{IsMergedPart, IsPartialReport, Part}
 
 module _ (merge : AnswersMerge) (suffice : PartialAnswersSuffice) (query : Query) (dimensions : DimRows)
     (digest : List ℕ) (is_digest : IsDigest digest) where
@@ -66,7 +66,7 @@ module _ (merge : AnswersMerge) (suffice : PartialAnswersSuffice) (query : Query
 
   -- with one part more
   both_of : (words : List Word) (count : ℕ) (taken : List ℕ) (start other both : Part)
-      → IsOfWhole words count taken start → IsMergeOf start other both
+      → IsOfWhole words count taken start → IsMergedPart start other both
       → IsOfWhole words count (taken ++ other.head.numbers) both
   both_of words count taken start other both is merged = record {
     words_are = merged.same.words ∙ is.words_are;

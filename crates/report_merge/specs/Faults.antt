@@ -6,11 +6,11 @@ use Rattle.report_merge.specs.declared.refused.Refused.TheVariants.{Memory, Inpu
 use Rattle.report_merge.specs.declared.refused.Refused.TheVariants.{OtherDimensions, Twice}
 
 -- a text that is no partial report is of a wrong layout, and parts that are not of one whole are a wrong query
-abbrev pub fault_of : Refused → Fault
-fault_of Memory = faults.Memory
-fault_of Input = faults.Input
-fault_of (At line wrong) = faults.BadLayout
-fault_of OtherWords = faults.BadQuery
-fault_of OtherParts = faults.BadQuery
-fault_of OtherDimensions = faults.BadQuery
-fault_of (Twice number) = faults.BadQuery
+abbrev pub merge_fault : Refused → Fault
+merge_fault Memory = faults.Memory
+merge_fault Input = faults.Input
+merge_fault (At line wrong) = faults.BadLayout
+merge_fault OtherWords = faults.BadQuery
+merge_fault OtherParts = faults.BadQuery
+merge_fault OtherDimensions = faults.BadQuery
+merge_fault (Twice number) = faults.BadQuery

@@ -12,13 +12,13 @@ use Rattle.report_formats.specs.Asked.{query_for}
 use Rattle.report_formats.specs.Rows.{counts_averages}
 
 -- the count, which is the first of a line's values
-abbrev pub count_in : List Value → List Value
-count_in [] = []
-count_in (count ∷ kept) = count ∷ []
+abbrev pub count_alone : List Value → List Value
+count_alone [] = []
+count_alone (count ∷ kept) = count ∷ []
 
 -- a line with it once more after all values
 abbrev pub recounted_line : Line → Line
-recounted_line line = record { key = line.key; values = line.values ++ count_in line.values }
+recounted_line line = record { key = line.key; values = line.values ++ count_alone line.values }
 
 abbrev pub recounted : Answer → Answer
 recounted partial = record { lines = map recounted_line partial.lines }

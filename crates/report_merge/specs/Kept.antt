@@ -7,7 +7,7 @@ use Rattle.cube_model.specs.Orders.{answer_cmp}
 use Rattle.cube_model.specs.declared.query.Query.{Query}
 use Rattle.answer_merge.specs.declared.wide.WideLine.{WideLine}
 use Rattle.answer_merge.specs.Parts.{partial_query}
-use Rattle.answer_merge.specs.Wide.{Rise, lines_of}
+use Rattle.answer_merge.specs.Wide.{Rise, narrow_lines}
 use Rattle.partial_reports.specs.declared.head.Head.{Head}
 use Rattle.partial_reports.specs.Head.{is_proper}
 use Rattle.partial_reports.specs.HeadReading.{IsDigest}
@@ -15,7 +15,7 @@ use Rattle.report_merge.specs.Merging.{AreOfOne, IsPartialReport, Part, SpellsWo
 
 -- a proper head, a digest, the query that its words spell with the one for its partial answers, and lines in the order
 -- of their keys
-pub record IsKept (head : Head) (digest : List ℕ) (query partial : Query) (lines : List WideLine) : Type 0 where
+pub record IsKeptPart (head : Head) (digest : List ℕ) (query partial : Query) (lines : List WideLine) : Type 0 where
   pub proper : is_proper head ≡ true
   pub digest_is : IsDigest digest
   pub words : SpellsWords head.words query
@@ -28,7 +28,7 @@ with_lines part numbers lines = record {
   head = record { numbers = numbers; parts = part.head.parts; words = part.head.words };
   digest = part.digest;
   query = part.query;
-  answer = record { lines = lines_of lines };
+  answer = record { lines = narrow_lines lines };
 }
 
 -- What is read of one more partial report: the numbers of a part with its own, and its partial answer.

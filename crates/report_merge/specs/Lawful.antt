@@ -19,7 +19,7 @@ use Rattle.ssb_reports.specs.Report.{report_of}
 use Rattle.report_merge.specs.Finishing.{finished_for}
 use Rattle.report_merge.specs.Mergeable.{CanMerge}
 use Rattle.report_merge.specs.Merging.{IsMerged, IsPartialReport, Part, SpellsWords}
-use Rattle.report_merge.specs.Refusals.{AreApart}
+use Rattle.report_merge.specs.Refusals.{AreDisjoint}
 
 -- a text is the partial report of no two parts
 abbrev pub PartialReportsAreOfOnePart : Type 0
@@ -55,7 +55,7 @@ AreWritten query dimensions digest (rows ∷ parts) (text ∷ texts) =
 abbrev pub AreOfWhole : List Word → ℕ → List ℕ → List Head → Type 0
 AreOfWhole words count taken [] = Unit {0}
 AreOfWhole words count taken (head ∷ heads) =
-    (head.words ≡ words) × (head.parts ≡ count) × AreApart taken head.numbers
+    (head.words ≡ words) × (head.parts ≡ count) × AreDisjoint taken head.numbers
     × AreOfWhole words count (taken ++ head.numbers) heads
 
 -- the heads of texts that are written

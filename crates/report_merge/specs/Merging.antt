@@ -53,7 +53,7 @@ pub record AreOfOne (one other : Part) : Type 0 where
 
 -- two parts as one: the numbers of both, of which none is in both since those of a proper head differ, and the merged
 -- answers
-pub record IsMergeOf (one other both : Part) : Type 0 where
+pub record IsMergedPart (one other both : Part) : Type 0 where
   pub alike : AreOfOne one other
   pub same : AreOfOne one both
   pub proper : is_proper both.head ≡ true
@@ -61,20 +61,20 @@ pub record IsMergeOf (one other both : Part) : Type 0 where
   pub answer : both.answer ≡ merged_answer (partial_query one.query) one.answer other.answer
 
 -- a part and the part of which a text is the partial report, as one
-pub record Adds (start : Part) (text : List ℕ) (both : Part) : Type 0 where
+pub record AddsPart (start : Part) (text : List ℕ) (both : Part) : Type 0 where
   pub other : Part
   pub report : IsPartialReport text other
-  pub merged : IsMergeOf start other both
+  pub merged : IsMergedPart start other both
 
 -- texts are merged into a part, one after the other
-abbrev pub Merges : Part → List (List ℕ) → Part → Type 0
-Merges start [] whole = start ≡ whole
-Merges start (text ∷ texts) whole = (next : Part) × Adds start text next × Merges next texts whole
+abbrev pub MergesTexts : Part → List (List ℕ) → Part → Type 0
+MergesTexts start [] whole = start ≡ whole
+MergesTexts start (text ∷ texts) whole = (next : Part) × AddsPart start text next × MergesTexts next texts whole
 
 -- a part is the merge of the partial reports that are the texts
 abbrev pub IsMerged : List (List ℕ) → Part → Type 0
 IsMerged [] whole = ⊥
-IsMerged (text ∷ texts) whole = (first : Part) × IsPartialReport text first × Merges first texts whole
+IsMerged (text ∷ texts) whole = (first : Part) × IsPartialReport text first × MergesTexts first texts whole
 
 -- each part of the whole is in
 abbrev pub IsWhole : Head → Type 0

@@ -59,8 +59,8 @@ IsUnlike one digest head another OtherDimensions = (head.words ≡ one.words) ×
 IsUnlike one digest head another _ = ⊥
 
 -- no number is in both of two lists
-abbrev pub AreApart : List ℕ → List ℕ → Type 0
-AreApart ones others = (number : ℕ) → Contains ones number → Contains others number → ⊥
+abbrev pub AreDisjoint : List ℕ → List ℕ → Type 0
+AreDisjoint ones others = (number : ℕ) → Contains ones number → Contains others number → ⊥
 
 -- a number is the least that is in both
 pub record IsLeastOfBoth (ones others : List ℕ) (number : ℕ) : Type 0 where
@@ -82,11 +82,11 @@ pub record IsAlike (one : Head) (digest : List ℕ) (head : Head) (another : Lis
 
 -- Why a text is not merged into a part: it is no partial report, or memory ran out. Or its head is not that of one more
 -- part of the whole: it is not alike, or has numbers that are in already, of which the least is named.
-abbrev pub AddRefuses : Part → List ℕ → Refused → Type 0
-AddRefuses part text Memory = Unit {0}
-AddRefuses part text Input = ⊥
-AddRefuses part text (At line wrong) = IsNoPartialReport text
-AddRefuses part text (Twice number) =
+abbrev pub RefusesAdding : Part → List ℕ → Refused → Type 0
+RefusesAdding part text Memory = Unit {0}
+RefusesAdding part text Input = ⊥
+RefusesAdding part text (At line wrong) = IsNoPartialReport text
+RefusesAdding part text (Twice number) =
     HasHead text (λ head digest. IsAlike part.head part.digest head digest
     × IsLeastOfBoth part.head.numbers head.numbers number)
-AddRefuses part text refused = HasHead text (λ head digest. IsUnlike part.head part.digest head digest refused)
+RefusesAdding part text refused = HasHead text (λ head digest. IsUnlike part.head part.digest head digest refused)

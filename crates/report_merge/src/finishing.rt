@@ -5,9 +5,9 @@ ghost use Rattle.cube_model.specs.declared.answer.Value.TheVariants.{Whole};
 ghost use Rattle.cube_model.specs.Proper.{is_average};
 ghost use Rattle.answer_merge.specs.Finishing.{FinishRefuses};
 ghost use Rattle.answer_merge.specs.Parts.{finished};
-ghost use Rattle.answer_merge.specs.Wide.{Rise, line_of, lines_of};
+ghost use Rattle.answer_merge.specs.Wide.{Rise, narrow_line, narrow_lines};
 ghost use Rattle.report_formats.specs.Rows.{counts_averages};
-ghost use Rattle.report_merge.specs.Finishing.{asks_for_counts, count_in, recounted_line};
+ghost use Rattle.report_merge.specs.Finishing.{asks_for_counts, count_alone, recounted_line};
 
 use crate::ordering::in_order;
 use answer_merge::{WideLine, finished_lines};
@@ -45,8 +45,8 @@ pub(crate) fn counted_lines(
 ) -> Result<Vec<WideLine>, Fault>
     requires { Rise lines.items }
     ensures lines { IfOk result
-        (λ found. lines_of found.items
-        ≡ (if counts then map recounted_line (lines_of lines.items) else lines_of lines.items)) }
+        (λ found. narrow_lines found.items
+        ≡ (if counts then map recounted_line (narrow_lines lines.items) else narrow_lines lines.items)) }
     ensures rise { IfOk result (λ found. Rise found.items) }
     ensures only { IfErr result (λ fault. fault ≡ Fault.Memory) }
 {
@@ -59,7 +59,7 @@ pub(crate) fn counted_lines(
 
 // The lines with the count of each once more after all numbers.
 fn recounted(alloc: Global, lines: Vec<WideLine>) -> Result<Vec<WideLine>, Fault>
-    ensures ok { IfOk result (λ found. lines_of found.items ≡ map recounted_line (lines_of lines.items)) }
+    ensures ok { IfOk result (λ found. narrow_lines found.items ≡ map recounted_line (narrow_lines lines.items)) }
     ensures only { IfErr result (λ fault. fault ≡ Fault.Memory) }
 {
     let mut found = Vec::new(alloc);
@@ -70,7 +70,7 @@ fn recounted(alloc: Global, lines: Vec<WideLine>) -> Result<Vec<WideLine>, Fault
 }
 
 fn recounted_line(line: WideLine) -> Result<WideLine, Fault>
-    ensures ok { IfOk result (λ found. line_of found ≡ recounted_line (line_of line)) }
+    ensures ok { IfOk result (λ found. narrow_line found ≡ recounted_line (narrow_line line)) }
     ensures only { IfErr result (λ fault. fault ≡ Fault.Memory) }
 {
     let WideLine { key, mut numbers } = line;
@@ -82,8 +82,8 @@ fn recounted_line(line: WideLine) -> Result<WideLine, Fault>
 
 // The count, which is the first of a line's numbers.
 fn count_in(numbers: &[i128]) -> Option<i128>
-    ensures { MatchOption result (count_in (map Whole numbers.now) ≡ [])
-        (λ count. count_in (map Whole numbers.now) ≡ Whole count ∷ []) }
+    ensures { MatchOption result (count_alone (map Whole numbers.now) ≡ [])
+        (λ count. count_alone (map Whole numbers.now) ≡ Whole count ∷ []) }
 {
     match numbers.split_first() {
         Some((count, _)) => Some(*count),
@@ -97,8 +97,8 @@ fn count_in(numbers: &[i128]) -> Option<i128>
 #[tactic(auto, using(crate::proofs::Rising::finished_rise))]
 pub(crate) fn finished(alloc: Global, query: &Query, lines: Vec<WideLine>) -> Result<Answer, Fault>
     requires { Rise lines.items }
-    ensures ok { IfOk result (λ answer. answer ≡ finished query.now (record { lines = lines_of lines.items })) }
-    ensures refused { IfErr result (FinishRefuses query.now.aggregates (lines_of lines.items)) }
+    ensures ok { IfOk result (λ answer. answer ≡ finished query.now (record { lines = narrow_lines lines.items })) }
+    ensures refused { IfErr result (FinishRefuses query.now.aggregates (narrow_lines lines.items)) }
 {
     let lines = finished_lines(alloc, query.aggregates.as_slice(), lines)?;
     Ok(Answer {

@@ -1,7 +1,7 @@
 //! Merged lines with numbers of 64 bits.
 ghost use Rattle.std.specs.Prelude.{◌≡◌, map, IfErr, IfOk};
 ghost use Rattle.cube_model.specs.declared.answer.Value.TheVariants.{Whole};
-ghost use Rattle.answer_merge.specs.Wide.{line_of, lines_of};
+ghost use Rattle.answer_merge.specs.Wide.{narrow_line, narrow_lines};
 ghost use Rattle.report_merge.specs.Ranges.{IsRangeOrMemory};
 
 use answer_merge::WideLine;
@@ -16,7 +16,7 @@ pub(crate) fn narrow_lines(
     aggs: &[Agg],
     lines: &[WideLine],
 ) -> Result<Items<Line>, Fault>
-    ensures ok { IfOk result (λ narrow. narrow ≡ lines_of lines.now) }
+    ensures ok { IfOk result (λ narrow. narrow ≡ narrow_lines lines.now) }
     ensures only { IfErr result IsRangeOrMemory }
 {
     let mut narrow = Items::new(alloc);
@@ -27,7 +27,7 @@ pub(crate) fn narrow_lines(
 }
 
 fn narrow_line(alloc: Global, aggs: &[Agg], line: &WideLine) -> Result<Line, Fault>
-    ensures ok { IfOk result (λ narrow. narrow ≡ line_of line.now) }
+    ensures ok { IfOk result (λ narrow. narrow ≡ narrow_line line.now) }
     ensures only { IfErr result IsRangeOrMemory }
 {
     let key = copied_key(alloc, line.key.as_slice())?;

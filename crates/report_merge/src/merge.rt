@@ -2,15 +2,15 @@
 ghost use Rattle.std.specs.Prelude.{◌≡◌, ◌<◌, ◌++◌, ℕ, length, slice_index, IfErr, IfNone, IfOk, IfSome, OnErr, OnOk};
 ghost use Rattle.answer_merge.specs.Finishing.{CanBeFinished, FinishRefuses};
 ghost use Rattle.answer_merge.specs.Parts.{partial_query};
-ghost use Rattle.answer_merge.specs.Wide.{lines_of};
+ghost use Rattle.answer_merge.specs.Wide.{narrow_lines};
 ghost use Rattle.mode_queries.specs.Lawful.{without_modes};
 ghost use Rattle.partial_reports.specs.Head.{head_text};
 ghost use Rattle.report_formats.specs.Asked.{asked_for, query_for};
 ghost use Rattle.report_merge.specs.Finishing.{finished_for, partial_for};
-ghost use Rattle.report_merge.specs.Kept.{IsKept, IsMore};
-ghost use Rattle.report_merge.specs.Merging.{Adds, AreOfOne, IsMergeOf, IsPartialReport, IsWhole, Part};
+ghost use Rattle.report_merge.specs.Kept.{IsKeptPart, IsMore};
+ghost use Rattle.report_merge.specs.Merging.{AddsPart, AreOfOne, IsMergedPart, IsPartialReport, IsWhole, Part};
 ghost use Rattle.report_merge.specs.Numbers.{IsFirstGap};
-ghost use Rattle.report_merge.specs.Refusals.{AddRefuses, AreApart, IsUnlike, NewRefuses, UnlessMemory};
+ghost use Rattle.report_merge.specs.Refusals.{RefusesAdding, AreDisjoint, IsUnlike, NewRefuses, UnlessMemory};
 ghost use Rattle.report_merge.specs.Written.{WritesOrKeeps};
 ghost use Rattle.ssb_reports.specs.Report.{report_of};
 ghost use Rattle.ssb_reports.specs.Writing.{Writes};
@@ -50,10 +50,10 @@ impl Model for Merge {
       head = merge.head;
       digest = merge.digest;
       query = merge.query;
-      answer = record { lines = lines_of merge.lines.items };
+      answer = record { lines = narrow_lines merge.lines.items };
     } };
 
-    ghost invariant = { λ merge. IsKept merge.head merge.digest merge.query merge.partial merge.lines.items };
+    ghost invariant = { λ merge. IsKeptPart merge.head merge.digest merge.query merge.partial merge.lines.items };
 }
 
 // What is read of one more part: the numbers of all parts with its own, and its partial answer.
@@ -98,11 +98,11 @@ impl Merge {
     /// order, where its head is not that of one more part of the whole; or `Memory`. `Twice` has the least number that
     /// is in both.
     pub fn add(self, alloc: Global, text: &[u8]) -> Result<Merge, Refused>
-        ensures ok { IfOk result (Adds self text.now) }
+        ensures ok { IfOk result (AddsPart self text.now) }
         ensures complete { (other : Part) → IsPartialReport text.now other → AreOfOne self other
-            → AreApart self.head.numbers other.head.numbers
-            → UnlessMemory result (IsMergeOf self other) }
-        ensures refused { IfErr result (AddRefuses self text.now) }
+            → AreDisjoint self.head.numbers other.head.numbers
+            → UnlessMemory result (IsMergedPart self other) }
+        ensures refused { IfErr result (RefusesAdding self text.now) }
     {
         heads_read_back();
         partial_reports_are_of_one_part();
@@ -127,7 +127,7 @@ impl Merge {
     // What is read of one more partial report.
     fn more(&self, alloc: Global, text: &[u8]) -> Result<More, Refused>
         ensures ok { IfOk result (λ more. IsMore self.now text.now more.numbers more.answer) }
-        ensures refused { IfErr result (AddRefuses self.now text.now) }
+        ensures refused { IfErr result (RefusesAdding self.now text.now) }
     {
         let read = read_head(alloc, text)?;
         check_digest(&read.digest);

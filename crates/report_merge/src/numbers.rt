@@ -4,7 +4,7 @@ ghost use Rattle.std.specs.List.{range_with_len};
 ghost use Rattle.std.specs.List.Sorted.{IsPermutation, IsStrictlyIncreasing};
 ghost use Rattle.partial_reports.specs.Head.{ascend_between};
 ghost use Rattle.report_merge.specs.Numbers.{IsFirstGap};
-ghost use Rattle.report_merge.specs.Refusals.{AreApart, IsLeastOfBoth, NumbersRefuse};
+ghost use Rattle.report_merge.specs.Refusals.{AreDisjoint, IsLeastOfBoth, NumbersRefuse};
 
 use crate::refused::Refused;
 use cube_model::Items;
@@ -37,7 +37,7 @@ pub(crate) fn merged_numbers(
 fn first_in_both(ones: &[u32], others: &[u32]) -> Option<u32>
     requires { IsStrictlyIncreasing ones.now }
     ensures some { IfSome result (IsLeastOfBoth ones.now others.now) }
-    ensures none { IfNone result (AreApart ones.now others.now) }
+    ensures none { IfNone result (AreDisjoint ones.now others.now) }
 {
     for number in ones {
         if others.contains(number) {

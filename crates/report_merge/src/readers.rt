@@ -2,8 +2,8 @@
 ghost use Rattle.std.specs.Prelude.{◌≡◌, ℕ, List, Some, map, IfErr, IfOk};
 ghost use Rattle.report_merge.specs.declared.refused.Refused.TheVariants.{Input};
 ghost use Rattle.report_merge.specs.Mergeable.{CanAdd, CanMerge, IsOutside};
-ghost use Rattle.report_merge.specs.Merging.{Adds, AreOfOne, IsMerged, IsPartialReport, Merges, Part};
-ghost use Rattle.report_merge.specs.Refusals.{AreApart};
+ghost use Rattle.report_merge.specs.Merging.{AddsPart, AreOfOne, IsMerged, IsPartialReport, MergesTexts, Part};
+ghost use Rattle.report_merge.specs.Refusals.{AreDisjoint};
 
 use crate::laws::partial_reports_are_of_one_part;
 use crate::merge::Merge;
@@ -41,7 +41,7 @@ fn add_all<R: Read + Drop>(
     readers: Vec<R>,
 ) -> Result<Merge, Unmerged>
     ensures ok { IfOk result (λ whole. (texts : List (List ℕ)) → map R.remaining readers.items ≡ map Some texts
-        → Merges merge texts whole) }
+        → MergesTexts merge texts whole) }
     ensures complete { (texts : List (List ℕ)) → map R.remaining readers.items ≡ map Some texts → CanAdd merge texts
         → IfErr result (λ unmerged. IsOutside unmerged.refused) }
 {
@@ -67,10 +67,10 @@ fn first_of<R: Read + Drop>(alloc: Global, reader: R) -> Result<Merge, Refused>
 }
 
 fn add_one<R: Read + Drop>(alloc: Global, merge: Merge, reader: R) -> Result<Merge, Refused>
-    ensures ok { IfOk result (λ next. (text : List ℕ) → R.remaining reader ≡ Some text → Adds merge text next) }
+    ensures ok { IfOk result (λ next. (text : List ℕ) → R.remaining reader ≡ Some text → AddsPart merge text next) }
     ensures complete { (text : List ℕ) (other : Part) → R.remaining reader ≡ Some text → IsPartialReport text other
         → AreOfOne merge other
-        → AreApart merge.head.numbers other.head.numbers → IfErr result IsOutside }
+        → AreDisjoint merge.head.numbers other.head.numbers → IfErr result IsOutside }
 {
     let text = text_of(alloc, reader)?;
     merge.add(alloc, text.as_slice())

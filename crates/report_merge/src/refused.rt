@@ -1,6 +1,6 @@
 //! Why partial reports were not merged.
 ghost use Rattle.std.specs.Prelude.{◌≡◌};
-ghost use Rattle.report_merge.specs.Faults.{fault_of};
+ghost use Rattle.report_merge.specs.Faults.{merge_fault};
 ghost use Rattle.report_merge.specs.Given.{no_query};
 
 use cube_model::Fault;
@@ -37,7 +37,7 @@ impl Refused {
     /// The fault of a refusal: `BadLayout` for a text that is no partial report, `BadQuery` for parts that are not of
     /// one whole.
     pub fn fault(&self) -> Fault
-        ensures { result ≡ fault_of self.now }
+        ensures { result ≡ merge_fault self.now }
     {
         match self {
             Refused::Memory => Fault::Memory,

@@ -11,12 +11,12 @@ abbrev pub word_in : List ℕ → Option (List ℕ)
 word_in bytes = if nat_eq (length bytes) 0 then None else Some bytes
 
 -- the lines of a text, between line feeds (10), and none where it is empty
-abbrev pub lines_of : Option (List ℕ) → List (List ℕ)
-lines_of None = []
-lines_of (Some text) = parts_by 10 text
+abbrev pub listed_lines : Option (List ℕ) → List (List ℕ)
+listed_lines None = []
+listed_lines (Some text) = parts_by 10 text
 
-abbrev pub lines_in : List ℕ → List (List ℕ)
-lines_in bytes = lines_of (word_in bytes)
+abbrev pub lines_between : List ℕ → List (List ℕ)
+lines_between bytes = listed_lines (word_in bytes)
 
 -- the number of a query of the benchmark
 abbrev pub benchmark_words : List ℕ → Words
@@ -25,7 +25,7 @@ benchmark_words number = record { q = word_in number; set = None; by = None; agg
 -- the words of a cube query
 abbrev pub cube_words : List ℕ → List ℕ → List ℕ → List ℕ → Words
 cube_words set by agg conditions =
-    record { q = None; set = word_in set; by = word_in by; agg = word_in agg; conditions = lines_in conditions }
+    record { q = None; set = word_in set; by = word_in by; agg = word_in agg; conditions = lines_between conditions }
 
 -- the report of the query that words spell
 abbrev pub IsReportOf : Words → Layout → Asked → Type 0

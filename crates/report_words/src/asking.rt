@@ -5,7 +5,7 @@ ghost use Rattle.cube_model.specs.declared.fault.Fault.TheVariants.{BadQuery, Me
 ghost use Rattle.query_words.specs.Given.{words_of};
 ghost use Rattle.query_words.specs.Words.{parts_by};
 ghost use Rattle.report_formats.specs.Rows.{format_named};
-ghost use Rattle.report_words.specs.Words.{IsReportOf, benchmark_words, cube_words, lines_in, word_in};
+ghost use Rattle.report_words.specs.Words.{IsReportOf, benchmark_words, cube_words, lines_between, word_in};
 
 use cube_model::Fault;
 use query_words::{QueryWords, read_query};
@@ -101,7 +101,7 @@ fn word(bytes: &[u8]) -> Result<Option<&str>, Fault>
 
 // The words of a text, one a line, and none of an empty text.
 fn lines(alloc: Global, bytes: &[u8]) -> Result<Vec<&str>, Fault>
-    ensures ok { IfOk result (λ lines. map (λ line. line.now) lines.items ≡ lines_in bytes.now) }
+    ensures ok { IfOk result (λ lines. map (λ line. line.now) lines.items ≡ lines_between bytes.now) }
     ensures causes { IfErr result (λ fault. (fault ≡ Memory) ⊎ (fault ≡ BadQuery)) }
 {
     match word(bytes)? {

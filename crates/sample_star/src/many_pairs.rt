@@ -1,7 +1,8 @@
 //! A star of more pairs of a city and a brand than a cuboid may have cells.
 ghost use Rattle.std.specs.Prelude.{◌≤◌, IfOk, length};
 ghost use Rattle.cube_model.specs.Limits.{longest_text};
-ghost use Rattle.cube_model.specs.Validity.{AreShort, HaveShortTexts, HasShortTexts, customer_rules, part_rules};
+ghost use Rattle.cube_model.specs.Validity.{RowsHaveShortTexts, HaveShortTexts, HasShortTexts, customer_rules};
+ghost use Rattle.cube_model.specs.Validity.{part_rules};
 
 use crate::facts::{FIRST_FACT, Fact, line_order};
 use crate::stars::{STAR, dim_rows, text};
@@ -49,7 +50,7 @@ fn part(alloc: Global, key: u32) -> Result<PartRow, Fault>
 
 #[tactic(auto, using(crate::proofs::ShortRows::all_with_one_more))]
 fn customers(alloc: Global) -> Result<Items<CustomerRow>, Fault>
-    ensures { IfOk result (AreShort customer_rules) }
+    ensures { IfOk result (RowsHaveShortTexts customer_rules) }
 {
     let mut rows = Items::new(alloc);
     for key in 0..MEMBERS {
@@ -60,7 +61,7 @@ fn customers(alloc: Global) -> Result<Items<CustomerRow>, Fault>
 
 #[tactic(auto, using(crate::proofs::ShortRows::all_with_one_more))]
 fn parts(alloc: Global) -> Result<Items<PartRow>, Fault>
-    ensures { IfOk result (AreShort part_rules) }
+    ensures { IfOk result (RowsHaveShortTexts part_rules) }
 {
     let mut rows = Items::new(alloc);
     for key in 0..MEMBERS {

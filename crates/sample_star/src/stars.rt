@@ -1,7 +1,8 @@
 //! Dimension rows, as constants can hold them.
 ghost use Rattle.std.specs.Prelude.{◌≡◌, ◌≤◌, IfOk, length};
 ghost use Rattle.cube_model.specs.Limits.{longest_text};
-ghost use Rattle.cube_model.specs.Validity.{AreShort, HaveShortTexts, HasShortTexts, customer_rules, supplier_rules};
+ghost use Rattle.cube_model.specs.Validity.{RowsHaveShortTexts, HaveShortTexts, HasShortTexts, customer_rules};
+ghost use Rattle.cube_model.specs.Validity.{supplier_rules};
 ghost use Rattle.cube_model.specs.Validity.{part_rules, date_rules};
 
 use cube_model::limits::LONGEST_TEXT;
@@ -224,7 +225,7 @@ fn date_row(alloc: Global, row: &Day<'_>) -> Result<DateRow, Fault>
 
 #[tactic(auto, using(crate::proofs::ShortRows::all_with_one_more))]
 fn customers(alloc: Global, given: &[Location<'_>]) -> Result<Items<CustomerRow>, Fault>
-    ensures { IfOk result (AreShort customer_rules) }
+    ensures { IfOk result (RowsHaveShortTexts customer_rules) }
 {
     let mut rows = Items::new(alloc);
     for row in given {
@@ -235,7 +236,7 @@ fn customers(alloc: Global, given: &[Location<'_>]) -> Result<Items<CustomerRow>
 
 #[tactic(auto, using(crate::proofs::ShortRows::all_with_one_more))]
 fn suppliers(alloc: Global, given: &[Location<'_>]) -> Result<Items<SupplierRow>, Fault>
-    ensures { IfOk result (AreShort supplier_rules) }
+    ensures { IfOk result (RowsHaveShortTexts supplier_rules) }
 {
     let mut rows = Items::new(alloc);
     for row in given {
@@ -246,7 +247,7 @@ fn suppliers(alloc: Global, given: &[Location<'_>]) -> Result<Items<SupplierRow>
 
 #[tactic(auto, using(crate::proofs::ShortRows::all_with_one_more))]
 fn parts(alloc: Global, given: &[Product<'_>]) -> Result<Items<PartRow>, Fault>
-    ensures { IfOk result (AreShort part_rules) }
+    ensures { IfOk result (RowsHaveShortTexts part_rules) }
 {
     let mut rows = Items::new(alloc);
     for row in given {
@@ -257,7 +258,7 @@ fn parts(alloc: Global, given: &[Product<'_>]) -> Result<Items<PartRow>, Fault>
 
 #[tactic(auto, using(crate::proofs::ShortRows::all_with_one_more))]
 fn dates(alloc: Global, given: &[Day<'_>]) -> Result<Items<DateRow>, Fault>
-    ensures { IfOk result (AreShort date_rules) }
+    ensures { IfOk result (RowsHaveShortTexts date_rules) }
 {
     let mut rows = Items::new(alloc);
     for row in given {

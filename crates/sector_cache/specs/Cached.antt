@@ -27,8 +27,8 @@ module _ {D : Type 0} {G : sectors.Ghosts D} where
   kept_in c i = kept_at c.kept.entries i
 
   -- for how many sectors it has room
-  abbrev pub room_of : Cached D G → ℕ
-  room_of c = c.kept.cap
+  abbrev pub capacity_of : Cached D G → ℕ
+  capacity_of c = c.kept.cap
 
   -- the bytes came from the cache, and the device under it was not asked
   pub record IsServed (bytes : List ℕ) (result : Result (Unit {0}) DeviceError) (to : List ℕ)

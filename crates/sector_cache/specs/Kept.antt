@@ -12,8 +12,8 @@ abbrev pub kept_at : Kept → ℕ → Option (List ℕ)
 kept_at kept i = lookup (nat_eq i) kept
 
 -- each sector that is kept has the bytes that a read of the device gives
-abbrev pub Agrees : Image → Kept → Type 0
-Agrees reads kept = (i : ℕ) (b : List ℕ) → kept_at kept i ≡ Some b → b ≡ reads i
+abbrev pub IsCoherent : Image → Kept → Type 0
+IsCoherent reads kept = (i : ℕ) (b : List ℕ) → kept_at kept i ≡ Some b → b ≡ reads i
 
 -- the same is kept of each sector
 abbrev pub IsSameKept : Kept → Kept → Type 0

@@ -1,8 +1,9 @@
 // A device with a cache of some of its sectors.
 ghost use Rattle.std.specs.Prelude.{◌≡◌, ◌+◌, ◌-◌, ◌/◌, ◌%◌, ◌^◌, ◌<◌, ◌≤◌, ℕ, List, length, min, Some, None, IsSome};
 ghost use Rattle.std.specs.Prelude.{OnOk, OnErr, IfOk, IfErr};
-ghost use Rattle.sector_device.specs.Device.{CountsFailure, HasRun, IsInRun, Stays, Writes, WritesWithin};
-ghost use Rattle.sector_cache.specs.Kept.{Agrees};
+ghost use Rattle.sector_device.specs.Device.{CountsFailure, HasRun, IsInRun, CandidatesStay, WritesSector};
+ghost use Rattle.sector_device.specs.Device.{WritesWithin};
+ghost use Rattle.sector_cache.specs.Kept.{IsCoherent};
 
 use crate::kept::{Kept, copy_kept, forget, forget_run, keep};
 use cube_model::Fault;
@@ -19,11 +20,11 @@ use std::num::NonZeroUsize;
 pub struct Cached<D: Sectors> {
     inner: D,
     kept: Kept,
-    ghost agrees: { D.keeps_word inner → Agrees (D.state inner).reads kept.entries },
+    ghost agrees: { D.keeps_word inner → IsCoherent (D.state inner).reads kept.entries },
 }
 
 impl<D: Sectors> Cached<D> {
-    ghost use Rattle.sector_cache.specs.Cached.{inner_of, kept_in, room_of};
+    ghost use Rattle.sector_cache.specs.Cached.{inner_of, kept_in, capacity_of};
 
     /// A cache with room for so many sectors, with none yet, or the device back where memory is refused
     /// (`Memory`). At least one sector.
@@ -31,7 +32,7 @@ impl<D: Sectors> Cached<D> {
         requires { 0 < sectors }
         ensures device { IfOk result (λ c. inner_of c ≡ inner) }
         ensures empty { IfOk result (λ c. (i : ℕ) → kept_in c i ≡ None) }
-        ensures room { IfOk result (λ c. room_of c ≡ sectors) }
+        ensures room { IfOk result (λ c. capacity_of c ≡ sectors) }
         ensures err { IfErr result (λ e. (e.0 ≡ Fault.Memory) × (e.1 ≡ inner)) }
     {
         let Some(room) = NonZeroUsize::new(sectors as usize) else {
@@ -93,7 +94,7 @@ impl<D: Sectors> Sectors for Cached<D> {
         ensures word { KeepsWord self.new → KeepsWord self.old }
         ensures goes_on { D.Sectors.always_keeps → KeepsWord self.old → KeepsWord self.new }
         ensures bytes { OnOk result (KeepsWord self.new → to.new ≡ (state_of self.old).reads i) }
-        ensures stays { KeepsWord self.new → Stays (state_of self.old) (state_of self.new) }
+        ensures stays { KeepsWord self.new → CandidatesStay (state_of self.old) (state_of self.new) }
 
         ensures served { (bytes : List ℕ) → kept_in self.old i ≡ Some bytes
             → IsServed bytes result to.new self.old self.new }
@@ -113,7 +114,7 @@ impl<D: Sectors> Sectors for Cached<D> {
         ensures word { KeepsWord self.new → KeepsWord self.old }
         ensures goes_on { D.Sectors.always_keeps → KeepsWord self.old → KeepsWord self.new }
         ensures written { OnOk result (KeepsWord self.new → (state_of self.new).reads i ≡ from.now) }
-        ensures writes { KeepsWord self.new → Writes i from.now (state_of self.old) (state_of self.new) }
+        ensures writes { KeepsWord self.new → WritesSector i from.now (state_of self.old) (state_of self.new) }
 
         ensures updated { OnOk result (IsSome (kept_in self.old i) → kept_in self.new i ≡ Some from.now) }
         ensures dropped { OnErr result (kept_in self.new i ≡ None) }
@@ -135,7 +136,7 @@ impl<D: Sectors> Sectors for Cached<D> {
         ensures word { KeepsWord self.new → KeepsWord self.old }
         ensures goes_on { D.Sectors.always_keeps → KeepsWord self.old → KeepsWord self.new }
         ensures bytes { OnOk result (KeepsWord self.new → HasRun (state_of self.old).reads first to.new) }
-        ensures stays { KeepsWord self.new → Stays (state_of self.old) (state_of self.new) }
+        ensures stays { KeepsWord self.new → CandidatesStay (state_of self.old) (state_of self.new) }
 
         ensures unkept { (i : ℕ) → kept_in self.new i ≡ kept_in self.old i }
     {

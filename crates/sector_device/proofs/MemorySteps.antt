@@ -7,14 +7,14 @@ use Rattle.std.proofs.lemmas.List.{length-set, get_or-set_same, get_or-set_other
 use Rattle.std.proofs.lemmas.List.{reverse-append}
 use Rattle.std.proofs.lemmas.Bool.{cases_eq}
 use Rattle.std.proofs.lemmas.Bool.Decides.{eqb_tells}
-use Rattle.sector_device.specs.Device.{Elapses, Writes, Syncs}
+use Rattle.sector_device.specs.Device.{Elapses, WritesSector, Syncs}
 use Rattle.sector_device.specs.Memory.{content, replaced, candidates, MayHold, LeftWithin, before, memory_state}
 use Rattle.sector_device.specs.Memory.{AreWhole}
 use Rattle.sector_device.specs.MemoryLaws.{read_may_stay}
 use Rattle.sector_device.specs.declared.change.Change.{Change}
 use Rattle.sector_device.specs.declared.change.Change.TheVariants.{Replaced, Synced}
 use Rattle.sector_device.specs.declared.memory.MemDisk.{MemDisk}
-use Rattle.sector_device.specs.MemDisk.{oldest_first, Adds}
+use Rattle.sector_device.specs.MemDisk.{oldest_first, AddsCandidate}
 use Rattle.sector_device.proofs.Lists.{only, later, which}
 
 -- one change more
@@ -82,7 +82,7 @@ module _ (sectors : List (List ℕ)) (log : List Change) (at : ℕ) (bytes : Lis
       subst (λ (l : List (List ℕ)). Contains l b) (sym (after-here i is)) (later bytes (candidates sectors log i) b may)
   fewer i b (inr ne) may = subst (λ (l : List (List ℕ)). Contains l b) (sym (after-there i ne)) may
 
-  pub writes : Writes at bytes (memory_state sectors log)
+  pub writes : WritesSector at bytes (memory_state sectors log)
       (memory_state (set sectors at bytes) (Replaced at (content sectors at) ∷ log))
   writes = record {
     others = elsewhere;
@@ -120,7 +120,8 @@ any_default xs i x lt is = get_or_read xs i x lt is []
 -- a write that was noted
 pub adds : (old new : MemDisk) (at : ℕ) (bytes : List ℕ) → at < length old.sectors.items
     → new.sectors.items ≡ set old.sectors.items at bytes
-    → reverse new.log.items ≡ Replaced at (content old.sectors.items at) ∷ reverse old.log.items → Adds at bytes old new
+    → reverse new.log.items ≡ Replaced at (content old.sectors.items at) ∷ reverse old.log.items
+    → AddsCandidate at bytes old new
 adds old new at bytes lt sectors log =
     let before_it = reverse old.log.items in
     let is : (i : ℕ)

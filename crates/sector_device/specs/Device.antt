@@ -31,14 +31,14 @@ pub record Elapses (old new : DeviceState) : Type 0 where
   pub keeps : (t : ℕ) (image : Image) → t ≤ old.moment → old.left_since t image → new.left_since t image
 
 -- reads and candidates stay
-pub record Stays (old new : DeviceState) : Type 0 where
+pub record CandidatesStay (old new : DeviceState) : Type 0 where
   pub reads : (i : ℕ) → new.reads i ≡ old.reads i
   pub no_more : (i : ℕ) (b : List ℕ) → new.may_hold i b → old.may_hold i b
   pub no_fewer : (i : ℕ) (b : List ℕ) → old.may_hold i b → new.may_hold i b
   pub time : Elapses old new
 
 -- one sector may have these bytes as a candidate more, and the others stay
-pub record Writes (at : ℕ) (bytes : List ℕ) (old new : DeviceState) : Type 0 where
+pub record WritesSector (at : ℕ) (bytes : List ℕ) (old new : DeviceState) : Type 0 where
   pub others : (i : ℕ) → i ≢ at → new.reads i ≡ old.reads i
   pub no_more : (i : ℕ) (b : List ℕ) → new.may_hold i b → old.may_hold i b ⊎ ((i ≡ at) × (b ≡ bytes))
   pub no_fewer : (i : ℕ) (b : List ℕ) → old.may_hold i b → new.may_hold i b

@@ -25,8 +25,8 @@ abbrev pub plan_of : {D : Type 0} → Fuse D → Plan
 plan_of f = f.plan
 
 -- how many reads, writes and syncs there were
-abbrev pub calls_of : {D : Type 0} → Fuse D → ℕ
-calls_of f = f.calls
+abbrev pub call_count_of : {D : Type 0} → Fuse D → ℕ
+call_count_of f = f.calls
 
 -- how often it has failed
 abbrev pub failures_of : {D : Type 0} → Fuse D → ℕ
@@ -42,7 +42,7 @@ blows f = fails_at f.plan (next_call f)
 
 -- one call more with this answer, by the plan
 pub record Burns {D : Type 0} (result : Result (Unit {0}) DeviceError) (old new : Fuse D) : Type 0 where
-  pub calls : calls_of new ≡ next_call old
+  pub calls : call_count_of new ≡ next_call old
   pub plan : plan_of new ≡ plan_of old
   pub fails : IsTrue (blows old) → IsErr result
 

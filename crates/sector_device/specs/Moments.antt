@@ -1,7 +1,8 @@
 -- How a run of device calls goes on, from one moment to the next. Our own.
 use Rattle.std.specs.Prelude.{◌≢◌, ℕ, List, refl}
 use Rattle.std.proofs.Common.{inl, inr, ⊎_elim, sym, ◌∙◌, subst, arith}
-use Rattle.sector_device.specs.Device.{Image, DeviceState, IsImage, Elapses, Stays, Writes, Syncs, LeavesOnly}
+use Rattle.sector_device.specs.Device.{Image, DeviceState, IsImage, Elapses, CandidatesStay, WritesSector, Syncs}
+use Rattle.sector_device.specs.Device.{LeavesOnly}
 use Rattle.sector_device.specs.Device.{WritesWithin}
 
 -- before the first call
@@ -24,9 +25,9 @@ goes_on old mid new P so_far time here = record {
 }
 
 -- one run after another
-pub and_then : (old mid new : DeviceState) (P : Image → Type 0) → LeavesOnly old mid P → LeavesOnly mid new P
+pub join_runs : (old mid new : DeviceState) (P : Image → Type 0) → LeavesOnly old mid P → LeavesOnly mid new P
     → LeavesOnly old new P
-and_then old mid new P first second = record {
+join_runs old mid new P first second = record {
   later = omega (arith, first.later, second.later);
   each = λ image left. ⊎_elim (first.each image) (λ has. has) (second.before old.moment image first.later left);
   before = λ t image le left. ⊎_elim (first.before t image le) (λ has. inr has)
@@ -50,7 +51,7 @@ none_written Within s only = record {
 }
 
 pub one_written : (Within : ℕ → Type 0) (old mid new : DeviceState) (at : ℕ) (bytes : List ℕ) → Within at
-    → WritesWithin Within old mid → Writes at bytes mid new → WritesWithin Within old new
+    → WritesWithin Within old mid → WritesSector at bytes mid new → WritesWithin Within old new
 one_written Within old mid new at bytes in_it so_far writes =
     let other : (i : ℕ) → (Within i → ⊥) → i ≢ at = λ i out e. out (subst Within (sym e) in_it) in
     let held : (i : ℕ) (b : List ℕ) → (Within i → ⊥) → new.may_hold i b → old.may_hold i b =
@@ -85,13 +86,13 @@ pub within_then : (Within Part : ℕ → Type 0) (old mid new : DeviceState) →
 within_then Within Part old mid new so first second = record {
   others = λ i out. second.others i (λ p. out (so i p)) ∙ first.others i out;
   no_more = λ i b out may. first.no_more i b out (second.no_more i b (λ p. out (so i p)) may);
-  leaves = and_then old mid new _ first.leaves
+  leaves = join_runs old mid new _ first.leaves
       (leaves_also mid new _ _ (λ image held i out. first.no_more i (image i) out (held i (λ p. out (so i p))))
       second.leaves);
 }
 
 -- nothing changed, twice
-pub stays_then : (old mid new : DeviceState) → Stays old mid → Stays mid new → Stays old new
+pub stays_then : (old mid new : DeviceState) → CandidatesStay old mid → CandidatesStay mid new → CandidatesStay old new
 stays_then old mid new one two =
     let images : (image : Image) → IsImage mid image → IsImage new image =
     λ image is i. two.no_fewer i (image i) (is i) in record {

@@ -1,6 +1,7 @@
 // What generic code knows of a device. What is said of its contents holds where it keeps its word.
 ghost use Rattle.std.specs.Prelude.{◌≡◌, ◌+◌, ◌/◌, ◌%◌, ◌^◌, ◌≤◌, ◌<◌, List, ℕ, length, OnOk, OnErr};
-ghost use Rattle.sector_device.specs.Device.{DeviceState, Image, IsImage, IsSettled, Stays, Writes, WritesWithin};
+ghost use Rattle.sector_device.specs.Device.{DeviceState, Image, IsImage, IsSettled, CandidatesStay, WritesSector};
+ghost use Rattle.sector_device.specs.Device.{WritesWithin};
 ghost use Rattle.sector_device.specs.Device.{HasRun, IsInRun, Syncs, CountsFailure};
 
 use crate::run::{put_sector, sector_at};
@@ -42,7 +43,7 @@ pub trait Sectors {
         ensures word { keeps_word self.new → keeps_word self.old }
         ensures goes_on { always_keeps → keeps_word self.old → keeps_word self.new }
         ensures bytes { OnOk result (keeps_word self.new → to.new ≡ (state self.old).reads i) }
-        ensures stays { keeps_word self.new → Stays (state self.old) (state self.new) };
+        ensures stays { keeps_word self.new → CandidatesStay (state self.old) (state self.new) };
 
     /// Writes a sector. After an error the bytes may have been written or not.
     fn write(&mut self, i: u32, from: &[u8; 512]) -> Result<(), DeviceError>
@@ -52,7 +53,7 @@ pub trait Sectors {
         ensures word { keeps_word self.new → keeps_word self.old }
         ensures goes_on { always_keeps → keeps_word self.old → keeps_word self.new }
         ensures written { OnOk result (keeps_word self.new → (state self.new).reads i ≡ from.now) }
-        ensures writes { keeps_word self.new → Writes i from.now (state self.old) (state self.new) };
+        ensures writes { keeps_word self.new → WritesSector i from.now (state self.old) (state self.new) };
 
     /// Reads neighbouring sectors, from a first one on, to bytes end to end. After an error these may hold anything.
     fn read_run(&mut self, first: u32, to: &mut [u8]) -> Result<(), DeviceError>
@@ -64,7 +65,7 @@ pub trait Sectors {
         ensures word { keeps_word self.new → keeps_word self.old }
         ensures goes_on { always_keeps → keeps_word self.old → keeps_word self.new }
         ensures bytes { OnOk result (keeps_word self.new → HasRun (state self.old).reads first to.new) }
-        ensures stays { keeps_word self.new → Stays (state self.old) (state self.new) }
+        ensures stays { keeps_word self.new → CandidatesStay (state self.old) (state self.new) }
     {
         let mut sector = [0; 512];
         for k in 0..to.len() / 512 {
@@ -102,7 +103,7 @@ pub trait Sectors {
         ensures goes_on { always_keeps → keeps_word self.old → keeps_word self.new }
         ensures settled { OnOk result (keeps_word self.new → IsSettled (state self.new)) }
         ensures syncs { keeps_word self.new → Syncs (state self.old) (state self.new) }
-        ensures unchanged { OnErr result (keeps_word self.new → Stays (state self.old) (state self.new)) };
+        ensures unchanged { OnErr result (keeps_word self.new → CandidatesStay (state self.old) (state self.new)) };
 
     /// What a read gives is a candidate.
     ghost read_may_stay: { (d : Self) (i : ℕ) → keeps_word d → (state d).may_hold i ((state d).reads i) };

@@ -2,7 +2,7 @@
 ghost use Rattle.std.specs.Prelude.{◌≡◌, ◌+◌, ◌-◌, ◌^◌, ◌<◌, ◌&&◌, ◌||◌, min, not, ℕ, false, nat_eq, nat_lt, IsTrue};
 ghost use Rattle.std.specs.Prelude.{IsErr, OnOk, OnErr};
 ghost use Rattle.sector_device.specs.Plan.{fails_at};
-ghost use Rattle.sector_device.specs.Device.{CountsFailure, IsSettled, Stays, Writes, Syncs};
+ghost use Rattle.sector_device.specs.Device.{CountsFailure, IsSettled, CandidatesStay, WritesSector, Syncs};
 
 use crate::{DeviceError, Sectors};
 
@@ -24,14 +24,14 @@ pub struct Fuse<D: Sectors> {
 }
 
 impl<D: Sectors> Fuse<D> {
-    ghost use Rattle.sector_device.specs.Fuse.{inner_of, plan_of, calls_of, failures_of};
+    ghost use Rattle.sector_device.specs.Fuse.{inner_of, plan_of, call_count_of, failures_of};
 
     /// Its n-th call fails, from 1 and none at 0, and with `all` each one from then on. A write that fails
     /// reaches the inner device where `reaches` says so. Reads, writes and syncs count.
     pub fn new(inner: D, n: u64, all: bool, reaches: bool) -> Fuse<D>
         ensures device { inner_of result ≡ inner }
         ensures plan { plan_of result ≡ record { at = n; all = all; reaches = reaches } }
-        ensures calls { calls_of result ≡ 0 }
+        ensures calls { call_count_of result ≡ 0 }
         ensures failures { failures_of result ≡ 0 }
     {
         let plan = Plan {
@@ -118,7 +118,7 @@ impl<D: Sectors> Sectors for Fuse<D> {
         ensures goes_on { D.Sectors.always_keeps → KeepsWord D.Sectors self.old → KeepsWord D.Sectors self.new }
         ensures bytes { OnOk result (KeepsWord D.Sectors self.new → to.new ≡ (state_of D.Sectors self.old).reads i) }
         ensures stays { KeepsWord D.Sectors self.new
-            → Stays (state_of D.Sectors self.old) (state_of D.Sectors self.new) }
+            → CandidatesStay (state_of D.Sectors self.old) (state_of D.Sectors self.new) }
 
         ensures burns { Burns result self.old self.new }
         ensures passes { blows self.old ≡ false
@@ -140,7 +140,7 @@ impl<D: Sectors> Sectors for Fuse<D> {
         ensures written { OnOk result
             (KeepsWord D.Sectors self.new → (state_of D.Sectors self.new).reads i ≡ from.now) }
         ensures writes { KeepsWord D.Sectors self.new
-            → Writes i from.now (state_of D.Sectors self.old) (state_of D.Sectors self.new) }
+            → WritesSector i from.now (state_of D.Sectors self.old) (state_of D.Sectors self.new) }
 
         ensures burns { Burns result self.old self.new }
         ensures passes { blows self.old ≡ false
@@ -168,7 +168,8 @@ impl<D: Sectors> Sectors for Fuse<D> {
         ensures syncs { KeepsWord D.Sectors self.new
             → Syncs (state_of D.Sectors self.old) (state_of D.Sectors self.new) }
         ensures unchanged { OnErr result
-            (KeepsWord D.Sectors self.new → Stays (state_of D.Sectors self.old) (state_of D.Sectors self.new)) }
+            (KeepsWord D.Sectors self.new
+            → CandidatesStay (state_of D.Sectors self.old) (state_of D.Sectors self.new)) }
 
         ensures burns { Burns result self.old self.new }
         ensures passes { blows self.old ≡ false

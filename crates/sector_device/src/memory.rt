@@ -1,7 +1,7 @@
 // A disk in memory. It keeps what each write and sync took away, so that each earlier moment is known.
 ghost use Rattle.std.specs.Prelude.{◌≡◌, ◌+◌, ◌-◌, ◌^◌, ◌<◌, ℕ, [], ◌∷◌, length, min, replicate, reverse, IsOk, IfOk};
 ghost use Rattle.std.specs.Prelude.{IfErr, OnOk, OnErr};
-ghost use Rattle.sector_device.specs.Device.{IsImage, IsSettled, Stays, Writes, Syncs, CountsFailure};
+ghost use Rattle.sector_device.specs.Device.{IsImage, IsSettled, CandidatesStay, WritesSector, Syncs, CountsFailure};
 ghost use Rattle.sector_device.specs.Memory.{AreWhole};
 ghost use Rattle.sector_device.specs.Picks.{named};
 
@@ -114,7 +114,8 @@ fn noted(log: &mut Vec<Change>, change: Change, failures: &mut u64) -> Result<()
 }
 
 impl Sectors for MemDisk {
-    ghost use Rattle.sector_device.specs.MemDisk.{state_of, oldest_first, reads_of, failures_of, Adds, IsUnchanged};
+    ghost use Rattle.sector_device.specs.MemDisk.{state_of, oldest_first, reads_of, failures_of, AddsCandidate};
+    ghost use Rattle.sector_device.specs.MemDisk.{IsUnchanged};
     ghost use Rattle.sector_device.specs.MemoryLaws.{read_may_stay, counts_now, only_now};
 
     ghost state = { state_of };
@@ -147,7 +148,7 @@ impl Sectors for MemDisk {
         ensures size { (state_of self.new).size ≡ (state_of self.old).size }
         ensures failures { CountsFailure result (failures_of self.old) (failures_of self.new) }
         ensures bytes { to.new ≡ (state_of self.old).reads i }
-        ensures stays { Stays (state_of self.old) (state_of self.new) }
+        ensures stays { CandidatesStay (state_of self.old) (state_of self.new) }
         ensures reads { reads_of self.new ≡ min (reads_of self.old + 1) (2 ^ 64 - 1) }
     {
         *to = self.sectors[i as usize];
@@ -160,8 +161,8 @@ impl Sectors for MemDisk {
         ensures size { (state_of self.new).size ≡ (state_of self.old).size }
         ensures failures { CountsFailure result (failures_of self.old) (failures_of self.new) }
         ensures written { OnOk result ((state_of self.new).reads i ≡ from.now) }
-        ensures writes { Writes i from.now (state_of self.old) (state_of self.new) }
-        ensures adds { OnOk result (Adds i from.now self.old self.new) }
+        ensures writes { WritesSector i from.now (state_of self.old) (state_of self.new) }
+        ensures adds { OnOk result (AddsCandidate i from.now self.old self.new) }
         ensures reads { reads_of self.new ≡ reads_of self.old }
         ensures unchanged { OnErr result (IsUnchanged self.old self.new) }
     {

@@ -3,5 +3,5 @@ use Rattle.std.specs.Prelude.{ℕ, List, ◌++◌, codes}
 use Rattle.std.specs.Fmt.{decimal}
 
 -- so many crashes were opened
-abbrev pub sound_line : ℕ → List ℕ
-sound_line crashes = codes "ok: " ++ (decimal crashes ++ codes " stops opened\n")
+abbrev pub crashes_line : ℕ → List ℕ
+crashes_line crashes = codes "ok: " ++ (decimal crashes ++ codes " stops opened\n")

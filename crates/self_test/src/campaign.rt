@@ -2,7 +2,7 @@
 ghost use Rattle.std.specs.Prelude.{◌≡◌, ◌⊎◌, ℕ, true, IfOk, IfErr};
 ghost use Rattle.std.specs.Io.KnownBytes.{Appends};
 ghost use Rattle.cube_model.specs.declared.fault.Fault.TheVariants.{Memory, Output};
-ghost use Rattle.self_test.specs.Printed.{sound_line};
+ghost use Rattle.self_test.specs.Printed.{crashes_line};
 
 use crate::crash::{Crash, WAYS};
 use crate::outcome::{Outcome, write_outcome};
@@ -38,7 +38,7 @@ pub fn test_crashes<R: Clock, W: Write>(
     // Yes is written with the number of crashes.
     ensures yes { IfOk result
         (λ sound. sound ≡ true
-        → (crashes : ℕ) × Appends (W.contents out.old) (W.contents out.new) (sound_line crashes)) }
+        → (crashes : ℕ) × Appends (W.contents out.old) (W.contents out.new) (crashes_line crashes)) }
     ensures only { IfErr result (λ fault. (fault ≡ Memory) ⊎ (fault ≡ Output)) }
 {
     let outcome = crashed(rt, alloc, seconds)?;

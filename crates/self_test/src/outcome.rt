@@ -3,7 +3,7 @@ ghost use Rattle.std.specs.Prelude.{◌≡◌, true, IfOk, IfErr};
 ghost use Rattle.std.specs.Io.KnownBytes.{Appends};
 ghost use Rattle.cube_model.specs.declared.fault.Fault.TheVariants.{Memory, Output};
 ghost use Rattle.ssb_reports.specs.Writing.{Writes};
-ghost use Rattle.self_test.specs.Printed.{sound_line};
+ghost use Rattle.self_test.specs.Printed.{crashes_line};
 
 use crate::crash::Crash;
 use crate::life::{Life, Reached, life_until};
@@ -87,7 +87,7 @@ fn left_on(alloc: Global, disk: MemDisk, reached: Reached, sample: &Sample) -> R
 /// Writes what became of the crashes, flushes it, and answers whether nothing was wrong.
 pub(crate) fn write_outcome<W: Write>(out: &mut W, outcome: &Outcome) -> Result<bool, Fault>
     ensures yes { IfOk result
-        (λ sound. sound ≡ true → Appends (W.contents out.old) (W.contents out.new) (sound_line outcome.now.crashes)) }
+        (λ sound. sound ≡ true → Appends (W.contents out.old) (W.contents out.new) (crashes_line outcome.now.crashes)) }
     ensures only { IfErr result (λ fault. fault ≡ Output) }
 {
     match &outcome.wrong {
@@ -104,14 +104,14 @@ pub(crate) fn write_outcome<W: Write>(out: &mut W, outcome: &Outcome) -> Result<
 
 // Writes that nothing was wrong after so many crashes, and flushes it.
 fn write_sound<W: Write>(out: &mut W, crashes: u64) -> Result<(), Fault>
-    ensures { Writes (W.contents out.old) (W.contents out.new) result (sound_line crashes) }
+    ensures { Writes (W.contents out.old) (W.contents out.new) result (crashes_line crashes) }
 {
     write_sound_line(out, crashes)?;
     flush(out)
 }
 
 fn write_sound_line<W: Write>(out: &mut W, crashes: u64) -> Result<(), Fault>
-    ensures { Writes (W.contents out.old) (W.contents out.new) result (sound_line crashes) }
+    ensures { Writes (W.contents out.old) (W.contents out.new) result (crashes_line crashes) }
 {
     write_bytes(out, b"ok: ")?;
     write_number(out, crashes)?;

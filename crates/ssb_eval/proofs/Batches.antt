@@ -17,7 +17,7 @@ use Rattle.cube_model.specs.Admission.{all_rows, moded_refusal}
 use Rattle.cube_model.specs.Limits.{most_batch_rows}
 use Rattle.batch_admission.specs.Accepted.{Accepted, HasAccepted}
 use Rattle.batch_admission.specs.Found.{Found, cause_of}
-use Rattle.dimension_tables.specs.Texts.{Gives}
+use Rattle.dimension_tables.specs.Texts.{GivesUnlessFailed}
 use Rattle.mode_folds.specs.Answered.{answered_over}
 use Rattle.mode_folds.specs.declared.answered.Answered.{Answered}
 use Rattle.mode_folds.specs.States.{ModeFoldState, RepresentsModeRows}
@@ -172,7 +172,7 @@ pub gives-unread : (asked : ModeQuery) (dimensions : DimRows) (text : List ℕ) 
     (number : ℕ) (left : Option (List ℕ)) (fault : Fault) (result : Result Answer Fault)
     → LeavesFacts dimensions text batches number left → (fault ≡ Memory)
     ⊎ ((fault ≡ Input) ⊎ IsFirstFault lineorder_row most_batch_rows number left fault) → (y : Fault) × (result ≡ Err y)
-    × (y ≡ fault) → Gives (moded_answer_of asked dimensions text) result
+    × (y ≡ fault) → GivesUnlessFailed (moded_answer_of asked dimensions text) result
 gives-unread asked dimensions text batches number None fault result before why stop = absurd before
 gives-unread asked dimensions text batches number (Some left) fault result before (inl memory) stop =
     rw (stop.1, stop.2) (inl memory)
@@ -190,7 +190,7 @@ pub gives-refused : (asked : ModeQuery) (dimensions : DimRows) (text : List ℕ)
     (result : Result Answer Fault) → LeavesFacts dimensions text batches number left
     → TakesRows lineorder_row most_batch_rows number left rest rows → 1 ≤ length rows → place ≡ length batches + 1
     → Some fault ≡ moded_refusal dimensions batches place rows → (y : Fault) × (result ≡ Err y) × (y ≡ fault)
-    → Gives (moded_answer_of asked dimensions text) result
+    → GivesUnlessFailed (moded_answer_of asked dimensions text) result
 gives-refused asked dimensions text batches number place None rest rows fault result before taken some next refused
     stop = absurd before
 gives-refused asked dimensions text batches number place (Some left) None rows fault result before taken some next
@@ -218,7 +218,8 @@ facts-done dimensions text batches number (Some left) (Some rest) before takes =
 
 pub folds-stopped : (asked : ModeQuery) (dimensions : DimRows) (text : List ℕ) (fold : ModeFoldState) (fault : Fault)
     (result : Result Unit Fault) → (y : Fault) × (result ≡ Err y) × (y ≡ fault)
-    → Gives (moded_answer_of asked dimensions text) (Err fault) → FoldsFacts asked dimensions text fold result
+    → GivesUnlessFailed (moded_answer_of asked dimensions text) (Err fault)
+    → FoldsFacts asked dimensions text fold result
 folds-stopped asked dimensions text fold fault result stop gives = rw (stop.1, stop.2) gives
 
 -- a fold gives the answer over the facts that it took
@@ -226,7 +227,7 @@ pub gives-answered : (asked : ModeQuery) (dimensions : DimRows) (text : List ℕ
     (result : Result Answered Fault) → fold.asked ≡ asked → FoldsFacts asked dimensions text fold (Ok tt)
     → IfOk result (λ found. (rows : List LineOrder) → RepresentsModeRows dimensions fold rows
     → answered_over dimensions found ≡ moded_answer fold.asked dimensions rows) → IfErr result (λ fault. fault ≡ Memory)
-    → Gives (moded_answer_of asked dimensions text) (answer_in dimensions result)
+    → GivesUnlessFailed (moded_answer_of asked dimensions text) (answer_in dimensions result)
 gives-answered asked dimensions text fold (Err fault) same folded answers only = inl only
 gives-answered asked dimensions text fold (Ok answered) same folded answers only =
     let found : answered_over dimensions answered ≡ moded_answer asked dimensions folded.0 =
@@ -236,6 +237,6 @@ gives-answered asked dimensions text fold (Ok answered) same folded answers only
 -- nothing was folded, and there is no answer
 pub gives-nothing : (asked : ModeQuery) (dimensions : DimRows) (text : List ℕ) (fault : Fault)
     (result : Result Answered Fault) → (y : Fault) × (result ≡ Err y) × (y ≡ fault)
-    → Gives (moded_answer_of asked dimensions text) (Err fault)
-    → Gives (moded_answer_of asked dimensions text) (answer_in dimensions result)
+    → GivesUnlessFailed (moded_answer_of asked dimensions text) (Err fault)
+    → GivesUnlessFailed (moded_answer_of asked dimensions text) (answer_in dimensions result)
 gives-nothing asked dimensions text fault result stop gives = rw (stop.1, stop.2) gives

@@ -7,7 +7,7 @@ use Rattle.cube_model.specs.declared.answer.Answer.{Answer}
 use Rattle.cube_model.specs.declared.fault.Fault.{Fault}
 use Rattle.cube_model.specs.declared.rows.DimRows.{DimRows}
 use Rattle.dimension_tables.specs.Tables.{IsUnread, KeepLines, KeepsLine}
-use Rattle.dimension_tables.specs.Texts.{Gives, Texts, dimensions_of}
+use Rattle.dimension_tables.specs.Texts.{GivesUnlessFailed, TableTexts, dimensions_of}
 use Rattle.ssb_eval.specs.declared.star.Evaluated.{Evaluated}
 use Rattle.ssb_eval.specs.declared.unknown.UnknownKey.{UnknownKey}
 use Rattle.ssb_eval.specs.Evaluation.{Evaluates}
@@ -54,10 +54,11 @@ keeps-refused new fault result is kept =
     record { dimensions = kept.dimensions; lineorder = kept.lineorder; broken = rw (is.1, is.2) kept.broken }
 
 -- the facts are refused
-pub evaluates-no_answer : (answered : DimRows → List ℕ → Result Answer Fault) (texts : Texts) (dimensions : DimRows)
+pub evaluates-no_answer : (answered : DimRows → List ℕ → Result Answer Fault) (texts : TableTexts)
+    (dimensions : DimRows)
     (fault : Fault) (result : Result Evaluated Fault)
     → (other : Fault) × (result ≡ Err other) × (other ≡ fault) → dimensions_of texts ≡ Ok dimensions
-    → Gives (answered dimensions texts.lineorder) (Err fault) → Evaluates answered texts result
+    → GivesUnlessFailed (answered dimensions texts.lineorder) (Err fault) → Evaluates answered texts result
 evaluates-no_answer answered texts dimensions fault result is dims gives =
     rw (is.1, is.2) (inr (dimensions, dims, gives))
 
@@ -70,7 +71,7 @@ pub no_key : (dimensions : DimRows) (old : Option UnknownKey) → old ≡ None �
 no_key dimensions old none = rw none tt
 
 -- a key that is kept is in no row of the dimensions of the texts
-pub keeps-unknown : (texts : Texts) (dimensions : DimRows) (unknown : Option UnknownKey)
+pub keeps-unknown : (texts : TableTexts) (dimensions : DimRows) (unknown : Option UnknownKey)
     → dimensions_of texts ≡ Ok dimensions → IfSome unknown (IsInNoRow dimensions)
     → IfSome unknown (λ one. (x : DimRows) × (dimensions_of texts ≡ Ok x) × IsInNoRow x one)
 keeps-unknown texts dimensions None is kept = tt

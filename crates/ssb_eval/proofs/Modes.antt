@@ -20,7 +20,7 @@ use Rattle.cube_model.specs.Limits.{most_members}
 use Rattle.cube_model.specs.ShipModes.{crowded_place, modes_cause, modes_in, reserved_place}
 use Rattle.cube_model.specs.Validity.{members_of}
 use Rattle.batch_admission.proofs.CallerLemmas.{all_rows-last}
-use Rattle.batch_admission.specs.ShipModes.{row_at}
+use Rattle.batch_admission.specs.ShipModes.{row_number_at}
 use Rattle.dictionary.specs.Dictionary.{Adds, Texts, code_of, firsts, with_text}
 use Rattle.dictionary.proofs.CallerLemmas.{absent, firsts-new, list_any-firsts, list_any_place, list_any_push}
 use Rattle.dictionary.proofs.CallerLemmas.{place_append, place_last}
@@ -66,7 +66,7 @@ module _ (p : List ℕ → Bool) (xs : List (List ℕ)) where
       ap (λ b. cond b (Some (position_or_len p (xs ++ x ∷ []))) None)
       (sym (list_any_place p (xs ++ x ∷ [])) ∙ list_any_push p xs x ∙ ap (λ b. b || p x) (position_none e) ∙ here)
 
-no_row : (place : Option ℕ) → None ≡ row_at place → place ≡ None
+no_row : (place : Option ℕ) → None ≡ row_number_at place → place ≡ None
 no_row None e = refl
 no_row (Some k) e = absurd cc
 
@@ -79,26 +79,26 @@ some_of_none None e is = true≢false (sym e)
 some_of_none (Some n) e is = absurd cc
 
 module _ (modes : List (List ℕ)) (mode : List ℕ) (first : Option ℕ)
-    (first_is : first ≡ row_at (reserved_place modes)) where
-  pub reserved_before : is_some first ≡ true → first ≡ row_at (reserved_place (modes ++ mode ∷ []))
+    (first_is : first ≡ row_number_at (reserved_place modes)) where
+  pub reserved_before : is_some first ≡ true → first ≡ row_number_at (reserved_place (modes ++ mode ∷ []))
   reserved_before some = by (reserved_place modes) refl first_is
     where
-      by : (place : Option ℕ) → reserved_place modes ≡ place → first ≡ row_at place
-          → first ≡ row_at (reserved_place (modes ++ mode ∷ []))
+      by : (place : Option ℕ) → reserved_place modes ≡ place → first ≡ row_number_at place
+          → first ≡ row_number_at (reserved_place (modes ++ mode ∷ []))
       by None is e = absurd (some_of_none first some e)
-      by (Some k) is e = e ∙ ap row_at (sym (kept_place (bytes_eq (codes "ALL")) modes mode k is))
+      by (Some k) is e = e ∙ ap row_number_at (sym (kept_place (bytes_eq (codes "ALL")) modes mode k is))
 
   pub reserved_here : (row : ℕ) → is_some first ≡ false → row ≡ length modes + 1 → bytes_eq (codes "ALL") mode ≡ true
-      → Some row ≡ row_at (reserved_place (modes ++ mode ∷ []))
+      → Some row ≡ row_number_at (reserved_place (modes ++ mode ∷ []))
   reserved_here row none row_is here =
       ap Some row_is
-      ∙ ap row_at (sym (last_place (bytes_eq (codes "ALL")) modes mode
+      ∙ ap row_number_at (sym (last_place (bytes_eq (codes "ALL")) modes mode
       (no_row (reserved_place modes) (sym (not_some first none) ∙ first_is)) here))
 
   pub reserved_nowhere : is_some first ≡ false → bytes_eq (codes "ALL") mode ≡ false
-      → None ≡ row_at (reserved_place (modes ++ mode ∷ []))
+      → None ≡ row_number_at (reserved_place (modes ++ mode ∷ []))
   reserved_nowhere none here =
-      ap row_at (sym (no_place (bytes_eq (codes "ALL")) modes mode
+      ap row_number_at (sym (no_place (bytes_eq (codes "ALL")) modes mode
       (no_row (reserved_place modes) (sym (not_some first none) ∙ first_is)) here))
 
 -- ---- the first row with which there are too many
@@ -222,7 +222,7 @@ full known more text adds = by (code_of known.texts text) refl adds
 -- ---- what was met, with one row more
 
 module _ (met next : Met) (earlier modes : List (List ℕ)) (mode : List ℕ) (has : HasMet met earlier modes)
-    (reserved : next.reserved ≡ row_at (reserved_place (modes ++ mode ∷ []))) where
+    (reserved : next.reserved ≡ row_number_at (reserved_place (modes ++ mode ∷ []))) where
   -- there were too many before
   pub HasMet-crowded : next.known ≡ met.known → next.crowded ≡ met.crowded → is_some met.crowded ≡ true
       → HasMet next earlier (modes ++ mode ∷ [])
@@ -234,10 +234,10 @@ module _ (met next : Met) (earlier modes : List (List ℕ)) (mode : List ℕ) (h
     crowded = still ∙ by (crowded_place earlier modes) refl has.crowded;
   }
     where
-      by : (place : Option ℕ) → crowded_place earlier modes ≡ place → met.crowded ≡ row_at place
-          → met.crowded ≡ row_at (crowded_place earlier (modes ++ mode ∷ []))
+      by : (place : Option ℕ) → crowded_place earlier modes ≡ place → met.crowded ≡ row_number_at place
+          → met.crowded ≡ row_number_at (crowded_place earlier (modes ++ mode ∷ []))
       by None is e = absurd (some_of_none met.crowded some e)
-      by (Some k) is e = e ∙ ap row_at (sym (crowded_before earlier modes mode k is))
+      by (Some k) is e = e ∙ ap row_number_at (sym (crowded_before earlier modes mode k is))
 
   not_yet : is_some met.crowded ≡ false → crowded_place earlier modes ≡ None
   not_yet none = no_row (crowded_place earlier modes) (sym (not_some met.crowded none) ∙ has.crowded)
@@ -256,7 +256,8 @@ module _ (met next : Met) (earlier modes : List (List ℕ)) (mode : List ℕ) (h
         known = λ clear. laws.0 ∙ ap firsts (append_assoc earlier modes (mode ∷ []));
         reserved = reserved;
         crowded = still ∙ not_some met.crowded none
-            ∙ ap row_at (sym (not_crowded earlier modes mode met.known next.known are (not_yet none) laws.0 few));
+            ∙ ap row_number_at
+            (sym (not_crowded earlier modes mode met.known next.known are (not_yet none) laws.0 few));
       }
 
   -- with it there are too many
@@ -271,13 +272,13 @@ module _ (met next : Met) (earlier modes : List (List ℕ)) (mode : List ℕ) (h
         known = λ clear. absurd (none_some row (sym clear ∙ now));
         reserved = reserved;
         crowded = now ∙ ap Some row_is
-            ∙ ap row_at (sym (crowded_here earlier modes mode met.known next.known are (not_yet none) no_room.0
+            ∙ ap row_number_at (sym (crowded_here earlier modes mode met.known next.known are (not_yet none) no_room.0
             (omega (arith, no_room.1, has.limit))));
       }
 
 -- ---- the cause, and the batch after it
 
-at_row : (f : ℕ → Fault) (place : Option ℕ) → option_map f (row_at place) ≡ option_map (λ k. f (k + 1)) place
+at_row : (f : ℕ → Fault) (place : Option ℕ) → option_map f (row_number_at place) ≡ option_map (λ k. f (k + 1)) place
 at_row f None = refl
 at_row f (Some k) = refl
 
@@ -286,10 +287,11 @@ pub cause_is : (met : Met) (earlier modes : List (List ℕ)) → HasMet met earl
 cause_is met earlier modes has =
     ap (λ (row : Option ℕ). first_cause (option_map (λ r. ReservedMember (InBatch r)) row
     ∷ option_map (λ r. TooManyMembers (InBatch r)) met.crowded ∷ [])) has.reserved
-    ∙ ap (λ (row : Option ℕ). first_cause (option_map (λ r. ReservedMember (InBatch r)) (row_at (reserved_place modes))
+    ∙ ap (λ (row : Option ℕ). first_cause
+    (option_map (λ r. ReservedMember (InBatch r)) (row_number_at (reserved_place modes))
     ∷ option_map (λ r. TooManyMembers (InBatch r)) row ∷ [])) has.crowded
     ∙ ap (λ (c : Option Fault). first_cause (c
-    ∷ option_map (λ r. TooManyMembers (InBatch r)) (row_at (crowded_place earlier modes)) ∷ []))
+    ∷ option_map (λ r. TooManyMembers (InBatch r)) (row_number_at (crowded_place earlier modes)) ∷ []))
     (at_row (λ r. ReservedMember (InBatch r)) (reserved_place modes))
     ∙ ap (λ (c : Option Fault). first_cause (option_map (λ k. ReservedMember (InBatch (k + 1))) (reserved_place modes)
     ∷ c ∷ [])) (at_row (λ r. TooManyMembers (InBatch r)) (crowded_place earlier modes))

@@ -12,11 +12,11 @@ use Rattle.cube_model.specs.declared.rows.LineOrder.{LineOrder}
 use Rattle.cube_model.specs.Admission.{moded_refusal}
 use Rattle.cube_model.specs.Limits.{most_batch_rows}
 use Rattle.batch_admission.specs.Accepted.{Accepted}
-use Rattle.dimension_tables.specs.Texts.{Gives}
+use Rattle.dimension_tables.specs.Texts.{GivesUnlessFailed}
 use Rattle.mode_folds.specs.States.{ModeFoldState}
 use Rattle.mode_queries.specs.declared.query.ModeQuery.{ModeQuery}
 use Rattle.ssb_eval.specs.Evaluation.{moded_answer_of}
-use Rattle.ssb_eval.specs.BatchLoop.{AreTaken, LeavesFacts, TakesNextBatch, IsNextBatch}
+use Rattle.ssb_eval.specs.BatchLoop.{AreTaken, LeavesFacts, TakesNextBatch, FoldsNextBatch}
 use Rattle.ssb_eval.specs.ShipModes.{Met}
 use Rattle.batch_admission.proofs.CallerLemmas.{passes}
 use Rattle.ssb_eval.proofs.Admitting.{plain}
@@ -85,7 +85,7 @@ pub gives-stopped : (asked : ModeQuery) (dimensions : DimRows) (text : List ℕ)
     → LeavesFacts dimensions text batches old.number old.left
     → TakesNextBatch dimensions own batches old new accepted met fold (Err fault)
     → (other : Fault) × (result ≡ Err other) × (other ≡ fault)
-    → Gives (moded_answer_of asked dimensions text) result
+    → GivesUnlessFailed (moded_answer_of asked dimensions text) result
 gives-stopped asked dimensions text batches old new accepted met fold own fault result before (inl memory) is =
     gives-unread asked dimensions text batches old.number old.left fault result before (inl memory) is
 gives-stopped asked dimensions text batches old new accepted met fold own fault result before (inr (inl input)) is =
@@ -101,7 +101,7 @@ gives-stopped asked dimensions text batches old new accepted met fold own fault 
 -- the number of accepted batches grows, and stays within its limit
 pub count_more : (dimensions : DimRows) (asked own : ModeQuery) (batches : List (List LineOrder)) (old new : Unread)
     (accepted next : Accepted) (met : Met) (fold more : ModeFoldState) (rows : List LineOrder)
-    → AreTaken dimensions asked accepted fold batches → IsNextBatch dimensions own batches old new next met more rows
+    → AreTaken dimensions asked accepted fold batches → FoldsNextBatch dimensions own batches old new next met more rows
     → 4097 - next.count < 4097 - accepted.count
 count_more dimensions asked own batches old new accepted next met fold more rows taken batch =
     let pass = passes dimensions batches (length batches + 1) rows

@@ -18,7 +18,7 @@ use Rattle.cube_query.specs.Limits.{AreFoldable}
 use Rattle.batch_admission.specs.Accepted.{Accepted, HasAccepted}
 use Rattle.batch_admission.specs.Found.{Found, cause_of, found_in}
 use Rattle.batch_admission.specs.Totals.{totals_of}
-use Rattle.dimension_tables.specs.Texts.{Gives}
+use Rattle.dimension_tables.specs.Texts.{GivesUnlessFailed}
 use Rattle.mode_folds.specs.States.{ModeFoldState, RepresentsModeRows}
 use Rattle.mode_queries.specs.declared.query.ModeQuery.{ModeQuery}
 use Rattle.ssb_eval.specs.Evaluation.{facts_of, facts_after, moded_answer_of}
@@ -71,7 +71,8 @@ LooksAtNext dimensions asked before old new met fold (Ok found) = (rows : List L
 LooksAtNext dimensions asked before old new met fold (Err fault) = RefusesBatch lineorder_row most_batch_rows old fault
 
 -- the next batch of a text, with a row or more, was read, accepted and folded
-pub record IsNextBatch (dimensions : DimRows) (asked : ModeQuery) (batches : List (List LineOrder)) (old new : Unread)
+pub record FoldsNextBatch (dimensions : DimRows) (asked : ModeQuery) (batches : List (List LineOrder))
+    (old new : Unread)
     (accepted : Accepted) (met : Met) (fold : ModeFoldState) (rows : List LineOrder) : Type 0 where
   pub some : 1 ≤ length rows
   pub read : TakesBatch lineorder_row most_batch_rows old new rows
@@ -91,7 +92,7 @@ pub record IsRefusedBatch (dimensions : DimRows) (batches : List (List LineOrder
 abbrev pub TakesNextBatch : DimRows → ModeQuery → List (List LineOrder) → Unread → Unread → Accepted → Met
     → ModeFoldState → Result Bool Fault → Type 0
 TakesNextBatch dimensions asked batches old new accepted met fold (Ok true) = (rows : List LineOrder)
-    × IsNextBatch dimensions asked batches old new accepted met fold rows
+    × FoldsNextBatch dimensions asked batches old new accepted met fold rows
 TakesNextBatch dimensions asked batches old new accepted met fold (Ok false) =
     TakesBatch lineorder_row most_batch_rows old new [] × AreTaken dimensions asked accepted fold batches
 TakesNextBatch dimensions asked batches old new accepted met fold (Err fault) =
@@ -101,7 +102,7 @@ TakesNextBatch dimensions asked batches old new accepted met fold (Err fault) =
     ⊎ ((rows : List LineOrder) × IsRefusedBatch dimensions batches old new fault rows)))
 
 -- a fold that took all fact rows that it was to take: it represents some that may be folded
-pub record IsDone (dimensions : DimRows) (asked : ModeQuery) (fold : ModeFoldState) : Type 0 where
+pub record TookAllRows (dimensions : DimRows) (asked : ModeQuery) (fold : ModeFoldState) : Type 0 where
   pub query_is : fold.asked ≡ asked
   pub rows : List LineOrder
   pub folded : RepresentsModeRows dimensions fold rows
@@ -111,4 +112,5 @@ pub record IsDone (dimensions : DimRows) (asked : ModeQuery) (fold : ModeFoldSta
 abbrev pub FoldsFacts : ModeQuery → DimRows → List ℕ → ModeFoldState → Result Unit Fault → Type 0
 FoldsFacts asked dimensions text fold (Ok done) = (rows : List LineOrder) × (facts_of dimensions text ≡ Ok rows)
     × RepresentsModeRows dimensions fold rows
-FoldsFacts asked dimensions text fold (Err fault) = Gives (moded_answer_of asked dimensions text) (Err fault)
+FoldsFacts asked dimensions text fold (Err fault) =
+    GivesUnlessFailed (moded_answer_of asked dimensions text) (Err fault)

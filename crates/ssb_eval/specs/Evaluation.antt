@@ -15,7 +15,7 @@ use Rattle.cube_model.specs.declared.rows.LineOrder.{LineOrder}
 use Rattle.cube_model.specs.Admission.{all_rows, moded_refusal}
 use Rattle.cube_model.specs.Limits.{most_batch_rows}
 use Rattle.cube_model.specs.Answers.{answer}
-use Rattle.dimension_tables.specs.Texts.{Gives, Texts, dimensions_of, table_rows}
+use Rattle.dimension_tables.specs.Texts.{GivesUnlessFailed, TableTexts, dimensions_of, table_rows}
 use Rattle.mode_folds.specs.Answered.{answered_over}
 use Rattle.mode_folds.specs.declared.answered.Answered.{Answered}
 use Rattle.mode_queries.specs.Answers.{moded_answer}
@@ -59,32 +59,32 @@ answer_in dimensions (Ok found) = Ok (answered_over dimensions found)
 answer_in dimensions (Err fault) = Err fault
 
 -- the bytes that a text of an answer has, which the dimensions and the text of the fact table give
-abbrev pub eval_as : (Answer → List ℕ) → (DimRows → List ℕ → Result Answer Fault) → Texts → Result (List ℕ) Fault
+abbrev pub eval_as : (Answer → List ℕ) → (DimRows → List ℕ → Result Answer Fault) → TableTexts → Result (List ℕ) Fault
 eval_as text answered texts =
     and_then (dimensions_of texts) (λ dimensions.
     and_then (answered dimensions texts.lineorder) (λ found.
     Ok (text found)))
 
 -- the bytes of the report
-abbrev pub eval_of : Query → Texts → Result (List ℕ) Fault
+abbrev pub eval_of : Query → TableTexts → Result (List ℕ) Fault
 eval_of query texts = eval_as (report_of query) (answer_of query) texts
 
 -- the bytes of a report in a layout
-abbrev pub formatted_of : Asked → Texts → Result (List ℕ) Fault
+abbrev pub formatted_of : Asked → TableTexts → Result (List ℕ) Fault
 formatted_of asked texts = eval_as (formatted asked) (moded_answer_of asked.query) texts
 
 -- the dimensions and an answer, which are those of texts, or the first refusal; or memory was refused, or a reader
 -- failed
-abbrev pub Evaluates : (DimRows → List ℕ → Result Answer Fault) → Texts → Result Evaluated Fault → Type 0
+abbrev pub Evaluates : (DimRows → List ℕ → Result Answer Fault) → TableTexts → Result Evaluated Fault → Type 0
 Evaluates answered texts (Ok found) = (dimensions_of texts ≡ Ok found.dims)
     × (answered found.dims texts.lineorder ≡ Ok (answered_over found.dims found.answered))
 Evaluates answered texts (Err fault) =
-    Gives (dimensions_of texts) (Err fault)
+    GivesUnlessFailed (dimensions_of texts) (Err fault)
     ⊎ ((dimensions : DimRows) × (dimensions_of texts ≡ Ok dimensions)
-    × Gives (answered dimensions texts.lineorder) (Err fault))
+    × GivesUnlessFailed (answered dimensions texts.lineorder) (Err fault))
 
 -- readers have the bytes of texts left
-pub record HaveTexts (customer supplier part date lineorder : Option (List ℕ)) (texts : Texts) : Type 0 where
+pub record ReadersHave (customer supplier part date lineorder : Option (List ℕ)) (texts : TableTexts) : Type 0 where
   pub customer_left : customer ≡ Some texts.customer
   pub supplier_left : supplier ≡ Some texts.supplier
   pub part_left : part ≡ Some texts.part
@@ -93,8 +93,9 @@ pub record HaveTexts (customer supplier part date lineorder : Option (List ℕ))
 
 -- The end of an evaluation: the report was written. Or the writer failed, after a beginning of the report. Or nothing
 -- was written: when out of memory, since a reader failed, or since that is the first refusal
-abbrev pub Reports : {A : Type 0} → Option (List ℕ) → Option (List ℕ) → Result (List ℕ) Fault → Result A Fault → Type 0
-Reports old new outcome (Ok done) = (bytes : List ℕ) × (outcome ≡ Ok bytes) × Appends old new bytes
-Reports old new outcome (Err fault) =
+abbrev pub EndsEvaluation : {A : Type 0} → Option (List ℕ) → Option (List ℕ) → Result (List ℕ) Fault → Result A Fault
+    → Type 0
+EndsEvaluation old new outcome (Ok done) = (bytes : List ℕ) × (outcome ≡ Ok bytes) × Appends old new bytes
+EndsEvaluation old new outcome (Err fault) =
     ((fault ≡ Output) × ((bytes : List ℕ) × (outcome ≡ Ok bytes) × AppendsBeginning old new bytes))
     ⊎ (Keeps old new × ((fault ≡ Memory) ⊎ ((fault ≡ Input) ⊎ (outcome ≡ Err fault))))

@@ -2,7 +2,7 @@
 use Rattle.std.specs.Prelude.{◌≡◌, ℕ, ◌≤◌, Option, None, List, [], ◌∷◌, ◌++◌, length}
 use Rattle.std.specs.Option.{option_map}
 use Rattle.batch_admission.specs.Found.{Found}
-use Rattle.batch_admission.specs.ShipModes.{row_at}
+use Rattle.batch_admission.specs.ShipModes.{row_number_at}
 use Rattle.cube_model.specs.declared.fault.Fault.{Fault}
 use Rattle.cube_model.specs.declared.fault.Fault.TheVariants.{ReservedMember, TooManyMembers}
 use Rattle.cube_model.specs.declared.fault.MemberPlace.TheVariants.{InBatch}
@@ -24,8 +24,8 @@ pub record HasMet (met : Met) (earlier modes : List (List ℕ)) : Type 0 where
   pub limit : met.known.limit ≡ most_members
   pub few : length met.known.texts ≤ most_members
   pub known : met.crowded ≡ None → met.known.texts ≡ firsts (earlier ++ modes)
-  pub reserved : met.reserved ≡ row_at (reserved_place modes)
-  pub crowded : met.crowded ≡ row_at (crowded_place earlier modes)
+  pub reserved : met.reserved ≡ row_number_at (reserved_place modes)
+  pub crowded : met.crowded ≡ row_number_at (crowded_place earlier modes)
 
 -- the first cause to refuse the batch under way for its ship modes
 abbrev pub cause_met : Met → Option Fault

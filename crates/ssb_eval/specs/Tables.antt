@@ -14,7 +14,7 @@ use Rattle.batch_admission.specs.Found.{lacks}
 use Rattle.batch_loader.specs.Tables.{lineorder_row}
 use Rattle.batch_loader.specs.Unread.{Unread}
 use Rattle.dimension_tables.specs.Tables.{AreFresh, AreUnread, DimensionLines, IsUnread, KeepLines, KeepsLine}
-use Rattle.dimension_tables.specs.Texts.{Texts, dimensions_of}
+use Rattle.dimension_tables.specs.Texts.{TableTexts, dimensions_of}
 use Rattle.ssb_eval.specs.declared.unknown.UnknownKey.{UnknownKey}
 
 -- what is known of the five tables, and what is kept of a refusal: the dimension rows that break a rule, and a key of
@@ -26,7 +26,7 @@ pub record StarLines : Type 0 where
   pub unknown : Option UnknownKey
 
 -- none of the lines of the five texts was taken yet, and nothing is kept
-pub record IsUnreadStar (lines : StarLines) (texts : Texts) : Type 0 where
+pub record IsUnreadStar (lines : StarLines) (texts : TableTexts) : Type 0 where
   pub dimensions : AreUnread lines.dimensions texts
   pub lineorder : IsUnread lines.lineorder texts.lineorder
   pub broken : lines.broken ≡ None
@@ -74,7 +74,7 @@ pub record KeepsCause {A : Type 0} (new : StarLines) (result : Result A Fault) :
   pub broken : IfErr result (KeepsBroken new.broken)
 
 -- and of the fact table a key that is in no row of its dimension
-abbrev pub KeepsUnknown : Texts → StarLines → Type 0
+abbrev pub KeepsUnknown : TableTexts → StarLines → Type 0
 KeepsUnknown texts new =
     IfSome new.unknown (λ unknown. (dimensions : DimRows) × (dimensions_of texts ≡ Ok dimensions)
     × IsInNoRow dimensions unknown)

@@ -2,8 +2,8 @@
 ghost use Rattle.std.specs.Prelude.{◌≡◌, Err};
 ghost use Rattle.std.specs.Io.KnownBytes.{Keeps};
 ghost use Rattle.cube_model.specs.Proper.{IsProper};
-ghost use Rattle.dimension_tables.specs.Texts.{Texts};
-ghost use Rattle.ssb_eval.specs.Evaluation.{HaveTexts, Reports, eval_of};
+ghost use Rattle.dimension_tables.specs.Texts.{TableTexts};
+ghost use Rattle.ssb_eval.specs.Evaluation.{ReadersHave, EndsEvaluation, eval_of};
 
 use crate::star::Tables;
 use cube_model::{Fault, Query};
@@ -35,10 +35,10 @@ pub fn eval_texts<
     out: &mut W,
 ) -> Result<(), Fault>
     // Of a proper query the outcome is that of the texts.
-    ensures proper { IsProper query.now → (texts : Texts)
-        → HaveTexts (C.remaining customer) (S.remaining supplier) (P.remaining part) (D.remaining date)
+    ensures proper { IsProper query.now → (texts : TableTexts)
+        → ReadersHave (C.remaining customer) (S.remaining supplier) (P.remaining part) (D.remaining date)
         (L.remaining lineorder) texts
-        → Reports (W.contents out.old) (W.contents out.new) (eval_of query.now texts) result }
+        → EndsEvaluation (W.contents out.old) (W.contents out.new) (eval_of query.now texts) result }
 
     // Any other query is refused before a text is read.
     ensures improper { (IsProper query.now → ⊥) → (result ≡ Err Fault.BadQuery)

@@ -10,13 +10,13 @@ ghost use Rattle.cube_model.specs.Admission.{all_rows, moded_refusal};
 ghost use Rattle.cube_model.specs.Limits.{most_batch_rows};
 ghost use Rattle.cube_model.specs.ShipModes.{modes_in};
 ghost use Rattle.dimension_tables.specs.Tables.{IsUnread, KeepsLine};
-ghost use Rattle.dimension_tables.specs.Texts.{Gives};
+ghost use Rattle.dimension_tables.specs.Texts.{GivesUnlessFailed};
 ghost use Rattle.mode_folds.specs.Answered.{IsAnsweredOver};
 ghost use Rattle.mode_folds.specs.States.{BeginsByModes, CanTakeByModes, TakesByModes};
 ghost use Rattle.mode_queries.specs.Proper.{IsProperByModes};
 ghost use Rattle.mode_queries.specs.References.{asked_by};
 ghost use Rattle.ssb_eval.specs.Evaluation.{answer_in, moded_answer_of};
-ghost use Rattle.ssb_eval.specs.BatchLoop.{AreTaken, CanGoOn, FoldsFacts, IsDone, LooksAtNext, TakesNextBatch};
+ghost use Rattle.ssb_eval.specs.BatchLoop.{AreTaken, CanGoOn, FoldsFacts, TookAllRows, LooksAtNext, TakesNextBatch};
 ghost use Rattle.ssb_eval.specs.ShipModes.{HasMet, HasMetRows};
 ghost use Rattle.ssb_eval.specs.Tables.{IsInNoRow};
 
@@ -51,7 +51,7 @@ pub fn group_facts<R: Read>(
     requires proper { IsProperByModes (asked_by asked) }
     ensures over { IfOk result (IsAnsweredOver dims.now) }
     ensures answer { (text : List ℕ) → IsUnread lines.old text
-        → Gives (moded_answer_of (asked_by asked.entry) dims.now text) (answer_in dims.now result) }
+        → GivesUnlessFailed (moded_answer_of (asked_by asked.entry) dims.now text) (answer_in dims.now result) }
     ensures unknown { IfSome unknown.old (IsInNoRow dims.now) → IfSome unknown.new (IsInNoRow dims.now) }
     ensures line { lines.old.fault ≡ None → KeepsLine lineorder_row lines.new }
 {
@@ -73,7 +73,7 @@ fn fold_lines<R: Read>(
 ) -> Result<(), Fault>
     requires begins { BeginsByModes dims.now fold.old.asked fold.old }
     requires fault { lines.old.fault ≡ None }
-    ensures folded { OnOk result (IsDone dims.now fold.old.asked fold.new) }
+    ensures folded { OnOk result (TookAllRows dims.now fold.old.asked fold.new) }
     ensures facts { (text : List ℕ) → IsUnread lines.old text
         → FoldsFacts fold.old.asked dims.now text fold.new result }
     ensures unknown { IfSome unknown.old (IsInNoRow dims.now) → IfSome unknown.new (IsInNoRow dims.now) }

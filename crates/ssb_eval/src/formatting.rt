@@ -1,9 +1,9 @@
 //! A query over the texts of the five tables, with its report in a layout.
 ghost use Rattle.std.specs.Prelude.{◌≡◌, Ok, Err, IfOk};
 ghost use Rattle.std.specs.Io.KnownBytes.{Keeps};
-ghost use Rattle.dimension_tables.specs.Texts.{Texts, dimensions_of};
+ghost use Rattle.dimension_tables.specs.Texts.{TableTexts, dimensions_of};
 ghost use Rattle.mode_queries.specs.Proper.{IsProperByModes};
-ghost use Rattle.ssb_eval.specs.Evaluation.{Reports, formatted_of};
+ghost use Rattle.ssb_eval.specs.Evaluation.{EndsEvaluation, formatted_of};
 ghost use Rattle.ssb_eval.specs.Tables.{IsFresh, IsUnreadStar, KeepsCause, KeepsUnknown};
 
 use crate::star::Tables;
@@ -33,11 +33,11 @@ pub fn eval_formatted<
     out: &mut W,
 ) -> Result<Dims, Fault>
     // Of a proper query the outcome is that of the texts.
-    ensures proper { IsProperByModes asked.now.query → (texts : Texts) → IsUnreadStar tables.old texts
-        → Reports (W.contents out.old) (W.contents out.new) (formatted_of asked.now texts) result }
+    ensures proper { IsProperByModes asked.now.query → (texts : TableTexts) → IsUnreadStar tables.old texts
+        → EndsEvaluation (W.contents out.old) (W.contents out.new) (formatted_of asked.now texts) result }
 
     // The dimensions are those of the texts.
-    ensures dims { (texts : Texts) → IsUnreadStar tables.old texts
+    ensures dims { (texts : TableTexts) → IsUnreadStar tables.old texts
         → IfOk result (λ dims. dimensions_of texts ≡ Ok dims) }
 
     // Any other query is refused before a text is read.
@@ -46,7 +46,7 @@ pub fn eval_formatted<
 
     // After a refusal the tables have what was refused.
     ensures cause { IsFresh tables.old → KeepsCause tables.new result }
-    ensures unknown { (texts : Texts) → IsUnreadStar tables.old texts → KeepsUnknown texts tables.new }
+    ensures unknown { (texts : TableTexts) → IsUnreadStar tables.old texts → KeepsUnknown texts tables.new }
 {
     asked.query.check()?;
     let found = tables.evaluate(alloc, QueryRef::ByModes(&asked.query))?;

@@ -2,7 +2,7 @@
 ghost use Rattle.std.specs.Prelude.{◌≡◌, ◌+◌, ◌≤◌, ◌++◌, ◌∷◌, [], ℕ, List, length, IfErr, OnOk};
 ghost use Rattle.cube_model.specs.Limits.{most_batch_rows};
 ghost use Rattle.cube_model.specs.ShipModes.{modes_in, reserved_place};
-ghost use Rattle.batch_admission.specs.ShipModes.{row_at};
+ghost use Rattle.batch_admission.specs.ShipModes.{row_number_at};
 ghost use Rattle.ssb_eval.specs.ShipModes.{HasMet, cause_met};
 
 use cube_model::limits::MOST_MEMBERS;
@@ -105,8 +105,8 @@ impl ShipModes {
 
 // The first row whose ship mode is `ALL`, with that of the next row.
 fn first_reserved(first: Option<u32>, row: u32, mode: &[u8]) -> Option<u32>
-    ensures { (modes : List (List ℕ)) → row ≡ length modes + 1 → first ≡ row_at (reserved_place modes)
-        → result ≡ row_at (reserved_place (modes ++ mode.now ∷ [])) }
+    ensures { (modes : List (List ℕ)) → row ≡ length modes + 1 → first ≡ row_number_at (reserved_place modes)
+        → result ≡ row_number_at (reserved_place (modes ++ mode.now ∷ [])) }
 {
     if first.is_some() {
         return first;

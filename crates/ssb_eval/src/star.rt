@@ -1,11 +1,11 @@
 //! The five tables while a query is answered over them. After a refusal they have what was refused.
 ghost use Rattle.std.specs.Prelude.{◌≡◌, None, Some, IfErr, IfNone, IfOk, IfSome, OnOk};
 ghost use Rattle.dimension_tables.specs.Tables.{AreFresh, AreUnread, IsRefusedFor, KeepLines};
-ghost use Rattle.dimension_tables.specs.Texts.{Gives, Texts, dimensions_of};
+ghost use Rattle.dimension_tables.specs.Texts.{GivesUnlessFailed, TableTexts, dimensions_of};
 ghost use Rattle.mode_folds.specs.Answered.{IsAnsweredOver};
 ghost use Rattle.mode_queries.specs.Proper.{IsProperByModes};
 ghost use Rattle.mode_queries.specs.References.{asked_by};
-ghost use Rattle.ssb_eval.specs.Evaluation.{Evaluates, HaveTexts, moded_answer_of};
+ghost use Rattle.ssb_eval.specs.Evaluation.{Evaluates, ReadersHave, moded_answer_of};
 ghost use Rattle.ssb_eval.specs.Tables.{IsFresh, IsUnreadStar, KeepsBroken, KeepsCause, KeepsUnknown};
 
 use crate::facts::group_facts;
@@ -66,8 +66,8 @@ impl<C: Read + Drop, S: Read + Drop, P: Read + Drop, D: Read + Drop, L: Read + D
         date: D,
         lineorder: L,
     ) -> Result<Self, Fault>
-        ensures unread { IfOk result (λ tables. (texts : Texts)
-            → HaveTexts (C.remaining customer) (S.remaining supplier) (P.remaining part) (D.remaining date)
+        ensures unread { IfOk result (λ tables. (texts : TableTexts)
+            → ReadersHave (C.remaining customer) (S.remaining supplier) (P.remaining part) (D.remaining date)
             (L.remaining lineorder) texts
             → IsUnreadStar tables texts) }
         ensures fresh { IfOk result IsFresh }
@@ -90,11 +90,11 @@ impl<C: Read + Drop, S: Read + Drop, P: Read + Drop, D: Read + Drop, L: Read + D
     ) -> Result<Evaluated, Fault>
         requires proper { IsProperByModes (asked_by asked) }
         ensures over { IfOk result (λ found. IsAnsweredOver found.dims found.answered) }
-        ensures evaluates { (texts : Texts) → IsUnreadStar self.old texts
+        ensures evaluates { (texts : TableTexts) → IsUnreadStar self.old texts
             → Evaluates (moded_answer_of (asked_by asked.entry)) texts result }
         ensures cause { IsFresh self.old → KeepsCause self.new result }
         ensures whole { IsFresh self.old → OnOk result (self.new.broken ≡ None) }
-        ensures unknown { (texts : Texts) → IsUnreadStar self.old texts → KeepsUnknown texts self.new }
+        ensures unknown { (texts : TableTexts) → IsUnreadStar self.old texts → KeepsUnknown texts self.new }
     {
         let dims = self.read_dims(alloc)?;
         let Tables {
@@ -108,7 +108,8 @@ impl<C: Read + Drop, S: Read + Drop, P: Read + Drop, D: Read + Drop, L: Read + D
 
     // Reads the four tables of the dimensions, and then checks their rows. Those that break a rule are kept.
     fn read_dims(&mut self, alloc: Global) -> Result<Dims, Fault>
-        ensures dims { (texts : Texts) → AreUnread self.old.dimensions texts → Gives (dimensions_of texts) result }
+        ensures dims { (texts : TableTexts) → AreUnread self.old.dimensions texts
+            → GivesUnlessFailed (dimensions_of texts) result }
         ensures lines { IsFresh self.old → KeepLines self.new.dimensions }
         ensures rest { (self.new.lineorder ≡ self.old.lineorder) × (self.new.unknown ≡ self.old.unknown) }
         ensures broken { self.old.broken ≡ None → IfErr result (KeepsBroken self.new.broken) }

@@ -18,20 +18,20 @@ use Rattle.ssb_reports.specs.declared.number.QNumber.TheVariants.{Q11, Q12, Q13,
 use Rattle.ssb_reports.specs.declared.number.QNumber.TheVariants.{Q42, Q43}
 
 -- the number of a query, as words and the benchmark name it
-abbrev pub number_text : QNumber → List ℕ
-number_text Q11 = codes "1.1"
-number_text Q12 = codes "1.2"
-number_text Q13 = codes "1.3"
-number_text Q21 = codes "2.1"
-number_text Q22 = codes "2.2"
-number_text Q23 = codes "2.3"
-number_text Q31 = codes "3.1"
-number_text Q32 = codes "3.2"
-number_text Q33 = codes "3.3"
-number_text Q34 = codes "3.4"
-number_text Q41 = codes "4.1"
-number_text Q42 = codes "4.2"
-number_text Q43 = codes "4.3"
+abbrev pub query_number_text : QNumber → List ℕ
+query_number_text Q11 = codes "1.1"
+query_number_text Q12 = codes "1.2"
+query_number_text Q13 = codes "1.3"
+query_number_text Q21 = codes "2.1"
+query_number_text Q22 = codes "2.2"
+query_number_text Q23 = codes "2.3"
+query_number_text Q31 = codes "3.1"
+query_number_text Q32 = codes "3.2"
+query_number_text Q33 = codes "3.3"
+query_number_text Q34 = codes "3.4"
+query_number_text Q41 = codes "4.1"
+query_number_text Q42 = codes "4.2"
+query_number_text Q43 = codes "4.3"
 
 -- an attribute is a text
 abbrev pub is : Attr → List ℕ → Cond

@@ -1,6 +1,6 @@
 //! The numbers of the benchmark's queries.
 ghost use Rattle.std.specs.Prelude.{◌≡◌};
-ghost use Rattle.ssb_reports.specs.Benchmark.{number_text};
+ghost use Rattle.ssb_reports.specs.Benchmark.{query_number_text};
 
 /// A query of the benchmark: its flight, and its place there.
 #[derive(Clone, Copy, Debug, PartialEq, Eq)]
@@ -40,7 +40,7 @@ impl QNumber {
 
     /// The number as it is written, such as `2.1`.
     pub fn name(self) -> &'static str
-        ensures { result.now ≡ number_text self }
+        ensures { result.now ≡ query_number_text self }
     {
         match self {
             QNumber::Q11 => "1.1",

@@ -9,12 +9,12 @@ use Rattle.cube_model.specs.declared.rows.DimRows.{DimRows}
 use Rattle.cube_model.specs.declared.rows.LineOrder.{LineOrder}
 use Rattle.object_store.specs.Content.{Content}
 use Rattle.lattice.specs.Views.{index_of}
-use Rattle.cuboid_cells.specs.Cells.{AreProper, PlainCells}
+use Rattle.cuboid_cells.specs.Cells.{AreProperCells, PlainCells}
 use Rattle.cuboid_upkeep.specs.Grouping.{RepresentRows}
 use Rattle.cuboid_upkeep.specs.Lawful.{CellsAreTheOne}
 use Rattle.cuboid_upkeep.specs.Steps.{HaveTooMany}
 use Rattle.warehouse_root.specs.declared.cuboid.StoredCuboid.{StoredCuboid}
-use Rattle.warehouse_root.specs.Layouts.{views_of}
+use Rattle.warehouse_root.specs.Layouts.{view_count}
 use Rattle.warehouse_objects.proofs.CallerLemmas.{own_view, view_within}
 use Rattle.warehouse_objects.specs.Represents.{IsLaidOut, said_of}
 use Rattle.warehouse_objects.specs.Warehouse.{Cuboid, Warehouse, cuboid_at, ship_modes_of}
@@ -35,7 +35,7 @@ module _ (law : CellsAreTheOne) (rows : DimRows) (modes : List (List ℕ)) (fact
   )
 
 pub not_too_many : CellsAreTheOne
-    → (rows : DimRows) (modes : List (List ℕ)) (facts : List LineOrder) (cells : PlainCells) → AreProper cells
+    → (rows : DimRows) (modes : List (List ℕ)) (facts : List LineOrder) (cells : PlainCells) → AreProperCells cells
     → HaveTooMany rows modes cells.view facts → RepresentRows rows modes facts cells → ⊥
 not_too_many law rows modes facts cells proper large represent =
     let same = law rows modes facts (cells_of cells.view large.cells) cells refl large.represent represent in
@@ -64,7 +64,7 @@ sound_by w stored mark cells ends merge = (
 -- cells of the view of a stored cuboid are of a view of the layout
 pub stored_within : (c : Content) (w : Warehouse) (view : ℕ) (stored : Cuboid) (cells : PlainCells) → IsLaidOut c w
     → cuboid_at view w.cuboids ≡ Some stored → index_of cells.view ≡ index_of stored.view
-    → index_of cells.view < views_of w.layout
+    → index_of cells.view < view_count w.layout
 stored_within c w view stored cells laid found same = omega (arith, same, view_within c w laid view stored found)
 
 -- ---- the cuboids of a root

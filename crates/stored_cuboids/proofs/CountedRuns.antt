@@ -24,7 +24,7 @@ use Rattle.warehouse_objects.proofs.CallerLemmas.{foldable, laid_of}
 use Rattle.warehouse_objects.specs.Represents.{AreItsMembers, Follow, HoldsGroupings, IsLaidOut, Represents, rows_in}
 use Rattle.warehouse_objects.specs.Warehouse.{Cuboid, StoredRun, Warehouse, cuboid_at, ship_modes_of}
 use Rattle.stored_cuboids.specs.Counted.{AreCounted, CountsRun}
-use Rattle.stored_cuboids.specs.Steps.{AreRead, GoesOn, HasRun, IsNextRun}
+use Rattle.stored_cuboids.specs.Steps.{AreRead, GoesOn, ObjectIsRun, IsNextRun}
 use Rattle.stored_cuboids.specs.declared.reading.Progress.{Progress}
 use Rattle.stored_cuboids.proofs.Represented.{follow_up, rows_after}
 use Rattle.stored_cuboids.proofs.StoredRuns.{IsAt, begins, has_run, is_at, is_proper, read_more, read_to}
@@ -139,12 +139,12 @@ module _ (content now : Content) (same : now ≡ content) (id : ℕ) (view : Vie
   text_is = ap (λ (c : Content). bytes_of c run.id) same ∙ ap (bytes_of content) own
 
   -- the cells that are left are those of the run
-  all_left : (span : Span) (cells : PlainCells) → HasRun content id span cells
+  all_left : (span : Span) (cells : PlainCells) → ObjectIsRun content id span cells
       → AreLeft (bytes_of now run.id) run cells.cells
   all_left span cells is = subst (λ (text : Option (List ℕ)). AreLeft text run cells.cells) (sym text_is)
       (first span cells is).1
 
-  in_view : (span : Span) (cells : PlainCells) → HasRun content id span cells → (dims : DimRows)
+  in_view : (span : Span) (cells : PlainCells) → ObjectIsRun content id span cells → (dims : DimRows)
       (modes : List (List ℕ)) (rows : List LineOrder) → RepresentRows dims modes rows cells
       → RepresentRows dims modes rows (cells_of run.head.view cells.cells)
   in_view span cells is dims modes rows represent =

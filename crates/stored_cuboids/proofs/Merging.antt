@@ -6,12 +6,12 @@ use Rattle.std.proofs.lemmas.List.Sums.{sum_by-take-le, sum_by_push}
 use Rattle.cube_model.specs.declared.fault.Fault.{Fault}
 use Rattle.cube_model.specs.declared.fault.Fault.TheVariants.{Memory}
 use Rattle.cuboid_cells.specs.declared.cell.Cell.{Cell}
-use Rattle.cuboid_cells.specs.Cells.{AreProper, CellFits, PlainCells, cell_at, number_of}
+use Rattle.cuboid_cells.specs.Cells.{AreProperCells, CellFits, PlainCells, cell_at, key_as_number}
 use Rattle.cuboid_cells.specs.Merges.{IsMergeFault, IsMergeOf, PassesType, merged, merged_if_any}
 use Rattle.cuboid_cells.specs.Steps.{cells_of}
 use Rattle.cuboid_upkeep.proofs.CallerLemmas.{ascending_apart, one_list, only_one}
 use Rattle.warehouse_objects.specs.Represents.{Follow}
-use Rattle.warehouse_objects.specs.Warehouse.{StoredRun, cells_in}
+use Rattle.warehouse_objects.specs.Warehouse.{StoredRun, cell_count}
 use Rattle.warehouse_objects.proofs.Batches.{take_next}
 use Rattle.stored_cuboids.specs.Merged.{AreMergedWith}
 
@@ -30,19 +30,21 @@ at_key : (P : Cell → Type 0) (number : ℕ) (cells : List Cell) (found : Cell)
     → All P cells → P found
 at_key P number [] found is all = absurd cc
 at_key P number (cell ∷ cells) found is all =
-    (elim (number_of cell.key == number) as (λ t. cond t (Some cell) (cell_at number cells) ≡ Some found → P found) [
+    (elim (key_as_number cell.key == number) as
+    (λ t. cond t (Some cell) (cell_at number cells) ≡ Some found → P found) [
       | true ↦ λ here. (let same : cell ≡ found = cc in subst P same (All-head P cell cells all))
       | false ↦ λ there. at_key P number cells found there (All-tail P cell cells all)
     ]) is
 
 -- cells that are not merged have no merge that keeps the rules
-pub no_merge : (one other : PlainCells) (fault : Fault) → AreProper one → AreProper other → IsMergeFault one other fault
-    → (fault ≡ Memory → ⊥) → (new : PlainCells) → IsMergeOf one other new → AreProper new → ⊥
+pub no_merge : (one other : PlainCells) (fault : Fault) → AreProperCells one → AreProperCells other
+    → IsMergeFault one other fault
+    → (fault ≡ Memory → ⊥) → (new : PlainCells) → IsMergeOf one other new → AreProperCells new → ⊥
 no_merge one other fault proper also cause other_fault new merge rules = by cause
   where
     passes : PassesType one.cells other.cells → ⊥
     passes p =
-        let number : ℕ = number_of p.left.key in
+        let number : ℕ = key_as_number p.left.key in
         let left : cell_at number one.cells ≡ Some p.left =
         only_one one.cells p.left (ascending_apart one.cells proper.rules.ascending) p.in_one in
         let right : cell_at number other.cells ≡ Some p.right =
@@ -80,7 +82,7 @@ merged_view cells (run ∷ runs) new is = merged_view is.0 runs new is.3 ∙ is.
 -- one run more
 pub merged_more : (cells : PlainCells) (runs : List StoredRun) (r : ℕ) (run : StoredRun) (mid new : PlainCells)
     → slice_get runs r ≡ Some run
-    → AreMergedWith cells (take r runs) mid → IsMergeOf mid (cells_of mid.view run.cells) new → AreProper new
+    → AreMergedWith cells (take r runs) mid → IsMergeOf mid (cells_of mid.view run.cells) new → AreProperCells new
     → AreMergedWith cells (take (suc r) runs) new
 merged_more cells [] r run mid new here so_far merge proper = absurd cc
 merged_more cells (first ∷ runs) zero run mid new here so_far merge proper =
@@ -98,7 +100,7 @@ merged_more cells (first ∷ runs) (suc r) run mid new here so_far merge proper 
 pub merged_next : (cells : PlainCells) (runs : List StoredRun) (r : ℕ) (run : StoredRun) (mid whole : PlainCells)
     → slice_get runs r ≡ Some run
     → AreMergedWith cells (take r runs) mid → AreMergedWith cells runs whole → (next : PlainCells)
-    × IsMergeOf mid (cells_of mid.view run.cells) next × AreProper next
+    × IsMergeOf mid (cells_of mid.view run.cells) next × AreProperCells next
 merged_next cells [] r run mid whole here so_far all = absurd cc
 merged_next cells (first ∷ runs) zero run mid whole here so_far all =
     let same : first ≡ run = cc in (
@@ -139,9 +141,9 @@ follow_more from (first ∷ runs) (suc r) run end here so_far begins =
 -- ---- how many cells
 
 pub cells_more : (runs : List StoredRun) (r : ℕ) (run : StoredRun) → slice_get runs r ≡ Some run
-    → cells_in (take (suc r) runs) ≡ cells_in (take r runs) + length run.cells
+    → cell_count (take (suc r) runs) ≡ cell_count (take r runs) + length run.cells
 cells_more runs r run here =
-    ap cells_in (take_next runs r run here) ∙ sum_by_push (λ (x : StoredRun). length x.cells) (take r runs) run
+    ap cell_count (take_next runs r run here) ∙ sum_by_push (λ (x : StoredRun). length x.cells) (take r runs) run
 
-pub cells_least : (runs : List StoredRun) (r : ℕ) → cells_in (take r runs) ≤ cells_in runs
+pub cells_least : (runs : List StoredRun) (r : ℕ) → cell_count (take r runs) ≤ cell_count runs
 cells_least runs r = sum_by-take-le (λ (x : StoredRun). length x.cells) runs r

@@ -14,19 +14,19 @@ use Rattle.cube_model.specs.declared.rows.LineOrder.{LineOrder}
 use Rattle.object_store.specs.Content.{Content}
 use Rattle.lattice.specs.declared.view.View.{View}
 use Rattle.cuboid_cells.specs.declared.cell.Cell.{Cell}
-use Rattle.cuboid_cells.specs.Cells.{AreAscending, AreProper, CellFits, IsCellOf, KeyFits, PlainCells, cell_at}
-use Rattle.cuboid_cells.specs.Cells.{number_of}
+use Rattle.cuboid_cells.specs.Cells.{AreAscending, AreProperCells, CellFits, IsCellOf, KeyFits, PlainCells, cell_at}
+use Rattle.cuboid_cells.specs.Cells.{key_as_number}
 use Rattle.cuboid_cells.specs.Limits.{most_cells}
 use Rattle.cuboid_cells.specs.Merges.{IsMergeOf, merged, merged_if_any}
 use Rattle.cuboid_cells.specs.Spelled.{IsSpan}
 use Rattle.cuboid_cells.specs.Steps.{cells_of}
-use Rattle.cuboid_upkeep.specs.Grouping.{NumbersFit, RepresentRows, key_of, rows_of}
+use Rattle.cuboid_upkeep.specs.Grouping.{NumbersFit, RepresentRows, key_of, rows_of_number}
 use Rattle.cuboid_upkeep.specs.Lawful.{MergesRepresentBoth}
 use Rattle.cuboid_upkeep.proofs.CallerLemmas.{Climbs, ascending_apart, ascends, at_insert, cell_fits, climbs_insert}
 use Rattle.cuboid_upkeep.proofs.CallerLemmas.{insert, inserted, none_after, only_one, part_small, tail_ascends}
 use Rattle.warehouse_root.specs.declared.cuboid.StoredCuboid.{StoredCuboid}
 use Rattle.warehouse_objects.specs.Represents.{Follow, HoldsGroupings, Represents, rows_in, said_of}
-use Rattle.warehouse_objects.specs.Warehouse.{Cuboid, StoredRun, Warehouse, cells_in, ship_modes_of}
+use Rattle.warehouse_objects.specs.Warehouse.{Cuboid, StoredRun, Warehouse, cell_count, ship_modes_of}
 use Rattle.warehouse_objects.proofs.CallerLemmas.{foldable}
 use Rattle.stored_cuboids.specs.Merged.{AreMergedWith, HasMerge, IsSound}
 
@@ -106,7 +106,7 @@ merge_represents law w stored cells holds merge =
 -- ---- there is a merge
 
 abbrev key_number : Cell → ℕ
-key_number cell = number_of cell.key
+key_number cell = key_as_number cell.key
 
 abbrev merge_lists : List Cell → List Cell → List Cell
 merge_lists [] other = other
@@ -176,11 +176,11 @@ module _ (rows : DimRows) (modes : List (List ℕ)) (facts : List LineOrder) (pl
   numbers_fit k d within =
       let cell : Cell = get_or plain.cells k d in
       let number : ℕ = key_number cell in
-      let test = λ (row : LineOrder). number_of (key_of rows modes plain.view row) == number in
+      let test = λ (row : LineOrder). key_as_number (key_of rows modes plain.view row) == number in
       let found : cell_at number plain.cells ≡ Some cell =
       only_one plain.cells cell (ascending_apart plain.cells represent.ascending)
       (k, within, same_there plain.cells k d cell within refl) in
-      cell_fits rows modes plain.view (rows_of rows modes plain.view number facts) cell
+      cell_fits rows modes plain.view (rows_of_number rows modes plain.view number facts) cell
       (sym (represent.group number) ∙ found)
       (λ measure. omega (arith, in_range measure, part_small (measure_of measure) test facts))
       (omega (arith, few, length-filter test facts, count_by-le-length test facts))
@@ -198,7 +198,7 @@ record IsLikeMerge (one : PlainCells) (others : List Cell) (next : PlainCells) :
   pub each : All (IsCellOf next.view) next.cells
   pub keys : All (λ cell. KeyFits cell.key) next.cells
 
-merge_there : (one : PlainCells) (others : List Cell) → AreProper one → AreProper (cells_of one.view others)
+merge_there : (one : PlainCells) (others : List Cell) → AreProperCells one → AreProperCells (cells_of one.view others)
     → IsLikeMerge one others (cells_of one.view (merge_lists one.cells others))
 merge_there one others proper also =
     let climbs = climbs_of 0 others also.rules.ascending (λ k d within. omega arith) in record {
@@ -228,21 +228,21 @@ follow_up from (run ∷ runs) mark follow spans =
 
 module _ (law : MergesRepresentBoth) (c : Content) (w : Warehouse) (represents : Represents c w) (view : View) where
   abbrev Proper : List StoredRun → Type 0
-  Proper runs = All (λ run. AreProper (cells_of view run.cells)) runs
+  Proper runs = All (λ run. AreProperCells (cells_of view run.cells)) runs
 
   -- each run can be merged into those before it
-  chain : (runs : List StoredRun) (cells : PlainCells) (from mark : ℕ) → cells.view ≡ view → AreProper cells
+  chain : (runs : List StoredRun) (cells : PlainCells) (from mark : ℕ) → cells.view ≡ view → AreProperCells cells
       → Group law w view from cells → Follow from runs mark → mark ≤ length w.batches
       → All (λ run. IsSpan run.span) runs → Proper runs → AreGroupings law w view runs
-      → length cells.cells + cells_in runs ≤ most_cells
+      → length cells.cells + cell_count runs ≤ most_cells
       → (new : PlainCells) × AreMergedWith cells runs new
   chain [] cells from mark same proper so_far follow within spans propers groupings few = (cells, refl)
   chain (run ∷ runs) cells from mark same proper so_far follow within spans propers groupings few =
       let span = All-head (λ (x : StoredRun). IsSpan x.span) run runs spans in
       let rest_spans = All-tail (λ (x : StoredRun). IsSpan x.span) run runs spans in
-      let own = All-head (λ (x : StoredRun). AreProper (cells_of view x.cells)) run runs propers in
+      let own = All-head (λ (x : StoredRun). AreProperCells (cells_of view x.cells)) run runs propers in
       let like = merge_there cells run.cells proper
-      (subst (λ (v : View). AreProper (cells_of v run.cells)) (sym same) own) in
+      (subst (λ (v : View). AreProperCells (cells_of v run.cells)) (sym same) own) in
       let next : PlainCells = cells_of cells.view (merge_lists cells.cells run.cells) in
       let grouping =
       All-head (λ (x : StoredRun). RepresentRows w.rows (ship_modes_of w) (rows_in w.batches x.span)
@@ -253,7 +253,7 @@ module _ (law : MergesRepresentBoth) (c : Content) (w : Warehouse) (represents :
       let fit = numbers_fit w.rows (ship_modes_of w) (all_rows (take run.span.to w.batches)) next represent
       folds.in_range folds.few in
       let many = sum_by-cons (λ (x : StoredRun). length x.cells) run runs in
-      let next_proper : AreProper next = record {
+      let next_proper : AreProperCells next = record {
         rules = record {
           few = omega (arith, like.most, few, many);
           each = like.each;
@@ -262,16 +262,16 @@ module _ (law : MergesRepresentBoth) (c : Content) (w : Warehouse) (represents :
         fit = λ k d at. record { key = like.keys k d at; count = (fit k d at).count; measures = (fit k d at).measures };
       } in
       let rest = chain runs next run.span.to mark same next_proper represent follow.1 within rest_spans
-      (All-tail (λ (x : StoredRun). AreProper (cells_of view x.cells)) run runs propers)
+      (All-tail (λ (x : StoredRun). AreProperCells (cells_of view x.cells)) run runs propers)
       (All-tail (λ (x : StoredRun). RepresentRows w.rows (ship_modes_of w) (rows_in w.batches x.span)
       (cells_of view x.cells)) run runs groupings)
       (omega (arith, like.most, few, many)) in
       (rest.0, (next, like.is, next_proper, rest.1))
 
   sound_there : (stored : Cuboid) → stored.view ≡ view → HoldsGroupings w stored → stored.mark ≤ length w.batches
-      → cells_in stored.runs ≤ most_cells → (cells : PlainCells) × HasMerge stored cells
+      → cell_count stored.runs ≤ most_cells → (cells : PlainCells) × HasMerge stored cells
   sound_there stored same holds within few =
-      let none : AreProper (cells_of view []) = record {
+      let none : AreProperCells (cells_of view []) = record {
         rules = record {
           few = omega arith;
           each = All-nil (IsCellOf view);
@@ -281,7 +281,7 @@ module _ (law : MergesRepresentBoth) (c : Content) (w : Warehouse) (represents :
       } in
       let there = chain stored.runs (cells_of view []) 0 stored.mark refl none (none_represent law w view)
       holds.laid.follow within holds.laid.spans
-      (subst (λ (v : View). All (λ run. AreProper (cells_of v run.cells)) stored.runs) same holds.laid.proper)
+      (subst (λ (v : View). All (λ run. AreProperCells (cells_of v run.cells)) stored.runs) same holds.laid.proper)
       (subst (λ (v : View). All
       (λ run. RepresentRows w.rows (ship_modes_of w) (rows_in w.batches run.span) (cells_of v run.cells)) stored.runs)
       same holds.groupings)
@@ -300,7 +300,7 @@ kept_sound law c w represents = λ k d lt.
     let proper = represents.root.proper.each k (said_of d) (omega (arith, lt, many)) in
     let mark : stored.mark ≤ length w.batches =
     omega (arith, proper.mark, batches, ap (λ (s : StoredCuboid). s.mark) said) in
-    let few : cells_in stored.runs ≤ most_cells =
+    let few : cell_count stored.runs ≤ most_cells =
     omega (arith, proper.most_cells, ap (λ (s : StoredCuboid). s.cells) said) in
     let there = sound_there law c w represents stored.view stored refl holds mark few in
     record { cells = there.0; merge = there.1; grouping = merge_represents law w stored there.0 holds there.1 }

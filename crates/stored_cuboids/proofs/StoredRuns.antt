@@ -11,7 +11,7 @@ use Rattle.lattice.specs.Views.{index_of}
 use Rattle.lattice.proofs.Places.{one_view}
 use Rattle.cuboid_cells.specs.declared.span.Span.{Span}
 use Rattle.cuboid_cells.specs.declared.cell.Cell.{Cell}
-use Rattle.cuboid_cells.specs.Cells.{AreProper, PlainCells, cell_at}
+use Rattle.cuboid_cells.specs.Cells.{AreProperCells, PlainCells, cell_at}
 use Rattle.cuboid_cells.specs.Merges.{IsMergeOf, merged_if_any}
 use Rattle.cuboid_cells.specs.Spelled.{IsRun, IsSpan}
 use Rattle.cuboid_cells.specs.Steps.{cells_of}
@@ -21,13 +21,13 @@ use Rattle.warehouse_root.specs.Root.{IsProperCuboid}
 use Rattle.cube_model.specs.Admission.{all_rows}
 use Rattle.cuboid_upkeep.specs.Grouping.{RepresentRows}
 use Rattle.cuboid_upkeep.specs.Lawful.{MergesRepresentBoth}
-use Rattle.warehouse_objects.specs.Warehouse.{Cuboid, StoredRun, Warehouse, cells_in, cuboid_at, ship_modes_of}
+use Rattle.warehouse_objects.specs.Warehouse.{Cuboid, StoredRun, Warehouse, cell_count, cuboid_at, ship_modes_of}
 use Rattle.warehouse_objects.specs.Represents.{Follow, HoldsGroupings, IsLaid, IsLaidOut, Represents, object_of}
 use Rattle.warehouse_objects.specs.Represents.{run_bytes, said_of}
 use Rattle.warehouse_objects.proofs.CallerLemmas.{object_run}
 use Rattle.stored_cuboids.specs.declared.reading.Progress.{Progress}
 use Rattle.stored_cuboids.specs.Merged.{AreMergedWith, HasMerge, IsSound}
-use Rattle.stored_cuboids.specs.Steps.{AreMerged, AreRead, GoesOn, HasRun, IsNextRun, TakesRun, head_of}
+use Rattle.stored_cuboids.specs.Steps.{RunsAreMerged, AreRead, GoesOn, ObjectIsRun, IsNextRun, MergesRun, run_head_of}
 use Rattle.stored_cuboids.proofs.Represented.{merge_represents}
 use Rattle.stored_cuboids.proofs.Merging.{cells_least, cells_more, follow_more, follow_next, follow_one, merged_more}
 use Rattle.stored_cuboids.proofs.Merging.{merged_next, merged_view}
@@ -92,19 +92,19 @@ run_one (Some bytes) one other cells others is too = IsRun-one bytes one other c
 
 -- the run of an object, which another is said to be
 pub next_one : (c : Content) (id : ℕ) (view : View) (so_far next : Progress) (span : Span) (cells others : PlainCells)
-    → HasRun c id span cells → IsNextRun c id view so_far others next
-    → GoesOn view so_far (head_of span cells) next × (others ≡ cells)
+    → ObjectIsRun c id span cells → IsNextRun c id view so_far others next
+    → GoesOn view so_far (run_head_of span cells) next × (others ≡ cells)
 next_one c id view so_far next span cells others is goes =
     let one = run_one (bytes_of c id) goes.span span others cells goes.there is in (
-      subst (λ (s : Span). GoesOn view so_far (head_of s cells) next) one.0
-          (subst (λ (m : PlainCells). GoesOn view so_far (head_of goes.span m) next) one.1 goes.goes_on),
+      subst (λ (s : Span). GoesOn view so_far (run_head_of s cells) next) one.0
+          (subst (λ (m : PlainCells). GoesOn view so_far (run_head_of goes.span m) next) one.1 goes.goes_on),
       one.1,
     )
 
 -- and merged
 pub taken : (c : Content) (id : ℕ) (old new : PlainCells) (so_far next after : Progress) (cells : PlainCells)
-    → IsNextRun c id old.view so_far cells after → TakesRun c id old so_far new next
-    → IsMergeOf old cells new × AreProper new
+    → IsNextRun c id old.view so_far cells after → MergesRun c id old so_far new next
+    → IsMergeOf old cells new × AreProperCells new
 taken c id old new so_far next after cells is takes =
     let one = next_one c id old.view so_far next is.span cells takes.cells is.there takes.read in
     (subst (λ (m : PlainCells). IsMergeOf old m new) one.1 takes.merge, takes.proper)
@@ -138,7 +138,7 @@ module _ (c : Content) (w : Warehouse) (view : ℕ) (stored : Cuboid) (laid : Is
     is_run = record {
       spelled = refl;
       span = subst (λ (x : StoredRun). IsSpan x.span) (this run) (is_laid.spans r run inside);
-      proper = subst (λ (x : StoredRun). AreProper (cells_of stored.view x.cells)) (this run)
+      proper = subst (λ (x : StoredRun). AreProperCells (cells_of stored.view x.cells)) (this run)
           (is_laid.proper r run inside);
     }
 
@@ -153,11 +153,11 @@ module _ (c : Content) (w : Warehouse) (view : ℕ) (stored : Cuboid) (laid : Is
         ∙ ap (option_map (run_bytes stored)) here
 
     -- the object is that run, and no other
-    pub has_run : HasRun c (run_id view r) run.span (cells_of stored.view run.cells)
+    pub has_run : ObjectIsRun c (run_id view r) run.span (cells_of stored.view run.cells)
     has_run = run_by (λ bytes. IsRun bytes run.span (cells_of stored.view run.cells)) (bytes_of c (run_id view r))
         (run_bytes stored run) run_object is_run
 
-    pub only_run : (span : Span) (cells : PlainCells) → HasRun c (run_id view r) span cells
+    pub only_run : (span : Span) (cells : PlainCells) → ObjectIsRun c (run_id view r) span cells
         → (span ≡ run.span) × (cells ≡ cells_of stored.view run.cells)
     only_run span cells is = run_one (bytes_of c (run_id view r)) span run.span cells (cells_of stored.view run.cells)
         is has_run
@@ -198,13 +198,13 @@ module _ (c : Content) (w : Warehouse) (view : ℕ) (stored : Cuboid) (laid : Is
             goes_on = record { same = sym same; from = begins; to = refl; left = omega (arith, most) };
           }
 
-    module _ (cells : PlainCells) (so_far : Progress) (are : AreMerged stored r cells so_far) where
+    module _ (cells : PlainCells) (so_far : Progress) (are : RunsAreMerged stored r cells so_far) where
       same_view : cells.view ≡ stored.view
       same_view = merged_view (cells_of stored.view []) (take r stored.runs) cells are.merge
 
       -- the run was merged
-      pub merged_with : (new : PlainCells) (next : Progress) → TakesRun c (run_id view r) cells so_far new next
-          → AreMerged stored (suc r) new next
+      pub merged_with : (new : PlainCells) (next : Progress) → MergesRun c (run_id view r) cells so_far new next
+          → RunsAreMerged stored (suc r) new next
       merged_with new next takes =
           let list : takes.cells.cells ≡ run.cells =
           ap (λ (m : PlainCells). m.cells) (read_cells so_far are.read cells.view takes.cells next takes.read) in
@@ -223,7 +223,7 @@ module _ (c : Content) (w : Warehouse) (view : ℕ) (stored : Cuboid) (laid : Is
 
       -- the run can be merged, where all of them have a merge
       pub can_merge : (whole : PlainCells) → HasMerge stored whole → (new : PlainCells) × (next : Progress)
-          × TakesRun c (run_id view r) cells so_far new next
+          × MergesRun c (run_id view r) cells so_far new next
       can_merge whole merge =
           let next = merged_next (cells_of stored.view []) stored.runs r run cells whole here are.merge merge in (
             next.0,
@@ -246,17 +246,17 @@ module _ (c : Content) (w : Warehouse) (view : ℕ) (stored : Cuboid) (laid : Is
         (subst (λ (runs : List StoredRun). Follow 0 runs so_far.end) whole are.follow) is_laid.follow
 
     pub none_left : so_far.left ≡ 0
-    none_left = omega (arith, are.left, ap cells_in whole)
+    none_left = omega (arith, are.left, ap cell_count whole)
 
   -- and merged
   pub has_merge : (cells : PlainCells) (so_far : Progress) (count : ℕ) → count ≡ length stored.runs
-      → AreMerged stored count cells so_far → HasMerge stored cells
+      → RunsAreMerged stored count cells so_far → HasMerge stored cells
   has_merge cells so_far count all are =
       subst (λ (runs : List StoredRun). AreMergedWith (cells_of stored.view []) runs cells)
       (whole so_far count all are.read) are.merge
 
 -- before the first run
-pub none_read : (stored : Cuboid) (so_far : Progress) → so_far ≡ record { end = 0; left = cells_in stored.runs }
+pub none_read : (stored : Cuboid) (so_far : Progress) → so_far ≡ record { end = 0; left = cell_count stored.runs }
     → AreRead stored 0 so_far
 none_read stored so_far begins = record {
   follow = ap (λ (p : Progress). p.end) begins;
@@ -265,7 +265,7 @@ none_read stored so_far begins = record {
 
 pub none_merged : (stored : Cuboid) (view : View) (cells : PlainCells) (so_far : Progress)
     → index_of view ≡ index_of stored.view → cells ≡ cells_of view []
-    → so_far ≡ record { end = 0; left = cells_in stored.runs } → AreMerged stored 0 cells so_far
+    → so_far ≡ record { end = 0; left = cell_count stored.runs } → RunsAreMerged stored 0 cells so_far
 none_merged stored view cells so_far same is begins = record {
   read = none_read stored so_far begins;
   merge = is ∙ ap (λ (v : View). cells_of v []) (one_view view stored.view same);

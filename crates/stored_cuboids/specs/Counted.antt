@@ -11,7 +11,7 @@ use Rattle.cuboid_upkeep.specs.Grouping.{RepresentRows}
 use Rattle.lattice.specs.declared.view.View.{View}
 use Rattle.object_store.specs.Content.{Content}
 use Rattle.warehouse_objects.specs.Warehouse.{Cuboid, Warehouse}
-use Rattle.stored_cuboids.specs.Steps.{AreRead, GoesOn, HasRun, head_of}
+use Rattle.stored_cuboids.specs.Steps.{AreRead, GoesOn, ObjectIsRun, run_head_of}
 use Rattle.stored_cuboids.specs.declared.reading.Progress.{Progress}
 
 -- an object of a content is counted into a fold: its header goes on where the runs so far end, and where it is a run,
@@ -20,8 +20,8 @@ pub record CountsRun (content : Content) (id : ℕ) (view : View) (at : Progress
     (modes : List (List ℕ)) (old new : FoldState) (next : Progress) : Type 0 where
   pub head : RunHead
   pub goes_on : GoesOn view at head next
-  pub takes : (span : Span) (cells : PlainCells) → HasRun content id span cells
-      → (head ≡ head_of span cells)
+  pub takes : (span : Span) (cells : PlainCells) → ObjectIsRun content id span cells
+      → (head ≡ run_head_of span cells)
       × ((rows : List LineOrder) → RepresentRows dimensions modes rows cells → Takes dimensions old rows new)
 
 -- so many runs of a cuboid are read, and a fold represents the rows of their batches

@@ -1,7 +1,7 @@
 -- The runs of a stored cuboid as one list of cells. Our own.
 use Rattle.std.specs.Prelude.{List, [], ◌∷◌, ◌≡◌, take}
 use Rattle.cube_model.specs.Admission.{all_rows}
-use Rattle.cuboid_cells.specs.Cells.{AreProper, PlainCells}
+use Rattle.cuboid_cells.specs.Cells.{AreProperCells, PlainCells}
 use Rattle.cuboid_cells.specs.Merges.{IsMergeOf}
 use Rattle.cuboid_cells.specs.Steps.{cells_of}
 use Rattle.cuboid_upkeep.specs.Grouping.{RepresentRows}
@@ -12,7 +12,7 @@ use Rattle.warehouse_objects.specs.Warehouse.{Cuboid, StoredRun, Warehouse, ship
 abbrev pub AreMergedWith : PlainCells → List StoredRun → PlainCells → Type 0
 AreMergedWith cells [] new = new ≡ cells
 AreMergedWith cells (run ∷ runs) new =
-    (next : PlainCells) × IsMergeOf cells (cells_of cells.view run.cells) next × AreProper next
+    (next : PlainCells) × IsMergeOf cells (cells_of cells.view run.cells) next × AreProperCells next
     × AreMergedWith next runs new
 
 -- the runs of a cuboid as one list of cells

@@ -8,7 +8,7 @@ ghost use Rattle.cuboid_upkeep.specs.Grouping.{RepresentRows};
 ghost use Rattle.warehouse_objects.specs.Warehouse.{Cuboid, Warehouse, cuboid_at, ship_modes_of};
 ghost use Rattle.warehouse_objects.specs.Reads.{ReadsOnly};
 ghost use Rattle.warehouse_objects.specs.Represents.{AreItsMembers, IsLaidOut, root_of, said_of};
-ghost use Rattle.warehouse_root.specs.Layouts.{views_of};
+ghost use Rattle.warehouse_root.specs.Layouts.{view_count};
 ghost use Rattle.lattice.specs.Views.{index_of};
 ghost use Rattle.stored_cuboids.specs.Merged.{IsSound};
 
@@ -103,11 +103,12 @@ fn are_grouping<D: Sectors>(
     requires within { mark ≤ length root.now.batches }
     ensures answer { IfOk result (λ yes. D.keeps_word (device_of store.new) → (w : Warehouse)
         → IsLaidOut (content_of D.Sectors store.old) w
-        → root.now ≡ root_of w → AreItsMembers w dims.now modes.now → index_of cells.now.view < views_of w.layout
+        → root.now ≡ root_of w → AreItsMembers w dims.now modes.now → index_of cells.now.view < view_count w.layout
         → IsTrue yes ↔ RepresentRows w.rows (ship_modes_of w) (all_rows (take mark w.batches)) cells.now) }
     ensures refused { IsErrOf result BadLayout → D.keeps_word (device_of store.new) → (w : Warehouse)
         → IsLaidOut (content_of D.Sectors store.old) w
-        → root.now ≡ root_of w → AreItsMembers w dims.now modes.now → index_of cells.now.view < views_of w.layout → ⊥ }
+        → root.now ≡ root_of w → AreItsMembers w dims.now modes.now → index_of cells.now.view < view_count w.layout
+        → ⊥ }
     ensures reads { ReadsOnly D.Sectors store.old store.new result }
     ensures causes { IfErr result (λ fault. (fault ≡ Memory) ⊎ ((fault ≡ Device) ⊎ (fault ≡ BadLayout))) }
 {

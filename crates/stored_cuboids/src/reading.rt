@@ -6,7 +6,7 @@ ghost use Rattle.object_store.specs.Store.{content_of, device_of, has_failed, si
 ghost use Rattle.cuboid_cells.specs.Cells.{PlainCells};
 ghost use Rattle.cuboid_cells.specs.Pieces.{IsAtFirst, size_of_run};
 ghost use Rattle.cuboid_cells.specs.declared.span.Span.{Span};
-ghost use Rattle.stored_cuboids.specs.Steps.{GoesOn, HasRun, IsNextRun, head_of};
+ghost use Rattle.stored_cuboids.specs.Steps.{GoesOn, ObjectIsRun, IsNextRun, run_head_of};
 ghost use Rattle.stored_cuboids.specs.declared.reading.Progress.{Progress};
 ghost use Rattle.warehouse_objects.specs.Reads.{ReadsOnly};
 
@@ -101,7 +101,7 @@ fn open_run<D: Sectors>(alloc: Global, store: &mut Store<D>, id: u32) -> Result<
     ensures ok { IfOk result (λ run. D.keeps_word (device_of store.new)
         → IsAtFirst (bytes_of (content_of D.Sectors store.old) id) run) }
     ensures refused { IsErrOf result BadLayout → D.keeps_word (device_of store.new) → (span : Span) (cells : PlainCells)
-        → HasRun (content_of D.Sectors store.old) id span cells → ⊥ }
+        → ObjectIsRun (content_of D.Sectors store.old) id span cells → ⊥ }
     ensures reads { ReadsOnly D.Sectors store.old store.new result }
     ensures causes { IfErr result (λ fault. (fault ≡ Memory) ⊎ ((fault ≡ Device) ⊎ (fault ≡ BadLayout))) }
 {
@@ -116,9 +116,9 @@ fn read_run<D: Sectors>(
 ) -> Result<(Span, Cells), Fault>
     requires fine { has_failed store.old ≡ false }
     ensures ok { IfOk result (λ run. D.keeps_word (device_of store.new)
-        → HasRun (content_of D.Sectors store.old) id run.0 run.1) }
+        → ObjectIsRun (content_of D.Sectors store.old) id run.0 run.1) }
     ensures refused { IsErrOf result BadLayout → D.keeps_word (device_of store.new) → (span : Span) (cells : PlainCells)
-        → HasRun (content_of D.Sectors store.old) id span cells → ⊥ }
+        → ObjectIsRun (content_of D.Sectors store.old) id span cells → ⊥ }
     ensures reads { ReadsOnly D.Sectors store.old store.new result }
     ensures causes { IfErr result (λ fault. (fault ≡ Memory) ⊎ ((fault ≡ Device) ⊎ (fault ≡ BadLayout))) }
 {
@@ -143,7 +143,7 @@ fn go_on(view: View, at: Progress, head: RunHead) -> Option<Progress>
 
 // The header of the run of cells over some batches.
 fn head_of(span: Span, cells: &Cells) -> RunHead
-    ensures { result ≡ head_of span cells.now }
+    ensures { result ≡ run_head_of span cells.now }
 {
     RunHead {
         view: cells.view(),

@@ -5,13 +5,13 @@ ghost use Rattle.cube_model.specs.Admission.{all_rows};
 ghost use Rattle.object_store.specs.Store.{content_of, device_of, has_failed};
 ghost use Rattle.lattice.specs.Views.{index_of};
 ghost use Rattle.cuboid_cells.specs.Merges.{IsMergeOf};
-ghost use Rattle.cuboid_cells.specs.Cells.{AreProper, PlainCells};
+ghost use Rattle.cuboid_cells.specs.Cells.{AreProperCells, PlainCells};
 ghost use Rattle.cuboid_upkeep.specs.Grouping.{RepresentRows};
 ghost use Rattle.warehouse_objects.specs.Warehouse.{Cuboid, Warehouse, cuboid_at, ship_modes_of};
 ghost use Rattle.warehouse_objects.specs.Reads.{ReadsOnly};
 ghost use Rattle.warehouse_objects.specs.Represents.{IsLaidOut, Represents, said_of};
 ghost use Rattle.stored_cuboids.specs.Merged.{HasMerge, IsSound};
-ghost use Rattle.stored_cuboids.specs.Steps.{TakesRun};
+ghost use Rattle.stored_cuboids.specs.Steps.{MergesRun};
 ghost use Rattle.stored_cuboids.specs.declared.reading.Progress.{Progress};
 
 use crate::laws::kept_cuboids_are_sound;
@@ -111,11 +111,11 @@ fn merge_run<D: Sectors>(
 ) -> Result<Progress, Fault>
     requires fine { has_failed store.old ≡ false }
     ensures ok { IfOk result (λ next. D.keeps_word (device_of store.new)
-        → TakesRun (content_of D.Sectors store.old) id cells.old at cells.new next) }
+        → MergesRun (content_of D.Sectors store.old) id cells.old at cells.new next) }
     ensures view { cells.new.view ≡ cells.old.view }
     ensures refused { IsErrOf result BadLayout → D.keeps_word (device_of store.new)
         → (new : PlainCells) (next : Progress)
-        → TakesRun (content_of D.Sectors store.old) id cells.old at new next → ⊥ }
+        → MergesRun (content_of D.Sectors store.old) id cells.old at new next → ⊥ }
     ensures reads { ReadsOnly D.Sectors store.old store.new result }
     ensures causes { IfErr result (λ fault. (fault ≡ Memory) ⊎ ((fault ≡ Device) ⊎ (fault ≡ BadLayout))) }
 {
@@ -129,10 +129,10 @@ fn merge_run<D: Sectors>(
 fn merge_in(alloc: Global, cells: &mut Cells, read: &Cells) -> Result<(), Fault>
     requires view { read.now.view ≡ cells.old.view }
     ensures ok { OnOk result (IsMergeOf cells.old read.now cells.new) }
-    ensures proper { OnOk result (AreProper cells.new) }
+    ensures proper { OnOk result (AreProperCells cells.new) }
     ensures view { cells.new.view ≡ cells.old.view }
     ensures refused { IfErr result (λ fault. (fault ≡ Memory) ⊎ ((fault ≡ BadLayout)
-        × ((new : PlainCells) → IsMergeOf cells.old read.now new → AreProper new → ⊥))) }
+        × ((new : PlainCells) → IsMergeOf cells.old read.now new → AreProperCells new → ⊥))) }
 {
     let _views = (cells.view(), read.view());
     match cells.merge(alloc, read) {

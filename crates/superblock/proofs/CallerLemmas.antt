@@ -4,16 +4,16 @@ use Rattle.std.proofs.lemmas.List.{append_cancel_left}
 use Rattle.wire.specs.Spelling.{spelling}
 use Rattle.wire.proofs.CallerLemmas.{spelling-one}
 use Rattle.superblock.specs.declared.superblock.Super.{Super}
-use Rattle.superblock.specs.Superblock.{IsProper, IsSuperblock}
+use Rattle.superblock.specs.Superblock.{IsProperSuperblock, IsSuperblock}
 
 -- a proper superblock's numbers fit their fields
-pub catalogue_fits : (s : Super) → IsProper s → s.catalogue < 256 ^ 4
+pub catalogue_fits : (s : Super) → IsProperSuperblock s → s.catalogue < 256 ^ 4
 catalogue_fits s proper = omega (arith, proper.within, proper.sectors_fit)
 
-pub bytes_fit : (s : Super) → IsProper s → s.bytes < 256 ^ 4
+pub bytes_fit : (s : Super) → IsProperSuperblock s → s.bytes < 256 ^ 4
 bytes_fit s proper = omega (arith, proper.most_bytes)
 
-pub layout_fits : (s : Super) → IsProper s → s.layout < 256 ^ 4
+pub layout_fits : (s : Super) → IsProperSuperblock s → s.layout < 256 ^ 4
 layout_fits s proper = omega (arith, proper.newest_layout)
 
 -- a superblock is its fields

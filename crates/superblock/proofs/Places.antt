@@ -7,7 +7,7 @@ use Rattle.wire.specs.Writing.{with_field}
 use Rattle.wire.specs.Reading.{ReadsNumber, TakesBytes}
 use Rattle.wire.proofs.CallerLemmas.{with_field-done}
 use Rattle.superblock.specs.declared.superblock.Super.{Super}
-use Rattle.superblock.specs.Superblock.{sector_of, IsProper}
+use Rattle.superblock.specs.Superblock.{sector_of, IsProperSuperblock}
 use Rattle.superblock.proofs.CallerLemmas.{bytes_fit, catalogue_fits, layout_fits, made_of}
 
 -- a field of k bytes goes on with what is done, where zeros are
@@ -55,7 +55,7 @@ rests_same a b xs ys as_long same =
 pub said_is : (s : Super) (sector part l0 r0 r1 r2 r3 r4 : List ℕ) (layout sectors generation catalogue bytes : ℕ)
     → TakesBytes 8 sector l0 part → ReadsNumber 4 l0 r0 layout → ReadsNumber 4 r0 r1 sectors
     → ReadsNumber 8 r1 r2 generation
-    → ReadsNumber 4 r2 r3 catalogue → ReadsNumber 4 r3 r4 bytes → IsProper s → sector ≡ sector_of s
+    → ReadsNumber 4 r2 r3 catalogue → ReadsNumber 4 r3 r4 bytes → IsProperSuperblock s → sector ≡ sector_of s
     → ◌≡◌ {A = Super}
     (record { layout = layout; sectors = sectors; generation = generation; catalogue = catalogue; bytes = bytes }) s
 said_is s sector part l0 r0 r1 r2 r3 r4 layout sectors generation catalogue bytes taken zeroth one two three four proper

@@ -15,7 +15,7 @@ sector_of s =
     ++ (spelling 4 s.catalogue ++ (spelling 4 s.bytes ++ replicate 480 0)))))
 
 -- the rules of a superblock
-pub record IsProper (s : Super) : Type 0 where
+pub record IsProperSuperblock (s : Super) : Type 0 where
   -- there are two layouts
   pub first_layout : 1 ≤ s.layout
   pub newest_layout : s.layout ≤ 2
@@ -34,5 +34,5 @@ pub record IsProper (s : Super) : Type 0 where
 -- the bytes of a sector are those of a superblock in a slot: there is no other spelling of it
 pub record IsSuperblock (slot : ℕ) (sector : List ℕ) (s : Super) : Type 0 where
   pub spelled : sector ≡ sector_of s
-  pub proper : IsProper s
+  pub proper : IsProperSuperblock s
   pub in_slot : s.generation % 2 ≡ slot

@@ -1,7 +1,7 @@
 //! Reading a superblock.
 ghost use Rattle.std.specs.Prelude.{◌≡◌, ◌↔◌};
 ghost use Rattle.superblock.specs.declared.superblock.Super.{Super};
-ghost use Rattle.superblock.specs.Superblock.{sector_of, IsProper, IsSuperblock};
+ghost use Rattle.superblock.specs.Superblock.{sector_of, IsProperSuperblock, IsSuperblock};
 
 use crate::encoding::encode;
 use crate::superblock::Super;
@@ -23,7 +23,7 @@ pub fn decode(sector: &[u8; 512], slot: u8) -> Option<Super>
 
 // What is in the places of the fields, whatever else the sector has.
 fn fields(sector: &[u8]) -> Result<Super, Fault>
-    ensures { (s : Super) → IsProper s → sector.now ≡ sector_of s → result ≡ Ok s }
+    ensures { (s : Super) → IsProperSuperblock s → sector.now ≡ sector_of s → result ≡ Ok s }
 {
     let mut cursor = Cursor::new(sector);
     cursor.bytes(8)?;

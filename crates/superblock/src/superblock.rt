@@ -24,11 +24,11 @@ pub struct Super {
 }
 
 impl Super {
-    ghost use Rattle.superblock.specs.Superblock.{IsProper};
+    ghost use Rattle.superblock.specs.Superblock.{IsProperSuperblock};
 
     /// Whether it keeps the rules of a superblock.
     pub fn is_proper(&self) -> bool
-        ensures { IsTrue result ↔ IsProper self.now }
+        ensures { IsTrue result ↔ IsProperSuperblock self.now }
     {
         self.layout >= 1
             && self.layout <= NEWEST_LAYOUT

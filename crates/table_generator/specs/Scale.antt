@@ -24,5 +24,5 @@ doublings number =
     else (if nat_lt number 64 then 5 else 6)))))
 
 -- 200,000 parts, and as many more for each doubling of scale 1; below it in proportion
-abbrev pub parts_of : ℕ → ℕ
-parts_of hundredths = if nat_lt hundredths 100 then 2000 * hundredths else 200000 * (1 + doublings (hundredths / 100))
+abbrev pub part_count : ℕ → ℕ
+part_count hundredths = if nat_lt hundredths 100 then 2000 * hundredths else 200000 * (1 + doublings (hundredths / 100))

@@ -1,6 +1,6 @@
 //! How large the tables are.
 ghost use Rattle.std.specs.Prelude.{◌≡◌, ◌≤◌, ◌<◌, ◌^◌, IfSome};
-ghost use Rattle.table_generator.specs.Scale.{customers_of, doublings, orders_of, parts_of, suppliers_of};
+ghost use Rattle.table_generator.specs.Scale.{customers_of, doublings, orders_of, part_count, suppliers_of};
 
 use std::marker::Model;
 
@@ -70,7 +70,7 @@ impl Scale {
 
     /// How many parts.
     pub fn parts(self) -> u64
-        ensures value { result ≡ parts_of self }
+        ensures value { result ≡ part_count self }
         ensures some { 1 ≤ result }
         ensures few { result ≤ 2 ^ 32 }
     {

@@ -9,14 +9,14 @@ use Rattle.std.proofs.lemmas.Fmt.{decimal_by_steps, length-decimal-le}
 use Rattle.std.proofs.lemmas.List.Folds.{list_all-append}
 use Rattle.std.proofs.lemmas.List.Sums.{fold-append}
 use Rattle.cube_model.specs.Limits.{longest_text}
-use Rattle.batch_loader.specs.Numbers.{is_digit, value_of, spells_number}
+use Rattle.batch_loader.specs.Numbers.{is_digit, digits_value, spells_number}
 use Rattle.table_texts.specs.Spellable.{is_field_text, is_plain_byte}
 
 -- digits of a number: one or more, of its value
 record Spells (n : ℕ) (digits : List ℕ) : Type 0 where
   some : 0 < length digits
   digits_are : list_all is_digit digits ≡ true
-  value : value_of digits ≡ n
+  value : digits_value digits ≡ n
 
 digit-is : (n : ℕ) → n < 10 → is_digit (48 + n) ≡ true
 digit-is n small = grind (arith, nat_tests)
@@ -47,15 +47,15 @@ decimal-spells : (n : ℕ) → n < 2 ^ 64 → Spells n (decimal n)
 decimal-spells = decimal_by_steps Spells one more
 
 -- a number up to a limit of 64 bits is read from its decimal
-pub value-decimal : (n : ℕ) → n < 2 ^ 64 → value_of (decimal n) ≡ n
+pub value-decimal : (n : ℕ) → n < 2 ^ 64 → digits_value (decimal n) ≡ n
 value-decimal n small = (decimal-spells n small).value
 
 pub spells-decimal : (limit n : ℕ) → n ≤ limit → n < 2 ^ 64 → spells_number limit (decimal n) ≡ true
 spells-decimal limit n within small =
     let spells = decimal-spells n small in
-    both (nat_lt 0 (length (decimal n))) (list_all is_digit (decimal n) && nat_le (value_of (decimal n)) limit)
+    both (nat_lt 0 (length (decimal n))) (list_all is_digit (decimal n) && nat_le (digits_value (decimal n)) limit)
     (some (length (decimal n)) spells.some)
-    (both (list_all is_digit (decimal n)) (nat_le (value_of (decimal n)) limit) spells.digits_are
+    (both (list_all is_digit (decimal n)) (nat_le (digits_value (decimal n)) limit) spells.digits_are
     (ap (λ value. nat_le value limit) spells.value ∙ least n limit within))
   where
     some : (count : ℕ) → 0 < count → nat_lt 0 count ≡ true

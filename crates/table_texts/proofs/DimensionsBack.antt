@@ -8,7 +8,7 @@ use Rattle.cube_model.specs.declared.rows.SupplierRow.{SupplierRow}
 use Rattle.cube_model.specs.declared.rows.PartRow.{PartRow}
 use Rattle.cube_model.specs.declared.rows.DateRow.{DateRow}
 use Rattle.batch_loader.specs.Grammar.{FieldsAreSpelled, LinesAreSpelled}
-use Rattle.batch_loader.specs.Numbers.{spells_number, value_of}
+use Rattle.batch_loader.specs.Numbers.{spells_number, digits_value}
 use Rattle.batch_loader.specs.Tables.{customer_columns, customer_of_fields, supplier_columns, supplier_of_fields}
 use Rattle.batch_loader.specs.Tables.{part_columns, part_of_fields, date_columns, date_of_fields}
 use Rattle.table_texts.specs.Lawful.{DimensionsReadBack}
@@ -29,7 +29,7 @@ module _ (n : ℕ) (in_range : nat_lt n (2 ^ 32) ≡ true) where
   key-fits : spells_number 4294967295 (decimal n) ≡ true
   key-fits = spells-decimal 4294967295 n (omega (arith, below)) (omega (arith, below))
 
-  key-value : value_of (decimal n) ≡ n
+  key-value : digits_value (decimal n) ≡ n
   key-value = value-decimal n (omega (arith, below))
 
 customer-spelled : (row : CustomerRow) → is_spellable_customer row ≡ true

@@ -19,7 +19,7 @@ use Rattle.cube_model.specs.Places.{row_count_of}
 use Rattle.dimensions.specs.TextRows.{row_of_customer, row_of_supplier, row_of_part, row_of_date}
 use Rattle.ssb_reports.specs.Report.{row_text}
 use Rattle.ssb_reports.proofs.Rows.{flat_map-around}
-use Rattle.table_texts.specs.Places.{fields_at, is_spellable_at, text_before, is_spellable_before}
+use Rattle.table_texts.specs.Places.{row_fields, is_spellable_at, text_before, is_spellable_before}
 use Rattle.table_texts.specs.Spellable.{is_field_text, is_spellable_customer, is_spellable_supplier, is_spellable_part}
 use Rattle.table_texts.specs.Spellable.{is_spellable_date}
 use Rattle.table_texts.specs.Texts.{table_text, customer_fields, supplier_fields, part_fields, date_fields}
@@ -82,7 +82,7 @@ no_date = record { key = 0; year = []; yearmonthnum = []; yearmonth = []; weeknu
 -- ---- the row at a place
 module _ (rows : DimRows) (place : ℕ) where
   customer-at : place < length rows.customers
-      → fields_at rows Customer place ≡ customer_fields (get_or rows.customers place no_customer)
+      → row_fields rows Customer place ≡ customer_fields (get_or rows.customers place no_customer)
   customer-at within =
       let key = twice row_of_customer (λ row. row.key) rows.customers place no_customer within in
       let city = get_or-map (λ (row : CustomerRow). row.city) rows.customers place no_customer [] within in
@@ -91,7 +91,7 @@ module _ (rows : DimRows) (place : ℕ) where
       λ i. decimal (key i) ∷ [] ∷ [] ∷ city i ∷ nation i ∷ region i ∷ [] ∷ [] ∷ []
 
   supplier-at : place < length rows.suppliers
-      → fields_at rows Supplier place ≡ supplier_fields (get_or rows.suppliers place no_supplier)
+      → row_fields rows Supplier place ≡ supplier_fields (get_or rows.suppliers place no_supplier)
   supplier-at within =
       let key = twice row_of_supplier (λ row. row.key) rows.suppliers place no_supplier within in
       let city = get_or-map (λ (row : SupplierRow). row.city) rows.suppliers place no_supplier [] within in
@@ -99,7 +99,7 @@ module _ (rows : DimRows) (place : ℕ) where
       let region = get_or-map (λ (row : SupplierRow). row.region) rows.suppliers place no_supplier [] within in
       λ i. decimal (key i) ∷ [] ∷ [] ∷ city i ∷ nation i ∷ region i ∷ [] ∷ []
 
-  part-at : place < length rows.parts → fields_at rows Part place ≡ part_fields (get_or rows.parts place no_part)
+  part-at : place < length rows.parts → row_fields rows Part place ≡ part_fields (get_or rows.parts place no_part)
   part-at within =
       let key = twice row_of_part (λ row. row.key) rows.parts place no_part within in
       let brand1 = get_or-map (λ (row : PartRow). row.brand1) rows.parts place no_part [] within in
@@ -107,7 +107,7 @@ module _ (rows : DimRows) (place : ℕ) where
       let mfgr = get_or-map (λ (row : PartRow). row.mfgr) rows.parts place no_part [] within in
       λ i. decimal (key i) ∷ [] ∷ mfgr i ∷ category i ∷ brand1 i ∷ [] ∷ [] ∷ [] ∷ [] ∷ []
 
-  date-at : place < length rows.dates → fields_at rows Date place ≡ date_fields (get_or rows.dates place no_date)
+  date-at : place < length rows.dates → row_fields rows Date place ≡ date_fields (get_or rows.dates place no_date)
   date-at within =
       let key = twice row_of_date (λ row. row.key) rows.dates place no_date within in
       let year = get_or-map (λ (row : DateRow). row.year) rows.dates place no_date [] within in
@@ -119,7 +119,7 @@ module _ (rows : DimRows) (place : ℕ) where
 
 -- ---- from place to place
 pub before-next : (rows : DimRows) (axis : Axis) (place : ℕ) → place < row_count_of rows axis
-    → text_before rows axis (place + 1) ≡ text_before rows axis place ++ row_text (fields_at rows axis place)
+    → text_before rows axis (place + 1) ≡ text_before rows axis place ++ row_text (row_fields rows axis place)
 before-next rows Customer place within =
     text-next rows.customers place no_customer within customer_fields _ (customer-at rows place within)
 before-next rows Supplier place within =
@@ -136,7 +136,7 @@ text_after rows Date place = table_text date_fields (drop (place + 1) rows.dates
 
 pub around : (rows : DimRows) (axis : Axis) (place : ℕ) → place < row_count_of rows axis
     → dimension_text rows axis ≡ text_before rows axis place
-    ++ (row_text (fields_at rows axis place) ++ text_after rows axis place)
+    ++ (row_text (row_fields rows axis place) ++ text_after rows axis place)
 around rows Customer place within =
     text-around rows.customers place no_customer within customer_fields _ (customer-at rows place within)
 around rows Supplier place within =
@@ -147,11 +147,11 @@ around rows Date place within = text-around rows.dates place no_date within date
 -- the line of one row more was written
 pub Appends-row : (rows : DimRows) (axis : Axis) (place : ℕ) (old mid new : Option (List ℕ))
     → place < row_count_of rows axis
-    → Appends old mid (text_before rows axis place) → Appends mid new (row_text (fields_at rows axis place))
+    → Appends old mid (text_before rows axis place) → Appends mid new (row_text (row_fields rows axis place))
     → Appends old new (text_before rows axis (place + 1))
 Appends-row rows axis place old mid new within before here =
     subst (Appends old new) (sym (before-next rows axis place within))
-    (Appends-trans old mid new (text_before rows axis place) (row_text (fields_at rows axis place)) before here)
+    (Appends-trans old mid new (text_before rows axis place) (row_text (row_fields rows axis place)) before here)
 
 -- ---- rows that lines can spell
 module _ (rows : DimRows) (place : ℕ) where

@@ -17,8 +17,8 @@ use Rattle.table_texts.specs.Spellable.{is_spellable_date}
 use Rattle.table_texts.specs.Texts.{table_text, customer_fields, supplier_fields, part_fields, date_fields}
 
 -- the key of the row at a place
-abbrev pub key_at : DimRows → Axis → ℕ → ℕ
-key_at rows axis place = slice_index_or (map (λ row. row.key) (rows_on rows axis)) place 0
+abbrev pub row_key : DimRows → Axis → ℕ → ℕ
+row_key rows axis place = slice_index_or (map (λ row. row.key) (rows_on rows axis)) place 0
 
 -- the texts that are kept of the row at a place. Only a day has a fourth
 abbrev pub texts_at : DimRows → Axis → ℕ → List (List ℕ)
@@ -33,29 +33,31 @@ texts_at rows Date place =
     ∷ text_at rows DateWeeknuminyear place ∷ []
 
 -- four texts as a list
-abbrev pub listed : KeptTexts → List (List ℕ)
-listed texts = texts.first.now ∷ texts.second.now ∷ texts.third.now ∷ texts.fourth.now ∷ []
+abbrev pub texts_listed : KeptTexts → List (List ℕ)
+texts_listed texts = texts.first.now ∷ texts.second.now ∷ texts.third.now ∷ texts.fourth.now ∷ []
 
 -- the fields of the row at a place
-abbrev pub fields_at : DimRows → Axis → ℕ → List (List ℕ)
-fields_at rows Customer place =
-    decimal (key_at rows Customer place) ∷ [] ∷ [] ∷ text_at rows CustomerCity place ∷ text_at rows CustomerNation place
+abbrev pub row_fields : DimRows → Axis → ℕ → List (List ℕ)
+row_fields rows Customer place =
+    decimal (row_key rows Customer place) ∷ [] ∷ [] ∷ text_at rows CustomerCity place
+    ∷ text_at rows CustomerNation place
     ∷ text_at rows CustomerRegion place ∷ [] ∷ [] ∷ []
-fields_at rows Supplier place =
-    decimal (key_at rows Supplier place) ∷ [] ∷ [] ∷ text_at rows SupplierCity place ∷ text_at rows SupplierNation place
+row_fields rows Supplier place =
+    decimal (row_key rows Supplier place) ∷ [] ∷ [] ∷ text_at rows SupplierCity place
+    ∷ text_at rows SupplierNation place
     ∷ text_at rows SupplierRegion place ∷ [] ∷ []
-fields_at rows Part place =
-    decimal (key_at rows Part place) ∷ [] ∷ text_at rows PartMfgr place ∷ text_at rows PartCategory place
+row_fields rows Part place =
+    decimal (row_key rows Part place) ∷ [] ∷ text_at rows PartMfgr place ∷ text_at rows PartCategory place
     ∷ text_at rows PartBrand1 place ∷ [] ∷ [] ∷ [] ∷ [] ∷ []
-fields_at rows Date place =
-    decimal (key_at rows Date place) ∷ [] ∷ [] ∷ [] ∷ text_at rows DateYear place ∷ text_at rows DateYearmonthnum place
+row_fields rows Date place =
+    decimal (row_key rows Date place) ∷ [] ∷ [] ∷ [] ∷ text_at rows DateYear place ∷ text_at rows DateYearmonthnum place
     ∷ text_at rows DateYearmonth place ∷ [] ∷ [] ∷ [] ∷ [] ∷ text_at rows DateWeeknuminyear place
     ∷ [] ∷ [] ∷ [] ∷ [] ∷ [] ∷ []
 
 -- a line can spell the row at a place
 abbrev pub is_spellable_at : DimRows → Axis → ℕ → Bool
 is_spellable_at rows axis place =
-    nat_lt (key_at rows axis place) (2 ^ 32) && list_all is_field_text (texts_at rows axis place)
+    nat_lt (row_key rows axis place) (2 ^ 32) && list_all is_field_text (texts_at rows axis place)
 
 -- the lines of the rows before a place
 abbrev pub text_before : DimRows → Axis → ℕ → List ℕ

@@ -4,7 +4,7 @@ ghost use Rattle.cube_model.specs.Attributes.{axis_of};
 ghost use Rattle.cube_model.specs.Places.{row_count_of, text_at};
 ghost use Rattle.ssb_reports.specs.Report.{row_text};
 ghost use Rattle.ssb_reports.specs.Writing.{Writes};
-ghost use Rattle.table_texts.specs.Places.{fields_at, is_spellable_at, key_at, listed, texts_at};
+ghost use Rattle.table_texts.specs.Places.{row_fields, is_spellable_at, row_key, texts_listed, texts_at};
 ghost use Rattle.table_texts.specs.Spellable.{WritesTable, is_spellable_dimension};
 ghost use Rattle.table_texts.specs.Texts.{dimension_text};
 
@@ -76,7 +76,7 @@ fn write_rows<W: Write>(dims: &Dims, axis: Axis, out: &mut W) -> Result<(), Faul
 
 fn write_row<W: Write>(dims: &Dims, axis: Axis, place: usize, out: &mut W) -> Result<(), Fault>
     requires { place < row_count_of dims.now axis }
-    ensures { Writes (W.contents out.old) (W.contents out.new) result (row_text (fields_at dims.now axis place)) }
+    ensures { Writes (W.contents out.old) (W.contents out.new) result (row_text (row_fields dims.now axis place)) }
 {
     let key = [Cell::Number(key_at(dims, axis, place) as u64)];
     let texts = texts_at(dims, axis, place);
@@ -107,14 +107,14 @@ fn write_row<W: Write>(dims: &Dims, axis: Axis, place: usize, out: &mut W) -> Re
 
 fn key_at(dims: &Dims, axis: Axis, place: usize) -> u32
     requires { place < row_count_of dims.now axis }
-    ensures { result ≡ key_at dims.now axis place }
+    ensures { result ≡ row_key dims.now axis place }
 {
     dims.keys(axis)[place]
 }
 
 fn texts_at(dims: &Dims, axis: Axis, place: usize) -> KeptTexts<'_>
     requires { place < row_count_of dims.now axis }
-    ensures { listed result ≡ texts_at dims.now axis place }
+    ensures { texts_listed result ≡ texts_at dims.now axis place }
 {
     match axis {
         Axis::Customer => three_texts(
@@ -151,7 +151,7 @@ fn three_texts(dims: &Dims, first: Attr, second: Attr, third: Attr, place: usize
     requires first { place < row_count_of dims.now (axis_of first) }
     requires second { place < row_count_of dims.now (axis_of second) }
     requires third { place < row_count_of dims.now (axis_of third) }
-    ensures { listed result ≡ text_at dims.now first place ∷ text_at dims.now second place
+    ensures { texts_listed result ≡ text_at dims.now first place ∷ text_at dims.now second place
         ∷ text_at dims.now third place
         ∷ [] ∷ [] }
 {

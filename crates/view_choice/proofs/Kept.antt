@@ -19,7 +19,7 @@ use Rattle.view_choice.specs.declared.costs.Costed.{Costed}
 use Rattle.view_choice.specs.declared.ties.Ties.{Ties}
 use Rattle.view_choice.specs.declared.ties.Ties.TheVariants.{ToGreatest, ToLeast}
 use Rattle.view_choice.specs.Choice.{cost, benefit, benefits_after, IsBest, NoneGains}
-use Rattle.view_choice.specs.Costs.{candidates, costed, costed_view, saved_by, sized, benefit_among, gain_among}
+use Rattle.view_choice.specs.Costs.{view_candidates, costed, costed_view, saved_by, sized, benefit_among, gain_among}
 use Rattle.view_choice.specs.Costs.{costs_in_all, lowered, IsFirstGreatestAt}
 use Rattle.view_choice.specs.Cuboids.{cuboids_by, most_demanded, most_fact_rows, most_stored_cells, number_by, views_by}
 use Rattle.view_choice.proofs.CostLaws.{cost-push, cost-le}
@@ -146,7 +146,7 @@ module _ (ties : Ties) (rows : ℕ) (counts : Counts) (demanded : List View) whe
   -- what is kept of the view at a place
   gain_at : (chosen : List View) (i : ℕ) (default : View) (other : Candidate) → i < length (views_by ties counts)
       → gain_among (costed (cuboids_by ties rows counts demanded) chosen)
-      (get_or (candidates (cuboids_by ties rows counts demanded)) i other)
+      (get_or (view_candidates (cuboids_by ties rows counts demanded)) i other)
       ≡ gain_among (costed (cuboids_by ties rows counts demanded) chosen)
       (sized (size_of rows counts) (get_or (views_by ties counts) i default))
   gain_at chosen i default other inside =
@@ -158,7 +158,7 @@ module _ (ties : Ties) (rows : ℕ) (counts : Counts) (demanded : List View) whe
       → get_or (views_by ties counts) i view ≡ view
       → size_of rows counts view ≤ most_stored_cells
       → gain_among (costed (cuboids_by ties rows counts demanded) chosen)
-      (get_or (candidates (cuboids_by ties rows counts demanded)) i other)
+      (get_or (view_candidates (cuboids_by ties rows counts demanded)) i other)
       ≡ benefit (cuboids_by ties rows counts demanded) chosen view
   gain-candidate chosen i other view inside here small =
       gain_at chosen i view other inside
@@ -168,10 +168,10 @@ module _ (ties : Ties) (rows : ℕ) (counts : Counts) (demanded : List View) whe
   -- where no kept view gains, no candidate does
   pub none_gains : (chosen : List View)
       → All (λ candidate. gain_among (costed (cuboids_by ties rows counts demanded) chosen) candidate ≡ 0)
-      (candidates (cuboids_by ties rows counts demanded))
+      (view_candidates (cuboids_by ties rows counts demanded))
       → NoneGains (cuboids_by ties rows counts demanded) chosen
   none_gains chosen none view candidate =
-      let inside : candidate.known.0 < length (candidates (cuboids_by ties rows counts demanded)) =
+      let inside : candidate.known.0 < length (view_candidates (cuboids_by ties rows counts demanded)) =
       omega (arith, length-map (views_by ties counts) (sized (size_of rows counts)), candidate.known.1) in
       sym (gain-candidate chosen candidate.known.0 (sized (size_of rows counts) view) view candidate.known.1
       candidate.known.2 candidate.small)
@@ -179,9 +179,9 @@ module _ (ties : Ties) (rows : ℕ) (counts : Counts) (demanded : List View) whe
 
   -- the first kept view of greatest gain is the best candidate
   pub is_best : (chosen : List View) (place : ℕ) (best : Candidate)
-      → best ≡ get_or (candidates (cuboids_by ties rows counts demanded)) place best
+      → best ≡ get_or (view_candidates (cuboids_by ties rows counts demanded)) place best
       → IsFirstGreatestAt (gain_among (costed (cuboids_by ties rows counts demanded) chosen))
-      (candidates (cuboids_by ties rows counts demanded)) place
+      (view_candidates (cuboids_by ties rows counts demanded)) place
       → (best.size ≡ size_of rows counts best.view) × IsBest (cuboids_by ties rows counts demanded) chosen best.view
   is_best chosen place best read first =
       let inside : place < length (views_by ties counts) =
@@ -200,7 +200,7 @@ module _ (ties : Ties) (rows : ℕ) (counts : Counts) (demanded : List View) whe
       ∙ ap (λ v. gain_among (costed (cuboids_by ties rows counts demanded) chosen) (sized (size_of rows counts) v))
       here) (first.gains best)) in
       let gained : gain_among (costed (cuboids_by ties rows counts demanded) chosen)
-      (get_or (candidates (cuboids_by ties rows counts demanded)) place best)
+      (get_or (view_candidates (cuboids_by ties rows counts demanded)) place best)
       ≡ benefit (cuboids_by ties rows counts demanded) chosen best.view
       = gain-candidate chosen place best best.view inside here small in (
         has_size,

@@ -14,8 +14,8 @@ abbrev pub sized : (View → ℕ) → View → Candidate
 sized size view = record { view = view; size = size view }
 
 -- all views of a lattice so
-abbrev pub candidates : Lattice View → List Candidate
-candidates lattice = map (sized lattice.size) lattice.views
+abbrev pub view_candidates : Lattice View → List Candidate
+view_candidates lattice = map (sized lattice.size) lattice.views
 
 -- a view whose cost is the fact rows
 abbrev pub costs_all_rows : ℕ → View → Costed

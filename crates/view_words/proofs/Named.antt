@@ -9,7 +9,7 @@ use Rattle.std.proofs.lemmas.List.Quantifiers.{all_pairs_push}
 use Rattle.lattice.specs.declared.view.View.{View}
 use Rattle.lattice.specs.Names.{mode_name}
 use Rattle.lattice.specs.Views.{index_of}
-use Rattle.view_words.specs.Words.{AreNamed, IsNumber, IsTwiceAt, NameLevels, Names, level_names, parts_of}
+use Rattle.view_words.specs.Words.{ViewsAreNamed, IsNumber, IsTwiceAt, NameLevels, Names, level_names, comma_parts}
 
 zip_next : {A X : Type 0} (Spells : List ℕ → A → Type 0) (text : X → List ℕ) (parts : List X) (i : ℕ) (d : X)
     (value : A) (values : List A) → i < length parts → AllZip Spells (map text (take i parts)) values
@@ -47,8 +47,8 @@ zip_at R (word ∷ words) (value ∷ values) (suc k) d e all below = zip_at R wo
 
 -- a word that is the number of no view names a view by its levels, or none
 pub by_levels : (word : List ℕ) (found : Option View) → ((view : View) → IsNumber word (index_of view) → ⊥)
-    → MatchOption found ((view : View) → NameLevels (parts_of word) view → ⊥)
-    (λ view. NameLevels (parts_of word) view)
+    → MatchOption found ((view : View) → NameLevels (comma_parts word) view → ⊥)
+    (λ view. NameLevels (comma_parts word) view)
     → MatchOption found ((view : View) → Names word view → ⊥) (λ view. Names word view)
 by_levels word None other none = λ view names. ⊎_elim (other view) (none view) names
 by_levels word (Some view) other some = inr some
@@ -88,8 +88,8 @@ named_twice words views place view d below all among names =
 
 -- one more view, which is none of those before
 pub named_more : (words : List (Bor (List ℕ))) (views : List View) (place : ℕ) (view : View) (d : Bor (List ℕ))
-    → place < length words → AreNamed (texts (take place words)) views → (Contains views view → ⊥)
-    → Names (get_or words place d).now view → AreNamed (texts (take (place + 1) words)) (views ++ view ∷ [])
+    → place < length words → ViewsAreNamed (texts (take place words)) views → (Contains views view → ⊥)
+    → Names (get_or words place d).now view → ViewsAreNamed (texts (take (place + 1) words)) (views ++ view ∷ [])
 named_more words views place view d below before new names = record {
   named = zip_more Names (λ (word : Bor (List ℕ)). word.now) words place d view views below before.named names;
   distinct = all_pairs_push (λ one other. one ≡ other → ⊥) views view before.distinct

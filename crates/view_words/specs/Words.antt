@@ -28,15 +28,15 @@ NameLevels parts view =
     ⊎ ((view.ship_mode ≡ false) × (parts ≡ level_names view))
 
 -- the parts of a word between commas (44)
-abbrev pub parts_of : List ℕ → List (List ℕ)
-parts_of word = slice_split (λ byte. byte == 44) word
+abbrev pub comma_parts : List ℕ → List (List ℕ)
+comma_parts word = slice_split (λ byte. byte == 44) word
 
 -- a word names a view: by its number, or by the names of its levels, separated by commas
 abbrev pub Names : List ℕ → View → Type 0
-Names word view = IsNumber word (index_of view) ⊎ NameLevels (parts_of word) view
+Names word view = IsNumber word (index_of view) ⊎ NameLevels (comma_parts word) view
 
 -- words name views one by one, and each view once
-pub record AreNamed (words : List (List ℕ)) (views : List View) : Type 0 where
+pub record ViewsAreNamed (words : List (List ℕ)) (views : List View) : Type 0 where
   pub named : AllZip Names words views
   pub distinct : AllPairs (λ one other. one ≡ other → ⊥) views
 
@@ -55,8 +55,8 @@ pub record IsTwiceAt (words : List (List ℕ)) (place : ℕ) : Type 0 where
   pub earlier : Names (slice_index_or words before []) view
 
 -- why words are refused
-abbrev pub Refuses : List (List ℕ) → Refused → Type 0
-Refuses words Memory = Unit {0}
-Refuses words TooMany = 16 < length words
-Refuses words (Unknown place) = IsUnknownAt words place
-Refuses words (Twice place) = IsTwiceAt words place
+abbrev pub RefusesWords : List (List ℕ) → Refused → Type 0
+RefusesWords words Memory = Unit {0}
+RefusesWords words TooMany = 16 < length words
+RefusesWords words (Unknown place) = IsUnknownAt words place
+RefusesWords words (Twice place) = IsTwiceAt words place

@@ -1,6 +1,6 @@
 //! The views that words name.
 ghost use Rattle.std.specs.Prelude.{◌<◌, ◌≤◌, ◌+◌, ◌↔◌, Contains, IsTrue, IfOk, IfErr, OnOk, length, map, take};
-ghost use Rattle.view_words.specs.Words.{AreNamed, Refuses};
+ghost use Rattle.view_words.specs.Words.{ViewsAreNamed, RefusesWords};
 
 use crate::refused::Refused;
 use crate::words::read_view;
@@ -13,9 +13,9 @@ const MOST_VIEWS: usize = 16;
 /// The views that words name, each by its number, 0 to 511, or by its levels, such as `nation,nation,ALL,year`, where a
 /// fifth, `shipmode` or `ALL`, may follow.
 pub fn read_views(alloc: Global, words: &[&str]) -> Result<Vec<View>, Refused>
-    ensures ok { IfOk result (λ views. AreNamed (map (λ word. word.now) words.now) views.items) }
+    ensures ok { IfOk result (λ views. ViewsAreNamed (map (λ word. word.now) words.now) views.items) }
     ensures few { IfOk result (λ views. length views.items ≤ 16) }
-    ensures err { IfErr result (Refuses (map (λ word. word.now) words.now)) }
+    ensures err { IfErr result (RefusesWords (map (λ word. word.now) words.now)) }
 {
     if words.len() > MOST_VIEWS {
         return Err(Refused::TooMany);
@@ -35,9 +35,9 @@ fn push_view(
     place: usize,
 ) -> Result<(), Refused>
     requires within { place < length words.now }
-    requires named { AreNamed (map (λ word. word.now) (take place words.now)) views.old.items }
-    ensures ok { OnOk result (AreNamed (map (λ word. word.now) (take (place + 1) words.now)) views.new.items) }
-    ensures err { IfErr result (Refuses (map (λ word. word.now) words.now)) }
+    requires named { ViewsAreNamed (map (λ word. word.now) (take place words.now)) views.old.items }
+    ensures ok { OnOk result (ViewsAreNamed (map (λ word. word.now) (take (place + 1) words.now)) views.new.items) }
+    ensures err { IfErr result (RefusesWords (map (λ word. word.now) words.now)) }
 {
     let Ok(found) = read_view(alloc, words[place]) else {
         return Err(Refused::Memory);

@@ -3,7 +3,7 @@ ghost use Rattle.std.specs.Prelude.{◌≡◌, ◌↔◌, ◌<◌, ◌∷◌, []
 ghost use Rattle.lattice.specs.declared.view.View.{View};
 ghost use Rattle.lattice.specs.Names.{mode_name};
 ghost use Rattle.lattice.specs.Views.{index_of};
-ghost use Rattle.view_words.specs.Words.{IsNumber, NameLevels, Names, level_names, parts_of};
+ghost use Rattle.view_words.specs.Words.{IsNumber, NameLevels, Names, level_names, comma_parts};
 
 use cube_model::Axis;
 use lattice::{View, indexes_name_views};
@@ -51,8 +51,8 @@ fn number(word: &str) -> Option<u16>
 
 // The view whose levels a word names.
 fn view_of_levels(alloc: Global, word: &str) -> Result<Option<View>, AllocError>
-    ensures { IfOk result (λ found. MatchOption found ((view : View) → NameLevels (parts_of word.now) view → ⊥)
-        (λ view. NameLevels (parts_of word.now) view)) }
+    ensures { IfOk result (λ found. MatchOption found ((view : View) → NameLevels (comma_parts word.now) view → ⊥)
+        (λ view. NameLevels (comma_parts word.now) view)) }
 {
     let parts = parts(alloc, word)?;
     Ok(view_of_parts(parts.as_slice()))
@@ -60,7 +60,7 @@ fn view_of_levels(alloc: Global, word: &str) -> Result<Option<View>, AllocError>
 
 // The parts of a word between commas.
 fn parts(alloc: Global, word: &str) -> Result<Vec<&str>, AllocError>
-    ensures { IfOk result (λ parts. map (λ part. part.now) parts.items ≡ parts_of word.now) }
+    ensures { IfOk result (λ parts. map (λ part. part.now) parts.items ≡ comma_parts word.now) }
 {
     word.split(',').collect(alloc)
 }

@@ -12,7 +12,7 @@ use Rattle.object_store.specs.declared.store.Store.{Store}
 use Rattle.object_store.specs.Store as stores
 use Rattle.warehouse_root.specs.Root.{PlainRoot}
 use Rattle.warehouse_objects.specs.Represents.{Represents}
-use Rattle.warehouse_objects.specs.Facts.{Adds, Change, Facts}
+use Rattle.warehouse_objects.specs.Facts.{AddsChange, Change, Facts}
 use Rattle.warehouse_objects.specs.Warehouse.{Warehouse}
 use Rattle.cuboid_commits.specs.Keeping.{IsCaughtUp, IsDone, IsReachedOrLarge, StoreAt}
 use Rattle.cuboid_commits.specs.Nexts.{EndsBringing, RefusesLeast}
@@ -79,7 +79,8 @@ module _ (start : Disk) (facts : Facts) (last : Option Change) where
   -- cuboids that are brought on leave the batches
   pub found_caught : (w v : Warehouse) → IsCaughtUp w v → MayBeFound facts last w → MayBeFound facts last v
   found_caught w v caught may =
-      subst (λ (found : Facts). (found ≡ facts) ⊎ ((change : Change) × (last ≡ Some change) × Adds facts change found))
+      subst (λ (found : Facts). (found ≡ facts)
+      ⊎ ((change : Change) × (last ≡ Some change) × AddsChange facts change found))
       (sym caught.kept.facts) may
 
   pub since_caught : (w v : Warehouse) → IsCaughtUp w v → IsSince start w → IsSince start v

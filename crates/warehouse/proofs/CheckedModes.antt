@@ -14,7 +14,7 @@ use Rattle.cube_model.specs.Limits.{longest_text, most_batch_rows}
 use Rattle.cube_model.specs.ShipModes.{modes_cause, modes_in}
 use Rattle.batch_admission.specs.ShipModes.{texts_by}
 use Rattle.batch_admission.proofs.CallerLemmas.{all_rows-last}
-use Rattle.dictionary.specs.Columns.{text_at}
+use Rattle.dictionary.specs.Columns.{text_of_code}
 use Rattle.dictionary.specs.Dictionary.{firsts}
 use Rattle.dictionary.specs.Spelling.{AreShort}
 use Rattle.column_segment.specs.Coding.{AreModesOf}
@@ -125,7 +125,7 @@ module _ (rows : List LineOrder) (texts codes : List (List ℕ)) (are : AreModes
         arith,
         few,
         ap length are.texts,
-        length-map (map (from_le_bytes w16) codes) (text_at texts),
+        length-map (map (from_le_bytes w16) codes) (text_of_code texts),
         length-map codes (from_le_bytes w16),
         length-map rows (λ (row : LineOrder). row.shipmode),
       )

@@ -19,7 +19,7 @@ use Rattle.batch_admission.specs.Found.{Found, found_in}
 use Rattle.batch_admission.specs.Totals.{totals_of}
 use Rattle.batch_admission.proofs.CallerLemmas.{long_before}
 use Rattle.warehouse_root.specs.declared.totals.StoredTotals.{StoredTotals}
-use Rattle.warehouse_root.specs.Root.{PlainRoot, with_batch}
+use Rattle.warehouse_root.specs.Root.{PlainRoot, root_with_batch}
 use Rattle.warehouse_objects.proofs.CallerLemmas.{batch_of}
 use Rattle.warehouse_objects.specs.Represents.{root_of, said_of, stored}
 use Rattle.warehouse_objects.specs.Facts.{refusal_of}
@@ -111,12 +111,12 @@ grown-too_long dimensions root rows batch grown some none =
 
 root-more : (w : Warehouse) (rows : List LineOrder) (root after : PlainRoot) (count : ℕ) (totals : StoredTotals)
     → root_of w ≡ root → count ≡ length rows
-    → totals ≡ stored (totals_of (all_rows (w.batches ++ rows ∷ []))) → after ≡ with_batch count totals root
+    → totals ≡ stored (totals_of (all_rows (w.batches ++ rows ∷ []))) → after ≡ root_with_batch count totals root
     → after ≡ root_of (loaded w rows)
 root-more w rows root after count totals is many sums made =
     let counts : map length w.batches ++ count ∷ [] ≡ map length (w.batches ++ rows ∷ []) =
     ap (λ n. map length w.batches ++ n ∷ []) many ∙ sym (map-append length w.batches (rows ∷ [])) in
-    made ∙ ap (with_batch count totals) (sym is) ∙ (λ i. record {
+    made ∙ ap (root_with_batch count totals) (sym is) ∙ (λ i. record {
       layout = w.layout;
       batches = counts i;
       target = w.target;
@@ -130,7 +130,7 @@ module _ (w : Warehouse) (number : ℕ) (rows : List LineOrder) (more : Option M
   -- a batch whose sums and ship modes are no cause to refuse it is made ready
   pub prepares-with : (root : PlainRoot) (count : ℕ) (totals : StoredTotals) (result : Result Prepared Fault)
       → root_of w ≡ root → count ≡ length rows → Admitted w number rows (Ok totals)
-      → IfOk result (λ p. p.more ≡ more) → IfOk result (λ p. p.root ≡ with_batch count totals root)
+      → IfOk result (λ p. p.more ≡ more) → IfOk result (λ p. p.root ≡ root_with_batch count totals root)
       → IfErr result (λ fault. fault ≡ Memory) → Prepares w number rows result
   prepares-with root count totals (Ok p) is many admitted put made memory = (
     fit_refusal w.rows w.batches number rows w.layout fit ∙ admitted.0,

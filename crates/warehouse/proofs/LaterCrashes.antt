@@ -7,7 +7,7 @@ use Rattle.warehouse.specs.declared.command.Command.{Command}
 use Rattle.warehouse.specs.declared.command.Reply.{Reply}
 use Rattle.warehouse.specs.declared.session.Session.{Session}
 use Rattle.warehouse.specs.Headline.{acknowledged_all}
-use Rattle.warehouse.specs.Running.{Phase, Slots, amid, broken, Holds, RanAll, acknowledged}
+use Rattle.warehouse.specs.Running.{Phase, Slots, amid, broken, IsInPhase, RanAll, acknowledged}
 use Rattle.warehouse.specs.Session.{IsAt}
 use Rattle.warehouse.proofs.Whole.{phase_is, same_facts}
 
@@ -44,7 +44,8 @@ ends_at {D} g old mid w v slots left (command ∷ commands) (reply ∷ replies) 
     ⊎_elim {C = (facts_in v ≡ acknowledged_all (acknowledged (facts_in w) command reply) commands replies)
     × IsAt g mid v}
     (λ then_at.
-    let rest = ends_at g all.0 mid then_at.0 v then_at.1 left commands replies (subst (Holds g all.0) then_at.2 all.2.2)
+    let rest = ends_at g all.0 mid then_at.0 v then_at.1 left commands replies
+    (subst (IsInPhase g all.0) then_at.2 all.2.2)
     (subst (λ (p : Phase). RanAll g all.0 p commands replies mid (amid v left)) then_at.2 all.3) in
     let same = same_facts w command reply then_at.0 then_at.3 in
     (rest.0 ∙ ap (λ (facts : Facts). acknowledged_all facts commands replies) same, rest.1))

@@ -20,7 +20,7 @@ use Rattle.object_store.specs.declared.store.Store.{Store}
 use Rattle.object_store.proofs.CallerLemmas.{few_created}
 use Rattle.warehouse_root.specs.declared.layout.Layout.{Layout}
 use Rattle.warehouse_root.specs.declared.layout.Layout.TheVariants.{First, Second}
-use Rattle.warehouse_root.specs.Layouts.{dimensions_of, number_of}
+use Rattle.warehouse_root.specs.Layouts.{dimension_object_count, layout_number}
 use Rattle.warehouse_root.specs.Modes.{modes_spelling}
 use Rattle.warehouse_root.specs.Root as roots
 use Rattle.warehouse_root.specs.Root.{PlainRoot}
@@ -40,12 +40,12 @@ five_are rows customers suppliers parts dates modes a b c d e = λ i.
     (1, a i) ∷ (2, b i) ∷ (3, c i) ∷ (4, d i) ∷ (5, e i) ∷ []
 
 first_ones : (layout : Layout) (rows : DimRows)
-    → take (dimensions_of layout) (beginning_puts Second rows) ≡ beginning_puts layout rows
+    → take (dimension_object_count layout) (beginning_puts Second rows) ≡ beginning_puts layout rows
 first_ones First rows = refl
 first_ones Second rows = refl
 
 pub puts_are : (layout : Layout) (rows : DimRows) (count : ℕ) (customers suppliers parts dates modes : Bor (List ℕ))
-    → count ≡ dimensions_of layout → customers.now ≡ dimension_of rows Customer
+    → count ≡ dimension_object_count layout → customers.now ≡ dimension_of rows Customer
     → suppliers.now ≡ dimension_of rows Supplier → parts.now ≡ dimension_of rows Part
     → dates.now ≡ dimension_of rows Date → modes.now ≡ modes_spelling []
     → puts_of (take count ((1, customers) ∷ (2, suppliers) ∷ (3, parts) ∷ (4, dates) ∷ (5, modes) ∷ []))
@@ -54,7 +54,7 @@ puts_are layout rows count customers suppliers parts dates modes many a b c d e 
     let five : List (ℕ × Bor (List ℕ)) = (1, customers) ∷ (2, suppliers) ∷ (3, parts) ∷ (4, dates) ∷ (5, modes) ∷ [] in
     sym (take-map (λ (put : ℕ × Bor (List ℕ)). (put.0, put.1.now)) count five)
     ∙ ap (λ (n : ℕ). take n (puts_of five)) many
-    ∙ ap (λ (l : List (ℕ × List ℕ)). take (dimensions_of layout) l)
+    ∙ ap (λ (l : List (ℕ × List ℕ)). take (dimension_object_count layout) l)
     (five_are rows customers.now suppliers.now parts.now dates.now modes.now a b c d e)
     ∙ first_ones layout rows
 
@@ -71,7 +71,7 @@ no_modes_there Second rows c represents = represents.objects 5
 module _ (l : Layout) (rows : DimRows) (puts : List (ℕ × List ℕ)) (bytes : List ℕ) (layout : ℕ) (root : PlainRoot)
     (storable : AreStorable rows)
     (are : puts ≡ beginning_puts l rows) (root_is : root ≡ roots.first_root l)
-    (bytes_are : bytes ≡ roots.root_of root) (layout_is : layout ≡ number_of l) where
+    (bytes_are : bytes ≡ roots.root_spelling root) (layout_is : layout ≡ layout_number l) where
   pub few_at_first : IsFew (created puts bytes layout)
   few_at_first =
       let many : length puts ≡ length (beginning_puts l rows) = ap (λ (p : List (ℕ × List ℕ)). length p) are in
@@ -81,15 +81,15 @@ module _ (l : Layout) (rows : DimRows) (puts : List (ℕ × List ℕ)) (bytes : 
   represents_at_first =
       subst (λ (p : List (ℕ × List ℕ)). Represents (created p bytes layout) (fresh_in l rows)) (sym are)
       (subst (λ (b : List ℕ). Represents (created (beginning_puts l rows) b layout) (fresh_in l rows))
-      (sym (bytes_are ∙ ap roots.root_of root_is))
-      (subst (λ (n : ℕ). Represents (created (beginning_puts l rows) (roots.root_of (roots.first_root l)) n)
+      (sym (bytes_are ∙ ap roots.root_spelling root_is))
+      (subst (λ (n : ℕ). Represents (created (beginning_puts l rows) (roots.root_spelling (roots.first_root l)) n)
       (fresh_in l rows)) (sym layout_is)
       (represents_created l rows storable)))
 
   pub loaded_at_first : IsLoaded (created puts bytes layout) rows [] root
   loaded_at_first =
       let represents = represents_at_first in record {
-        layout = represents.layout ∙ ap (λ (r : PlainRoot). number_of r.layout) (sym root_is);
+        layout = represents.layout ∙ ap (λ (r : PlainRoot). layout_number r.layout) (sym root_is);
         has_rows = record {
           customers = represents.objects 1;
           suppliers = represents.objects 2;
@@ -99,7 +99,7 @@ module _ (l : Layout) (rows : DimRows) (puts : List (ℕ × List ℕ)) (bytes : 
         has_modes = subst (λ (r : PlainRoot). HasModes (created puts bytes layout) r.layout []) (sym root_is)
             (no_modes_there l rows (created puts bytes layout) represents);
         are_modes = no_modes;
-        root_bytes = represents.root.spelled ∙ ap roots.root_of (same ∙ sym root_is);
+        root_bytes = represents.root.spelled ∙ ap roots.root_spelling (same ∙ sym root_is);
       } where
         same : root_of (fresh_in l rows) ≡ roots.first_root l
         same = refl
@@ -157,9 +157,9 @@ module _ (l : Layout) (rows : DimRows) (puts : List (ℕ × List ℕ)) (bytes : 
       size = size;
       full = λ is.
           subst (λ (p : List (ℕ × List ℕ)). LacksRoom (empty_room (g.state device).size) p []
-          (roots.root_of (roots.first_root l))) are
+          (roots.root_spelling (roots.first_root l))) are
           (subst (λ (l : List ℕ). LacksRoom (empty_room (g.state device).size) puts [] l)
-          (bytes_are ∙ ap roots.root_of root_is) (full is));
+          (bytes_are ∙ ap roots.root_spelling root_is) (full is));
       causes = causes;
     }
 

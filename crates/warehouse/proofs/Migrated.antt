@@ -15,11 +15,11 @@ use Rattle.object_store.specs.Store.{IsOneOf, Refuses}
 use Rattle.object_store.proofs.CallerLemmas.{bytes_after, few_after, layout_after, once_after, one_put, root_after}
 use Rattle.warehouse_root.specs.declared.layout.Layout.{Layout}
 use Rattle.warehouse_root.specs.declared.layout.Layout.TheVariants.{First, Second}
-use Rattle.warehouse_root.specs.Layouts.{number_of}
+use Rattle.warehouse_root.specs.Layouts.{layout_number}
 use Rattle.warehouse_root.specs.Modes.{AreModes, modes_spelling}
 use Rattle.warehouse_root.specs.Objects.{run_id, segment_id}
 use Rattle.warehouse_root.specs.Root as roots
-use Rattle.warehouse_root.specs.Root.{PlainRoot, in_second}
+use Rattle.warehouse_root.specs.Root.{PlainRoot, root_in_second}
 use Rattle.warehouse_root.proofs.ModesLaws.{modes_spelling-least, modes_spelling-most}
 use Rattle.warehouse_objects.specs.Facts.{CanMigrate}
 use Rattle.warehouse_objects.specs.Loaded.{IsLoaded}
@@ -64,7 +64,7 @@ others_stay w id other =
 -- what the commit of a move puts: the ship modes, and a root
 module _ (c : Content) (root : PlainRoot) (m : Migration) (is : IsMigration root m) (puts : List (ℕ × List ℕ))
     (bytes : List ℕ) (layout : ℕ) (puts_are : puts ≡ (5, m.bytes.items) ∷ []) (bytes_are : bytes ≡ m.root_bytes.items)
-    (layout_is : layout ≡ number_of m.root.layout) where
+    (layout_is : layout ≡ layout_number m.root.layout) where
   there : (id : ℕ) → bytes_of (committed puts [] bytes layout c) id
       ≡ (if 5 == id then Some m.bytes.items else bytes_of c id)
   there id =
@@ -100,10 +100,10 @@ module _ (c : Content) (root : PlainRoot) (m : Migration) (is : IsMigration root
 
   module _ (w : Warehouse) (of : IsMigrationOf w root m) where
     root_moved : m.root ≡ root_of (migrated w)
-    root_moved = is.root_is ∙ ap in_second of.root_is
+    root_moved = is.root_is ∙ ap root_in_second of.root_is
 
-    bytes_moved : bytes ≡ roots.root_of (root_of (migrated w))
-    bytes_moved = bytes_are ∙ is.spelled.spelled ∙ ap roots.root_of root_moved
+    bytes_moved : bytes ≡ roots.root_spelling (root_of (migrated w))
+    bytes_moved = bytes_are ∙ is.spelled.spelled ∙ ap roots.root_spelling root_moved
 
     puts_moved : puts ≡ migration_puts w
     puts_moved = puts_are
@@ -131,10 +131,10 @@ module _ (c : Content) (root : PlainRoot) (m : Migration) (is : IsMigration root
     represents_moved represents = record {
       objects = λ id. objects_moved id represents;
       once = once_after puts [] bytes layout c represents.once;
-      layout = layout_after puts [] bytes layout c ∙ layout_is ∙ ap number_of second;
+      layout = layout_after puts [] bytes layout c ∙ layout_is ∙ ap layout_number second;
       root = record {
         spelled = root_after puts [] bytes layout c ∙ bytes_moved;
-        proper = subst roots.IsProper root_moved is.spelled.proper;
+        proper = subst roots.IsProperRoot root_moved is.spelled.proper;
       };
       rows = represents.rows;
       batches = represents.batches;
@@ -150,7 +150,7 @@ module _ (c : Content) (root : PlainRoot) (m : Migration) (is : IsMigration root
 
     -- why the commit was refused
     pub moved_causes : (room : Room) (fault : Fault) → Refuses c room puts [] bytes fault
-        → Refuses c room (migration_puts w) [] (roots.root_of (root_of (migrated w))) fault
+        → Refuses c room (migration_puts w) [] (roots.root_spelling (root_of (migrated w))) fault
     moved_causes room fault refuses =
         subst (λ (b : List ℕ). Refuses c room (migration_puts w) [] b fault) bytes_moved
         (subst (λ (p : List (ℕ × List ℕ)). Refuses c room p [] bytes fault) puts_moved refuses)

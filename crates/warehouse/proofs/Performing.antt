@@ -11,11 +11,11 @@ use Rattle.cube_model.specs.declared.rows.LineOrder.{LineOrder}
 use Rattle.cube_model.specs.Answers.{answer_as_of}
 use Rattle.object_store.specs.Disk.{Leaves}
 use Rattle.added_rows.specs.Added.{widened}
-use Rattle.warehouse_objects.specs.Facts.{Admits, AdmitsRows, CanMigrate}
+use Rattle.warehouse_objects.specs.Facts.{AdmitsBatch, AdmitsRows, CanMigrate}
 use Rattle.warehouse_objects.specs.Warehouse.{Warehouse, loaded, migrated, with_views}
 use Rattle.warehouse_objects.specs.Represents.{Represents}
 use Rattle.cuboid_commits.specs.Keeping.{IsKeptUp}
-use Rattle.cuboid_commits.specs.Upkeep.{AreWhole}
+use Rattle.cuboid_commits.specs.Upkeep.{CuboidsAreCurrent}
 use Rattle.warehouse.specs.declared.chosen.Chosen.{Chosen}
 use Rattle.warehouse.specs.declared.command.Command.{Command}
 use Rattle.warehouse.specs.declared.command.Command.TheVariants.{Submit, Query, Status, Choose, Upkeep, Audit, Add}
@@ -30,7 +30,7 @@ use Rattle.warehouse.specs.Migrating.{MigrateRefuses, MigratedOrNot, MovesOnce}
 use Rattle.warehouse.specs.Session.{IsAt, content_of, disk_of, has_failed, AddRefuses, CommitsOnce, KeepsContent}
 use Rattle.warehouse.specs.Session.{SubmitRefuses, IsAsked, QueryRefuses}
 use Rattle.warehouse.specs.Status.{IsStatus}
-use Rattle.warehouse.specs.Running.{Phase, Slots, amid, broken, Does, During, Ran, RanAll, Refuses, Replies}
+use Rattle.warehouse.specs.Running.{Phase, Slots, amid, broken, Does, During, Ran, RanAll, RefusesInPhase, Replies}
 use Rattle.warehouse.specs.Slots.{AreOf, AreRunning, DoesWith, HoldsWith}
 use Rattle.warehouse.specs.Upkeep.{UpkeepRefuses}
 use Rattle.planned_queries.specs.Stepping.{RunningState}
@@ -39,7 +39,7 @@ use Rattle.warehouse.proofs.Refusing.{device_or}
 module _ {D : Type 0} (g : Ghosts D) (w : Warehouse) (slots : Slots) (old new : Session D g) where
   -- a refusal of a command that leaves the warehouse as it is
   refused_at : (command : Command) (cause : Fault → Type 0) (fault : Fault)
-      → ((reply : Reply) (after : Phase) → Refuses cause (amid w slots) reply after
+      → ((reply : Reply) (after : Phase) → RefusesInPhase cause (amid w slots) reply after
       → Replies g old w slots command reply new after)
       → (fault ≡ Device → has_failed new ≡ true) → ((fault ≡ Device → ⊥) → cause fault × IsAt g new w)
       → Leaves (disk_of g old) (disk_of g new) (During w command) → Does g old w slots command (Refused fault) new
@@ -56,15 +56,15 @@ module _ {D : Type 0} (g : Ghosts D) (w : Warehouse) (slots : Slots) (old new : 
   abbrev SubmitLeaves : ℕ → List LineOrder → Type 0
   SubmitLeaves number batch =
       Leaves (disk_of g old) (disk_of g new)
-      (λ c. Represents c w ⊎ (Admits w number batch × Represents c (loaded w batch)))
+      (λ c. Represents c w ⊎ (AdmitsBatch w number batch × Represents c (loaded w batch)))
 
   pub submit_done : (number : ℕ) (batch rows : List LineOrder) → rows ≡ batch
-      → Admits w number rows → CommitsOnce g old new → IsAt g new (loaded w rows)
+      → AdmitsBatch w number rows → CommitsOnce g old new → IsAt g new (loaded w rows)
       → SubmitLeaves number rows → Does g old w slots (Submit number batch) Done new
   submit_done number batch rows same admissible once now leaves = (
     amid (loaded w batch) slots,
     (
-      inl (refl, (subst (λ (b : List LineOrder). Admits w number b) same admissible, once), refl),
+      inl (refl, (subst (λ (b : List LineOrder). AdmitsBatch w number b) same admissible, once), refl),
       subst (SubmitLeaves number) same leaves,
       subst (λ (b : List LineOrder). IsAt g new (loaded w b)) same now,
     ),
@@ -161,7 +161,7 @@ module _ {D : Type 0} (g : Ghosts D) (w : Warehouse) (slots : Slots) (old new : 
   abbrev UpkeepLeaves : Type 0
   UpkeepLeaves = Leaves (disk_of g old) (disk_of g new) (λ c. (v : Warehouse) × IsKeptUp w v × Represents c v)
 
-  pub upkeep_done : (v : Warehouse) → IsKeptUp w v → AreWhole v → IsAt g new v → UpkeepLeaves
+  pub upkeep_done : (v : Warehouse) → IsKeptUp w v → CuboidsAreCurrent v → IsAt g new v → UpkeepLeaves
       → Does g old w slots Upkeep Done new
   upkeep_done v kept whole now leaves = (amid v slots, ((v, kept, inl (refl, whole, refl)), leaves, now), now)
 

@@ -14,7 +14,7 @@ use Rattle.warehouse_root.specs.Root.{AreProperTotals}
 use Rattle.warehouse_root.specs.declared.totals.StoredTotals.{StoredTotals}
 use Rattle.warehouse_objects.specs.Represents.{stored}
 use Rattle.warehouse.specs.Prepared.{MayFollow}
-use Rattle.warehouse_objects.specs.Facts.{Admits}
+use Rattle.warehouse_objects.specs.Facts.{AdmitsBatch}
 use Rattle.warehouse_objects.specs.Warehouse.{Warehouse}
 use Rattle.warehouse_objects.proofs.CallerLemmas.{admissible_in, batch_of, is_batch, next_number}
 
@@ -29,7 +29,7 @@ follows rows batches number batch admissible =
     }
 
 -- a batch that a warehouse admits may be put there
-pub follows_admitted : (w : Warehouse) (number : ℕ) (batch : List LineOrder) → Admits w number batch
+pub follows_admitted : (w : Warehouse) (number : ℕ) (batch : List LineOrder) → AdmitsBatch w number batch
     → MayFollow (length w.batches) number batch
 follows_admitted w number batch admits =
     follows w.rows w.batches number batch (admissible_in w.layout w.rows w.batches number batch admits)

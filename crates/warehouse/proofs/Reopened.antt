@@ -1,7 +1,7 @@
 -- What is found by opening after a crash.
 use Rattle.std.proofs.Common.{◌≡◌, ◌⊎◌, ⊎_elim, None, Some, Option, List, take, slice_get, sym, subst}
 use Rattle.sector_device.specs.declared.device.Sectors.{Ghosts}
-use Rattle.warehouse_objects.specs.Facts.{Adds, Change, Facts, facts_in}
+use Rattle.warehouse_objects.specs.Facts.{AddsChange, Change, Facts, facts_in}
 use Rattle.warehouse_objects.specs.Warehouse.{Warehouse}
 use Rattle.warehouse.specs.declared.command.Command.{Command}
 use Rattle.warehouse.specs.declared.command.Reply.{Reply}
@@ -31,6 +31,6 @@ left_by_crash g w v now earlier later replies others device before stop may =
           (subst (λ (found : Facts).
           (found ≡ acknowledged_all (facts_in v) (take stop.done later) (take stop.done others))
           ⊎ ((change : Change) × (last ≡ Some change)
-          × Adds (acknowledged_all (facts_in v) (take stop.done later) (take stop.done others)) change found))
+          × AddsChange (acknowledged_all (facts_in v) (take stop.done later) (take stop.done others)) change found))
           (sym same) stop.may);
     }

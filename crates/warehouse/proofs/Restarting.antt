@@ -11,7 +11,8 @@ use Rattle.object_store.specs.Disk.{disk, AllShow, Each, IsBlank}
 use Rattle.object_store.specs.Shows.{HasNone}
 use Rattle.object_store.proofs.CallerLemmas.{shows_one}
 use Rattle.object_store.proofs.Looking.{none_same}
-use Rattle.warehouse_objects.specs.Facts.{Adds, Change, Facts, a_batch, facts_in, in_second, some_rows, the_layout}
+use Rattle.warehouse_objects.specs.Facts.{AddsChange, Change, Facts, a_batch, facts_in, in_second, some_rows}
+use Rattle.warehouse_objects.specs.Facts.{the_layout}
 use Rattle.warehouse_objects.specs.Facts.{with_next, with_rows}
 use Rattle.warehouse_objects.specs.Warehouse.{Warehouse, fresh}
 use Rattle.warehouse_objects.specs.Represents.{Represents}
@@ -123,7 +124,7 @@ none_fewer facts (command ∷ commands) (reply ∷ replies) =
     (none_fewer (acknowledged facts command reply) commands replies)
 
 -- facts with a change have no fewer
-adds_none_fewer : (facts new : Facts) (change : Change) → Adds facts change new → HaveNoFewer facts new
+adds_none_fewer : (facts new : Facts) (change : Change) → AddsChange facts change new → HaveNoFewer facts new
 adds_none_fewer facts new (a_batch batch) adds = subst (HaveNoFewer facts) (sym adds.1) (with_batch facts batch)
 adds_none_fewer facts new (some_rows more) adds = subst (HaveNoFewer facts) (sym adds.1) (with_more facts more)
 adds_none_fewer facts new the_layout adds = subst (HaveNoFewer facts) (sym adds.1) (in_another_layout facts)

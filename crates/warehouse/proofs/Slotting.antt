@@ -20,7 +20,7 @@ use Rattle.warehouse.specs.declared.command.Reply.{Reply}
 use Rattle.warehouse.specs.declared.command.Reply.TheVariants.{Done, More, Answer, Numbers, Chosen, Audited, Refused}
 use Rattle.warehouse.specs.declared.session.Session.{Session}
 use Rattle.warehouse.specs.declared.stepping.Stepped.TheVariants as steps
-use Rattle.warehouse.specs.Running.{Phase, Slots, amid, broken, none_running, Becomes, Does, Holds, StepReplies}
+use Rattle.warehouse.specs.Running.{Phase, Slots, amid, broken, none_running, Becomes, Does, IsInPhase, StepReplies}
 use Rattle.warehouse.specs.Running.{acknowledged}
 use Rattle.warehouse.specs.Session.{IsAsked, IsAt, KeepsContent, QueryRefuses, disk_of, has_failed}
 use Rattle.warehouse.specs.Slots.{AreOf, AreRunning, DoesWith, HoldsWith, IsRunningAt}
@@ -99,7 +99,7 @@ begins_with {D} g session w running empty at =
     (at, no_queries 16, none_of 16 w)
 
 pub session_holds : {D : Type 0} (g : Ghosts D) (session : Session D g) (running : List (Option RunningState))
-    (phase : Phase) → HoldsWith g session running phase → Holds g session phase
+    (phase : Phase) → HoldsWith g session running phase → IsInPhase g session phase
 session_holds g session running (amid w slots) holds = holds.0
 session_holds g session running broken failed = failed
 
@@ -162,13 +162,13 @@ with_slots {D} g old new w slots command reply running stay are of does =
           let v : Warehouse = there.0 in
           let same : after ≡ amid v slots = there.2 ∙ ap (λ (next : Slots). amid v next) (stay there.1 there.4) in
           subst (λ (p : Phase). HoldsWith g new running p) (sym same) (
-            subst (λ (p : Phase). Holds g new p) same does.2,
+            subst (λ (p : Phase). IsInPhase g new p) same does.2,
             are,
             λ slot s is. still_extends s w v command reply
                 (of slot s is) there.3,
           ))
           (λ failed. subst (λ (p : Phase). HoldsWith g new running p) (sym failed)
-          (subst (λ (p : Phase). Holds g new p) failed does.2))
+          (subst (λ (p : Phase). IsInPhase g new p) failed does.2))
           (phase_is g old new w slots command reply after does.1.0),
     )
 

@@ -14,12 +14,12 @@ use Rattle.object_store.specs.Room.{Room}
 use Rattle.object_store.specs.Store.{IsOneOf, Refuses}
 use Rattle.object_store.proofs.CallerLemmas.{bytes_after, few_after, layout_after, root_after}
 use Rattle.warehouse_root.specs.declared.layout.Layout.{Layout}
-use Rattle.warehouse_root.specs.Layouts.{number_of}
+use Rattle.warehouse_root.specs.Layouts.{layout_number}
 use Rattle.warehouse_root.specs.Modes.{AreModes, modes_id, modes_spelling}
 use Rattle.warehouse_root.specs.Objects.{segment_id}
 use Rattle.warehouse_root.specs.Root as roots
 use Rattle.warehouse_root.specs.Root.{PlainRoot}
-use Rattle.warehouse_objects.specs.Facts.{Admits}
+use Rattle.warehouse_objects.specs.Facts.{AdmitsBatch}
 use Rattle.warehouse_objects.specs.Warehouse.{Warehouse, loaded, ship_modes_of}
 use Rattle.warehouse_objects.specs.Represents.{HasModes, Represents, root_of}
 use Rattle.warehouse_objects.specs.Lawful.{loading_puts, modes_put, new_modes_put}
@@ -55,8 +55,8 @@ puts_agree w number rows segment more puts is same can are =
 -- what a batch that was made ready changes, where it was made ready for a warehouse
 pub ready_agrees : (w : Warehouse) (number : ℕ) (rows : List LineOrder) (root : PlainRoot) (p : Prepared)
     (puts : List (ℕ × List ℕ)) → puts ≡ prepared_puts number p → IsPrepared root number rows p
-    → Admits w number rows × (p.root ≡ root_of (loaded w rows)) × AreMore w rows p.more
-    → Admits w number rows × (p.root ≡ root_of (loaded w rows)) × (puts ≡ loading_puts w number rows)
+    → AdmitsBatch w number rows × (p.root ≡ root_of (loaded w rows)) × AreMore w rows p.more
+    → AdmitsBatch w number rows × (p.root ≡ root_of (loaded w rows)) × (puts ≡ loading_puts w number rows)
 ready_agrees w number rows root p puts are ready model =
     let same : root.layout ≡ w.layout = sym ready.of_layout ∙ ap (λ (r : PlainRoot). r.layout) model.1 in (
       model.0,
@@ -102,8 +102,8 @@ modes_now modes (Some more) = more.modes
 -- what the commit of a submit puts: the segment and the ship modes, and a root
 module _ (c : Content) (puts : List (ℕ × List ℕ)) (bytes : List ℕ) (layout number : ℕ) (segment : List ℕ)
     (more : Option MoreModes) (after : PlainRoot)
-    (puts_are : puts ≡ (segment_id number, segment) ∷ more_put more) (bytes_are : bytes ≡ roots.root_of after)
-    (layout_is : layout ≡ number_of after.layout) where
+    (puts_are : puts ≡ (segment_id number, segment) ∷ more_put more) (bytes_are : bytes ≡ roots.root_spelling after)
+    (layout_is : layout ≡ layout_number after.layout) where
   there : (id : ℕ) → bytes_of (committed puts [] bytes layout c) id
       ≡ among ((segment_id number, segment) ∷ more_put more) id (bytes_of c id)
   there id =
@@ -157,28 +157,29 @@ module _ (c : Content) (puts : List (ℕ × List ℕ)) (bytes : List ℕ) (layou
 
   module _ (batch : List LineOrder) where
     -- what the content represents then
-    pub represents_after : (w : Warehouse) → Represents c w → Admits w number batch → FitColumns batch
+    pub represents_after : (w : Warehouse) → Represents c w → AdmitsBatch w number batch → FitColumns batch
         → puts ≡ loading_puts w number batch → after ≡ root_of (loaded w batch)
         → Represents (committed puts [] bytes layout c) (loaded w batch)
     represents_after w represents admits fits own after_is =
         subst (λ (p : List (ℕ × List ℕ)). Represents (committed p [] bytes layout c) (loaded w batch)) (sym own)
         (subst (λ (b : List ℕ). Represents (committed (loading_puts w number batch) [] b layout c) (loaded w batch))
-        (sym (bytes_are ∙ ap roots.root_of after_is))
+        (sym (bytes_are ∙ ap roots.root_spelling after_is))
         (subst (λ (l : ℕ). Represents
-        (committed (loading_puts w number batch) [] (roots.root_of (root_of (loaded w batch))) l c) (loaded w batch))
-        (ap (λ (r : PlainRoot). number_of r.layout) (sym after_is) ∙ sym layout_is)
+        (committed (loading_puts w number batch) [] (roots.root_spelling (root_of (loaded w batch))) l c)
+        (loaded w batch))
+        (ap (λ (r : PlainRoot). layout_number r.layout) (sym after_is) ∙ sym layout_is)
         (represents_loaded c w number batch represents admits fits)))
 
     -- at each moment it represents the warehouse before or after
     pub submit_leaves : (w : Warehouse) (old new : Disk) → (old.keeps_word → Represents c w)
-        → (old.keeps_word → Admits w number batch × (after ≡ root_of (loaded w batch))
+        → (old.keeps_word → AdmitsBatch w number batch × (after ≡ root_of (loaded w batch))
         × (puts ≡ loading_puts w number batch))
         → FitColumns batch
         → Leaves old new (IsOneOf c (committed puts [] bytes layout c))
-        → Leaves old new (λ x. Represents x w ⊎ (Admits w number batch × Represents x (loaded w batch)))
+        → Leaves old new (λ x. Represents x w ⊎ (AdmitsBatch w number batch × Represents x (loaded w batch)))
     submit_leaves w old new represents model fits leaves =
         leaves_weaker (IsOneOf c (committed puts [] bytes layout c))
-        (λ x. Represents x w ⊎ (Admits w number batch × Represents x (loaded w batch))) old new
+        (λ x. Represents x w ⊎ (AdmitsBatch w number batch × Represents x (loaded w batch))) old new
         (λ k x. ⊎_elim (λ e. inl (subst (λ (y : Content). Represents y w) (sym e) (represents k)))
         (λ e. inr (
           (model k).0,
@@ -189,8 +190,8 @@ module _ (c : Content) (puts : List (ℕ × List ℕ)) (bytes : List ℕ) (layou
     -- why the commit was refused
     pub submit_causes : (w : Warehouse) (room : Room) (fault : Fault) → after ≡ root_of (loaded w batch)
         → puts ≡ loading_puts w number batch → Refuses c room puts [] bytes fault
-        → Refuses c room (loading_puts w number batch) [] (roots.root_of (root_of (loaded w batch))) fault
+        → Refuses c room (loading_puts w number batch) [] (roots.root_spelling (root_of (loaded w batch))) fault
     submit_causes w room fault after_is own refuses =
         subst (λ (b : List ℕ). Refuses c room (loading_puts w number batch) [] b fault)
-        (bytes_are ∙ ap roots.root_of after_is)
+        (bytes_are ∙ ap roots.root_spelling after_is)
         (subst (λ (p : List (ℕ × List ℕ)). Refuses c room p [] bytes fault) own refuses)

@@ -20,7 +20,8 @@ use Rattle.warehouse.specs.declared.session.Session.{Session}
 use Rattle.warehouse.specs.Choosing.{ChooseRefuses, views_of}
 use Rattle.warehouse.specs.Migrating.{MigrateRefuses}
 use Rattle.warehouse.specs.Session.{disk_of, AddRefuses, KeepsContent, SubmitRefuses, QueryRefuses}
-use Rattle.warehouse.specs.Running.{Phase, Slots, amid, broken, Becomes, RanAll, Refuses, Replies, StepReplies, During}
+use Rattle.warehouse.specs.Running.{Phase, Slots, amid, broken, Becomes, RanAll, RefusesInPhase, Replies, StepReplies}
+use Rattle.warehouse.specs.Running.{During}
 use Rattle.warehouse.specs.Running.{acknowledged, FoundIn}
 
 -- only a start and a step change slots
@@ -39,7 +40,7 @@ Ends w slots command reply after =
 refused_is : (w : Warehouse) (slots : Slots) (cause : Fault → Type 0) (command : Command) (reply : Reply)
     (after : Phase)
     → ((fault : Fault) → Becomes w command (Refused fault) w) → Leave command slots slots
-    → Refuses cause (amid w slots) reply after → Ends w slots command reply after
+    → RefusesInPhase cause (amid w slots) reply after → Ends w slots command reply after
 refused_is w slots cause command reply after so leave refused =
     ⊎_elim {C = Ends w slots command reply after}
     (λ failed. inr failed.1)

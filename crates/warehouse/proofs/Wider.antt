@@ -16,9 +16,9 @@ use Rattle.object_store.specs.Moments.{leaves_weaker}
 use Rattle.object_store.specs.Room.{Room}
 use Rattle.object_store.specs.Store.{IsOneOf, Refuses}
 use Rattle.object_store.proofs.CallerLemmas.{bytes_after, few_after, layout_after, root_after}
-use Rattle.warehouse_root.specs.Layouts.{number_of}
+use Rattle.warehouse_root.specs.Layouts.{layout_number}
 use Rattle.warehouse_root.specs.Root as roots
-use Rattle.warehouse_root.specs.Root.{PlainRoot, with_addition}
+use Rattle.warehouse_root.specs.Root.{PlainRoot, root_with_addition}
 use Rattle.warehouse_objects.specs.Facts.{AdmitsRows, addition_refusal, number_refusal}
 use Rattle.warehouse_objects.specs.Warehouse.{AreStorable, Warehouse}
 use Rattle.warehouse_objects.specs.Represents.{HasModes, HasRows, Represents, dimension_of, root_of}
@@ -77,8 +77,8 @@ no_modes_put rows more was =
 -- what the commit of an addition puts, and a root
 module _ (c : Content) (puts : List (ℕ × List ℕ)) (bytes : List ℕ) (layout : ℕ) (rows more : DimRows)
     (root after : PlainRoot)
-    (puts_are : puts ≡ widening_puts rows more) (bytes_are : bytes ≡ roots.root_of after)
-    (after_is : after ≡ with_addition root) (layout_is : layout ≡ number_of after.layout) where
+    (puts_are : puts ≡ widening_puts rows more) (bytes_are : bytes ≡ roots.root_spelling after)
+    (after_is : after ≡ root_with_addition root) (layout_is : layout ≡ layout_number after.layout) where
   -- what is kept in memory then
   -- object 5 stays
   modes_kept : bytes_of (committed puts [] bytes layout c) 5 ≡ bytes_of c 5
@@ -101,7 +101,7 @@ module _ (c : Content) (puts : List (ℕ × List ℕ)) (bytes : List ℕ) (layou
   module _ (w : Warehouse) (number : ℕ) where
     -- the root counts the addition
     root_wider : Agrees w rows root → after ≡ root_of (widened w more)
-    root_wider agrees = after_is ∙ ap with_addition (sym agrees.root_is)
+    root_wider agrees = after_is ∙ ap root_with_addition (sym agrees.root_is)
 
     own_puts : Agrees w rows root → puts ≡ widening_puts w.rows more
     own_puts agrees = puts_are ∙ ap (λ (r : DimRows). widening_puts r more) (sym agrees.rows_are)
@@ -115,10 +115,11 @@ module _ (c : Content) (puts : List (ℕ × List ℕ)) (bytes : List ℕ) (layou
         subst (λ (p : List (ℕ × List ℕ)). Represents (committed p [] bytes layout c) (widened w more))
         (sym (own_puts model.1))
         (subst (λ (b : List ℕ). Represents (committed (widening_puts w.rows more) [] b layout c) (widened w more))
-        (sym (bytes_are ∙ ap roots.root_of (root_wider model.1)))
+        (sym (bytes_are ∙ ap roots.root_spelling (root_wider model.1)))
         (subst (λ (l : ℕ). Represents
-        (committed (widening_puts w.rows more) [] (roots.root_of (root_of (widened w more))) l c) (widened w more))
-        (ap (λ (r : PlainRoot). number_of r.layout) (sym (root_wider model.1)) ∙ sym layout_is)
+        (committed (widening_puts w.rows more) [] (roots.root_spelling (root_of (widened w more))) l c)
+        (widened w more))
+        (ap (λ (r : PlainRoot). layout_number r.layout) (sym (root_wider model.1)) ∙ sym layout_is)
         (represents_widened c w more represents
         (subst (λ (r : DimRows). AreStorable (joined r more)) (sym model.1.rows_are) storable) few)))
 
@@ -137,8 +138,8 @@ module _ (c : Content) (puts : List (ℕ × List ℕ)) (bytes : List ℕ) (layou
 
     -- why the commit was refused
     pub wider_causes : (room : Room) (fault : Fault) → Agrees w rows root → Refuses c room puts [] bytes fault
-        → Refuses c room (widening_puts w.rows more) [] (roots.root_of (root_of (widened w more))) fault
+        → Refuses c room (widening_puts w.rows more) [] (roots.root_spelling (root_of (widened w more))) fault
     wider_causes room fault agrees refuses =
         subst (λ (b : List ℕ). Refuses c room (widening_puts w.rows more) [] b fault)
-        (bytes_are ∙ ap roots.root_of (root_wider agrees))
+        (bytes_are ∙ ap roots.root_spelling (root_wider agrees))
         (subst (λ (p : List (ℕ × List ℕ)). Refuses c room p [] bytes fault) (own_puts agrees) refuses)

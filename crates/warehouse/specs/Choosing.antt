@@ -94,7 +94,7 @@ IsChoiceFor w demanded k chosen = IsChosenFrom (choices_for w demanded) k chosen
 abbrev pub ViewsRefuse : {D : Type 0} (g : Ghosts D) → Session D g → Warehouse → List View → Fault → Type 0
 ViewsRefuse g session w views fault =
     stores.Refuses (content_of g session) (room_of session) [] (dropped_ids w views)
-    (roots.root_of (root_of (with_views w views))) fault
+    (roots.root_spelling (root_of (with_views w views))) fault
 
 -- Why a choice is refused where the device has not failed: too many views are asked for, or there is no memory, or its
 -- commit is refused.

@@ -10,7 +10,7 @@ use Rattle.object_store.specs.Shows.{HasNone}
 use Rattle.object_store.specs.Store.{content_of, disk_of, has_failed}
 use Rattle.object_store.specs.declared.store.Store.{Store}
 use Rattle.warehouse_root.specs.declared.layout.Layout.{Layout}
-use Rattle.warehouse_root.specs.Root.{PlainRoot, first_root, root_of}
+use Rattle.warehouse_root.specs.Root.{PlainRoot, first_root, root_spelling}
 use Rattle.warehouse_objects.specs.Lawful.{beginning_puts}
 use Rattle.warehouse_objects.specs.Warehouse.{fresh_in}
 use Rattle.warehouse_objects.specs.Represents.{Represents}
@@ -43,7 +43,7 @@ pub record RefusesToMake {D : Type 0} (g : Ghosts D) (device : D) (layout : Layo
   pub failures : fault ≡ Device → g.failed back ≡ min (g.failed device + 1) (2 ^ 64 - 1)
   pub size : fault ≡ DeviceSize → (g.state device).size < 64
   pub full : fault ≡ Full
-      → LacksRoom (empty_room (g.state device).size) (beginning_puts layout rows) [] (root_of (first_root layout))
+      → LacksRoom (empty_room (g.state device).size) (beginning_puts layout rows) [] (root_spelling (first_root layout))
   pub causes : (fault ≡ AlreadyFormatted)
       ⊎ ((fault ≡ DeviceSize) ⊎ ((fault ≡ Device) ⊎ ((fault ≡ Full) ⊎ (fault ≡ Memory))))
 

@@ -5,7 +5,7 @@ use Rattle.cube_model.specs.declared.fault.Fault.{Fault}
 use Rattle.cube_model.specs.declared.fault.Fault.TheVariants.{Full, Worn}
 use Rattle.object_store.specs.Content.{Content}
 use Rattle.object_store.specs.Disk.{Disk, IsShown}
-use Rattle.warehouse_objects.specs.Facts.{Adds, Change, Facts, facts_in}
+use Rattle.warehouse_objects.specs.Facts.{AddsChange, Change, Facts, facts_in}
 use Rattle.warehouse_objects.specs.Warehouse.{Warehouse}
 use Rattle.cuboid_commits.specs.Keeping.{IsKeptUp, IsReachedOrLarge}
 use Rattle.cuboid_commits.specs.Nexts.{RefusesLeast}
@@ -15,7 +15,7 @@ use Rattle.warehouse.specs.declared.session.Session.{Session}
 -- What a crash may have left: the facts that were acknowledged, or these with the change whose command was running.
 abbrev pub MayBeFound : Facts → Option Change → Warehouse → Type 0
 MayBeFound facts last found =
-    (facts_in found ≡ facts) ⊎ ((change : Change) × (last ≡ Some change) × Adds facts change (facts_in found))
+    (facts_in found ≡ facts) ⊎ ((change : Change) × (last ≡ Some change) × AddsChange facts change (facts_in found))
 
 -- a content represents facts that may be found
 abbrev pub MayRepresent : Facts → Option Change → Content → Type 0

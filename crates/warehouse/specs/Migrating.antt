@@ -11,7 +11,7 @@ use Rattle.warehouse_root.specs.declared.layout.Layout.{Layout}
 use Rattle.warehouse_root.specs.declared.layout.Layout.TheVariants.{First, Second}
 use Rattle.warehouse_root.specs.Modes.{AreModes, kept_modes, modes_spelling}
 use Rattle.warehouse_root.specs.Root as roots
-use Rattle.warehouse_root.specs.Root.{IsRoot, PlainRoot, in_second}
+use Rattle.warehouse_root.specs.Root.{IsRoot, PlainRoot, root_in_second}
 use Rattle.warehouse_objects.specs.Facts.{CanMigrate}
 use Rattle.warehouse_objects.specs.Lawful.{modes_put}
 use Rattle.warehouse_objects.specs.Migration.{migration_refusal}
@@ -32,7 +32,7 @@ RefusesMove content room w fault =
     (migration_refusal w.layout w.batches ≡ Some fault)
     ⊎ ((fault ≡ Memory)
     ⊎ (CanMigrate w
-    × stores.Refuses content room (migration_puts w) [] (roots.root_of (root_of (migrated w))) fault))
+    × stores.Refuses content room (migration_puts w) [] (roots.root_spelling (root_of (migrated w))) fault))
 
 abbrev pub MigrateRefuses : {D : Type 0} (g : Ghosts D) → Session D g → Warehouse → Fault → Type 0
 MigrateRefuses g session w fault = RefusesMove (content_of g session) (room_of session) w fault
@@ -53,7 +53,7 @@ MigratedOrNot w c = Represents c w ⊎ (CanMigrate w × Represents c (migrated w
 pub record IsMigration (root : PlainRoot) (m : Migration) : Type 0 where
   pub are : AreModes m.modes
   pub bytes : m.bytes.items ≡ modes_spelling m.modes
-  pub root_is : m.root ≡ in_second root
+  pub root_is : m.root ≡ root_in_second root
   pub spelled : IsRoot m.root_bytes.items m.root
 
 -- they are those of a warehouse of the first layout

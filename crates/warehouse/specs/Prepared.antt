@@ -17,7 +17,7 @@ use Rattle.warehouse_root.specs.Modes.{AreModes, kept_modes, modes_id, modes_spe
 use Rattle.warehouse_root.specs.Objects.{segment_id}
 use Rattle.warehouse_root.specs.Root.{IsRoot, PlainRoot}
 use Rattle.warehouse_objects.specs.Represents.{root_of, stored}
-use Rattle.warehouse_objects.specs.Facts.{Admits, PassesChecks, refusal_of}
+use Rattle.warehouse_objects.specs.Facts.{AdmitsBatch, PassesChecks, refusal_of}
 use Rattle.warehouse_objects.specs.Warehouse.{Warehouse, loaded, ship_modes_of}
 use Rattle.warehouse.specs.declared.prepared.MoreModes.{MoreModes}
 use Rattle.warehouse.specs.declared.prepared.Prepared.{Prepared}
@@ -89,6 +89,6 @@ ChecksModes w number rows (Err fault) =
 
 -- Such a batch is made ready with the ship modes and the root of the warehouse with it, unless there is no memory.
 abbrev pub Prepares : Warehouse → ℕ → List LineOrder → Result Prepared Fault → Type 0
-Prepares w number rows (Ok p) = Admits w number rows × (p.root ≡ root_of (loaded w rows)) × AreMore w rows p.more
+Prepares w number rows (Ok p) = AdmitsBatch w number rows × (p.root ≡ root_of (loaded w rows)) × AreMore w rows p.more
 Prepares w number rows (Err fault) =
     (refusal_of w number rows ≡ Some fault) ⊎ ((fault ≡ Memory) × PassesChecks w number rows)

@@ -11,12 +11,12 @@ use Rattle.cube_model.specs.Answers.{answer_as_of}
 use Rattle.object_store.specs.Content.{Content}
 use Rattle.object_store.specs.Disk.{Leaves}
 use Rattle.added_rows.specs.Added.{widened}
-use Rattle.warehouse_objects.specs.Facts.{Admits, AdmitsRows, CanMigrate, Facts, in_second, with_next, with_rows}
+use Rattle.warehouse_objects.specs.Facts.{AdmitsBatch, AdmitsRows, CanMigrate, Facts, in_second, with_next, with_rows}
 use Rattle.warehouse_objects.specs.Warehouse.{Warehouse, loaded, migrated, with_views}
 use Rattle.warehouse_objects.specs.Represents.{Represents}
 use Rattle.cuboid_commits.specs.Keeping.{IsKeptUp}
-use Rattle.cuboid_commits.specs.Upkeep.{AreWhole}
-use Rattle.planned_queries.specs.Stepping.{Started, Starts, answer_of, stepped}
+use Rattle.cuboid_commits.specs.Upkeep.{CuboidsAreCurrent}
+use Rattle.planned_queries.specs.Stepping.{Started, Starts, started_answer, stepped}
 use Rattle.warehouse.specs.declared.chosen.Chosen.{Chosen}
 use Rattle.warehouse.specs.declared.command.Command.{Command}
 use Rattle.warehouse.specs.declared.command.Command.TheVariants as asks
@@ -53,17 +53,17 @@ abbrev pub at : Warehouse → Phase
 at w = amid w none_running
 
 -- what a session is at in a phase
-abbrev pub Holds : {D : Type 0} (g : Ghosts D) → Session D g → Phase → Type 0
-Holds g session (amid w slots) = IsAt g session w
-Holds g session broken = has_failed session ≡ true
+abbrev pub IsInPhase : {D : Type 0} (g : Ghosts D) → Session D g → Phase → Type 0
+IsInPhase g session (amid w slots) = IsAt g session w
+IsInPhase g session broken = has_failed session ≡ true
 
 -- a reply, what holds where it is given, and the phase then
 abbrev pub Says : Reply → Type 0 → Phase → Reply → Phase → Type 0
 Says one holds next reply after = (reply ≡ one) × holds × (after ≡ next)
 
 -- a refusal: the device failed, or there is a cause, and the phase is this one
-abbrev pub Refuses : (Fault → Type 0) → Phase → Reply → Phase → Type 0
-Refuses cause next reply after =
+abbrev pub RefusesInPhase : (Fault → Type 0) → Phase → Reply → Phase → Type 0
+RefusesInPhase cause next reply after =
     (fault : Fault) × (reply ≡ says.Refused fault)
     × (((fault ≡ Device) × (after ≡ broken)) ⊎ (cause fault × (after ≡ next)))
 
@@ -75,7 +75,7 @@ StartReplies g old w slots slot as_of query reply new after =
     ⊎ ((slot < most_running)
     × (((s : Started) × Says says.Done (IsAsked w as_of query × Starts w as_of query s × KeepsContent g old new)
     (amid w (slice_set slots slot (Some s))) reply after)
-    ⊎ Refuses (λ fault. QueryRefuses w as_of query fault × KeepsContent g old new) (amid w slots) reply after))
+    ⊎ RefusesInPhase (λ fault. QueryRefuses w as_of query fault × KeepsContent g old new) (amid w slots) reply after))
 
 -- the reply to a step of the query in a slot, if there is one: after as many steps as there were to come its answer,
 -- which empties the slot
@@ -87,21 +87,23 @@ StepReplies g old w slots slot (Some s) reply new after =
     ((left : ℕ)
     × Says says.More ((s.left ≡ left + 1) × KeepsContent g old new)
     (amid w (slice_set slots slot (Some (stepped s left)))) reply after)
-    ⊎ (Says (says.Answer (answer_of s)) ((s.left ≡ 0) × KeepsContent g old new) (amid w (slice_set slots slot None))
+    ⊎ (Says (says.Answer (started_answer s)) ((s.left ≡ 0) × KeepsContent g old new)
+    (amid w (slice_set slots slot None))
     reply after
-    ⊎ Refuses (λ fault. (fault ≡ Memory) × KeepsContent g old new) (amid w slots) reply after)
+    ⊎ RefusesInPhase (λ fault. (fault ≡ Memory) × KeepsContent g old new) (amid w slots) reply after)
 
 -- The reply to a command, with the session then, and the phase after it. A batch is one commit, an addition of
 -- dimension rows one, a choice of cuboids one, and the move from the first layout one; nothing else but upkeep commits.
 abbrev pub Replies : {D : Type 0} (g : Ghosts D) → Session D g → Warehouse → Slots → Command → Reply → Session D g
     → Phase → Type 0
 Replies g old w slots (asks.Submit number batch) reply new after =
-    Says says.Done (Admits w number batch × CommitsOnce g old new) (amid (loaded w batch) slots) reply after
-    ⊎ Refuses (λ fault. SubmitRefuses g old w number batch fault × KeepsContent g old new) (amid w slots) reply after
+    Says says.Done (AdmitsBatch w number batch × CommitsOnce g old new) (amid (loaded w batch) slots) reply after
+    ⊎ RefusesInPhase (λ fault. SubmitRefuses g old w number batch fault × KeepsContent g old new) (amid w slots) reply
+    after
 Replies g old w slots (asks.Query as_of query) reply new after =
     Says (says.Answer (answer_as_of query as_of w.rows w.batches)) (IsAsked w as_of query × KeepsContent g old new)
     (amid w slots) reply after
-    ⊎ Refuses (λ fault. QueryRefuses w as_of query fault × KeepsContent g old new) (amid w slots) reply after
+    ⊎ RefusesInPhase (λ fault. QueryRefuses w as_of query fault × KeepsContent g old new) (amid w slots) reply after
 Replies g old w slots asks.Status reply new after =
     (status : Status)
     × Says (says.Numbers status) (IsStatus w (content_of g old).generation status × KeepsContent g old new)
@@ -109,20 +111,20 @@ Replies g old w slots asks.Status reply new after =
 Replies g old w slots (asks.Choose k) reply new after =
     ((chosen : List Chosen) × Says (says.Chosen chosen) (IsChoice w k chosen × CommitsOnce g old new)
     (amid (with_views w (views_of chosen)) slots) reply after)
-    ⊎ Refuses (λ fault. ChooseRefuses g old w k fault × KeepsContent g old new) (amid w slots) reply after
+    ⊎ RefusesInPhase (λ fault. ChooseRefuses g old w k fault × KeepsContent g old new) (amid w slots) reply after
 Replies g old w slots asks.Upkeep reply new after =
     (v : Warehouse) × IsKeptUp w v
-    × (Says says.Done (AreWhole v) (amid v slots) reply after
-    ⊎ Refuses (UpkeepRefuses g new v) (amid v slots) reply after)
+    × (Says says.Done (CuboidsAreCurrent v) (amid v slots) reply after
+    ⊎ RefusesInPhase (UpkeepRefuses g new v) (amid v slots) reply after)
 Replies g old w slots asks.Audit reply new after =
     Says (says.Audited true) (KeepsContent g old new) (amid w slots) reply after
-    ⊎ Refuses (λ fault. (fault ≡ Memory) × KeepsContent g old new) (amid w slots) reply after
+    ⊎ RefusesInPhase (λ fault. (fault ≡ Memory) × KeepsContent g old new) (amid w slots) reply after
 Replies g old w slots (asks.Add number more) reply new after =
     Says says.Done (AdmitsRows w number more × CommitsOnce g old new) (amid (widened w more) slots) reply after
-    ⊎ Refuses (λ fault. AddRefuses g old w number more fault × KeepsContent g old new) (amid w slots) reply after
+    ⊎ RefusesInPhase (λ fault. AddRefuses g old w number more fault × KeepsContent g old new) (amid w slots) reply after
 Replies g old w slots asks.Migrate reply new after =
     Says says.Done (CanMigrate w × MovesOnce g w old new) (amid (migrated w) slots) reply after
-    ⊎ Refuses (λ fault. MigrateRefuses g old w fault × KeepsContent g old new) (amid w slots) reply after
+    ⊎ RefusesInPhase (λ fault. MigrateRefuses g old w fault × KeepsContent g old new) (amid w slots) reply after
 Replies g old w slots (asks.Start slot as_of query) reply new after =
     StartReplies g old w slots slot as_of query reply new after
 Replies g old w slots (asks.Step slot) reply new after =
@@ -130,7 +132,7 @@ Replies g old w slots (asks.Step slot) reply new after =
 
 -- what an image may be of while a command runs
 abbrev pub During : Warehouse → Command → Content → Type 0
-During w (asks.Submit number batch) c = Represents c w ⊎ (Admits w number batch × Represents c (loaded w batch))
+During w (asks.Submit number batch) c = Represents c w ⊎ (AdmitsBatch w number batch × Represents c (loaded w batch))
 During w (asks.Query as_of query) c = Represents c w
 During w asks.Status c = Represents c w
 During w (asks.Choose k) c = Represents c w
@@ -147,13 +149,13 @@ During w (asks.Step slot) c = Represents c w
 abbrev pub Ran : {D : Type 0} (g : Ghosts D) → Session D g → Phase → Command → Reply → Session D g → Phase → Type 0
 Ran g old (amid w slots) command reply new after =
     Replies g old w slots command reply new after × Leaves (disk_of g old) (disk_of g new) (During w command)
-    × Holds g new after
+    × IsInPhase g new after
 Ran g old broken command reply new after = (reply ≡ says.Refused Failed) × (new ≡ old) × (after ≡ broken)
 
 -- a command was done, and what the session is at then
 abbrev pub Does : {D : Type 0} (g : Ghosts D) → Session D g → Warehouse → Slots → Command → Reply → Session D g → Type 0
 Does g old w slots command reply new = (after : Phase) × Ran g old (amid w slots) command reply new after
-    × Holds g new after
+    × IsInPhase g new after
 
 -- A run of commands, with the session as each of them ended.
 abbrev pub RanAll : {D : Type 0} (g : Ghosts D) → Session D g → Phase → List Command → List Reply → Session D g → Phase

@@ -17,7 +17,8 @@ use Rattle.object_store.specs.Moments.{all_weaker}
 use Rattle.object_store.specs.Room.{Room}
 use Rattle.object_store.specs.Store as stores
 use Rattle.added_rows.specs.Added.{widened, widening_puts}
-use Rattle.warehouse_objects.specs.Facts.{Admits, AdmitsRows, PassesChecks, number_refusal, refusal_of, rows_refusal_of}
+use Rattle.warehouse_objects.specs.Facts.{AdmitsBatch, AdmitsRows, PassesChecks, number_refusal, refusal_of}
+use Rattle.warehouse_objects.specs.Facts.{rows_refusal_of}
 use Rattle.warehouse_objects.specs.Warehouse.{Warehouse, loaded}
 use Rattle.warehouse_objects.specs.Represents.{Represents, root_of}
 use Rattle.warehouse_objects.specs.Lawful.{loading_puts}
@@ -67,9 +68,9 @@ abbrev pub SubmitRefuses : {D : Type 0} (g : Ghosts D) → Session D g → Wareh
 SubmitRefuses g session w number batch fault =
     (refusal_of w number batch ≡ Some fault)
     ⊎ (((fault ≡ Memory) × PassesChecks w number batch)
-    ⊎ (Admits w number batch
+    ⊎ (AdmitsBatch w number batch
     × stores.Refuses (content_of g session) (room_of session) (loading_puts w number batch) []
-    (roots.root_of (root_of (loaded w batch))) fault))
+    (roots.root_spelling (root_of (loaded w batch))) fault))
 
 -- Why an addition of dimension rows is refused where the device has not failed: the first cause of the model, or memory
 -- in the place of one that is found by building the dimensions, or a cause of its commit. The commit puts each
@@ -80,7 +81,7 @@ AddRefuses g session w number more fault =
     ⊎ (((fault ≡ Memory) × (number_refusal w.additions number ≡ None))
     ⊎ (AdmitsRows w number more
     × stores.Refuses (content_of g session) (room_of session) (widening_puts w.rows more) []
-    (roots.root_of (root_of (widened w more))) fault))
+    (roots.root_spelling (root_of (widened w more))) fault))
 
 -- a query that is proper, over batches that are there
 pub record IsAsked (w : Warehouse) (as_of : ℕ) (query : Query) : Type 0 where

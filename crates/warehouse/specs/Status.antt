@@ -4,7 +4,7 @@ use Rattle.cube_model.specs.Admission.{all_rows}
 use Rattle.warehouse_root.specs.Limits.{most_cuboids}
 use Rattle.warehouse_root.specs.declared.cuboid.StoredCuboid.{StoredCuboid}
 use Rattle.lattice.specs.Views.{index_of}
-use Rattle.warehouse_objects.specs.Warehouse.{Cuboid, Warehouse, cells_in}
+use Rattle.warehouse_objects.specs.Warehouse.{Cuboid, Warehouse, cell_count}
 use Rattle.warehouse.specs.declared.status.Status.{Status}
 
 -- what is said of a stored cuboid
@@ -12,7 +12,7 @@ pub record IsSaidOf (cuboid : Cuboid) (said : StoredCuboid) : Type 0 where
   pub view : said.view ≡ index_of cuboid.view
   pub mark : said.mark ≡ cuboid.mark
   pub runs : said.runs ≡ length cuboid.runs
-  pub cells : said.cells ≡ cells_in cuboid.runs
+  pub cells : said.cells ≡ cell_count cuboid.runs
 
 -- what is at the place of a cuboid, and that a place without one is empty
 abbrev pub IsSaidAt : Option Cuboid → Option StoredCuboid → Type 0

@@ -2,7 +2,7 @@
 use Rattle.std.specs.Prelude.{◌≡◌, ◌⊎◌, ℕ, ◌+◌, Option, Some, None}
 use Rattle.cube_model.specs.declared.fault.Fault.{Fault}
 use Rattle.cube_model.specs.declared.fault.Fault.TheVariants.{Device, Memory}
-use Rattle.planned_queries.specs.Stepping.{IsRunning, Started, answer_of, stepped}
+use Rattle.planned_queries.specs.Stepping.{IsRunning, Started, started_answer, stepped}
 use Rattle.warehouse.specs.declared.stepping.Stepped.{Stepped}
 use Rattle.warehouse.specs.declared.stepping.Stepped.TheVariants.{More, Done, Refused}
 
@@ -16,5 +16,5 @@ refused_by (Refused running fault) = Some fault
 -- before
 abbrev pub StepsTo : Started → Stepped → Type 0
 StepsTo s (More running) = (left : ℕ) × (s.left ≡ left + 1) × IsRunning running (stepped s left)
-StepsTo s (Done found) = (s.left ≡ 0) × (found ≡ answer_of s)
+StepsTo s (Done found) = (s.left ≡ 0) × (found ≡ started_answer s)
 StepsTo s (Refused running fault) = IsRunning running s × ((fault ≡ Memory) ⊎ (fault ≡ Device))

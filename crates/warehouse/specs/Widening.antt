@@ -7,7 +7,7 @@ use Rattle.added_rows.specs.Added.{widened, widening_puts}
 use Rattle.object_store.specs.Commit.{ArePuts}
 use Rattle.object_store.specs.Content.{Content}
 use Rattle.object_store.specs.Disk.{Leaves}
-use Rattle.warehouse_root.specs.Root.{IsRoot, PlainRoot, with_addition}
+use Rattle.warehouse_root.specs.Root.{IsRoot, PlainRoot, root_with_addition}
 use Rattle.warehouse_objects.specs.Facts.{AdmitsRows}
 use Rattle.warehouse_objects.specs.Warehouse.{AreStorable, Warehouse}
 use Rattle.warehouse_objects.specs.Represents.{Represents}
@@ -26,7 +26,7 @@ pub record IsWidening (rows : DimRows) (root : PlainRoot) (more : DimRows) (wide
   pub dims_are : wider.dims.value ≡ joined rows more
   pub storable : AreStorable (joined rows more)
   pub allowed : addition_cause rows more ≡ None
-  pub root_is : wider.root ≡ with_addition root
+  pub root_is : wider.root ≡ root_with_addition root
   pub spelled : IsRoot wider.root_bytes.items wider.root
   pub objects_are : shown_puts wider.objects.items ≡ widening_puts rows more
   pub puts : ArePuts (widening_puts rows more)

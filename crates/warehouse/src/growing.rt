@@ -15,7 +15,7 @@ ghost use Rattle.warehouse.specs.Refusing.{is_of_device};
 ghost use Rattle.warehouse.specs.Session.{Breaks, CommitsOnce, IsAt, KeepsContent, SubmitRefuses, content_of};
 ghost use Rattle.warehouse.specs.Session.{device_of, disk_of, has_failed};
 ghost use Rattle.warehouse.specs.Submitting.{WithOrWithout};
-ghost use Rattle.warehouse_objects.specs.Facts.{Admits};
+ghost use Rattle.warehouse_objects.specs.Facts.{AdmitsBatch};
 ghost use Rattle.warehouse_objects.specs.Represents.{Represents, root_of};
 ghost use Rattle.warehouse_objects.specs.Warehouse.{Warehouse, loaded, ship_modes_of};
 ghost use Rattle.warehouse_root.specs.declared.layout.Layout.TheVariants.{Second};
@@ -241,7 +241,8 @@ impl<D: Sectors> Session<D> {
         // Then with it.
         ensures ok { OnOk result ((w : Warehouse) (rows : List LineOrder) → IsAt D.Sectors self.old w
             → Grows self.old rows batch.now
-            → IsAt D.Sectors self.new (loaded w rows) × (D.keeps_word (device_of self.new) → Admits w number rows)) }
+            → IsAt D.Sectors self.new (loaded w rows)
+            × (D.keeps_word (device_of self.new) → AdmitsBatch w number rows)) }
 
         // After a refusal, unless the device failed, as it was at each moment.
         ensures refused { IfErr result (λ fault. fault ≢ Device → (w : Warehouse) → IsAt D.Sectors self.old w →

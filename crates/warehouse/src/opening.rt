@@ -2,10 +2,10 @@
 ghost use Rattle.std.specs.Prelude.{◌≡◌, ◌≢◌, ◌⊎◌, ◌+◌, ◌-◌, ◌^◌, min, true, false, Option, IfOk, IfErr, IsErrOf, OnOk};
 ghost use Rattle.cube_model.specs.declared.fault.Fault.TheVariants.{BadLayout, Device, Memory, NotFormatted};
 ghost use Rattle.object_store.specs.Disk.{disk, AllShow, Each, IsBlank, IsShown, Leaves};
-ghost use Rattle.object_store.specs.Found.{Explains, is_of_layout};
+ghost use Rattle.object_store.specs.Found.{ExplainsRefusal, is_of_layout};
 ghost use Rattle.object_store.specs.Shows.{HasNone};
 ghost use Rattle.object_store.specs.Store as stores;
-ghost use Rattle.warehouse_root.specs.Layouts.{number_of};
+ghost use Rattle.warehouse_root.specs.Layouts.{layout_number};
 ghost use Rattle.warehouse_root.specs.Root.{IsRoot};
 ghost use Rattle.warehouse_objects.specs.Facts.{Change, Facts};
 ghost use Rattle.warehouse_objects.specs.Warehouse.{Warehouse};
@@ -55,7 +55,7 @@ pub fn open<D: Sectors>(alloc: Global, device: D) -> Result<Session<D>, (Fault, 
     ensures device { IfErr result (λ e. e.0 ≡ Device → D.failed e.1 ≡ min (D.failed device + 1) (2 ^ 64 - 1)) }
     ensures unformatted { IfErr result (λ e. e.0 ≡ NotFormatted → D.keeps_word e.1 → HasNone (D.state device).reads) }
     ensures explained { IfErr result (λ e. e.0 ≢ BadLayout → D.keeps_word e.1
-        → Explains e.0 (D.state device).size (D.state device).reads) }
+        → ExplainsRefusal e.0 (D.state device).size (D.state device).reads) }
     ensures blank { IfErr result (λ e. e.0 ≡ BadLayout → D.keeps_word e.1 → Each (disk D.Sectors device) IsBlank
         → HasNone (D.state device).reads → ⊥) }
     ensures causes { IfErr result (λ e. (e.0 ≡ Memory) ⊎ ((e.0 ≡ Device) ⊎ (is_of_layout e.0 ≡ true))) }
@@ -104,7 +104,7 @@ pub fn open_as_is<D: Sectors>(alloc: Global, device: D) -> Result<Session<D>, (F
     ensures device { IfErr result (λ e. e.0 ≡ Device → D.failed e.1 ≡ min (D.failed device + 1) (2 ^ 64 - 1)) }
     ensures unformatted { IfErr result (λ e. e.0 ≡ NotFormatted → D.keeps_word e.1 → HasNone (D.state device).reads) }
     ensures explained { IfErr result (λ e. e.0 ≢ BadLayout → D.keeps_word e.1
-        → Explains e.0 (D.state device).size (D.state device).reads) }
+        → ExplainsRefusal e.0 (D.state device).size (D.state device).reads) }
     ensures blank { IfErr result (λ e. e.0 ≡ BadLayout → D.keeps_word e.1 → Each (disk D.Sectors device) IsBlank
         → HasNone (D.state device).reads → ⊥) }
     ensures causes { IfErr result (λ e. (e.0 ≡ Memory) ⊎ ((e.0 ≡ Device) ⊎ (is_of_layout e.0 ≡ true))) }
@@ -182,7 +182,7 @@ fn read<D: Sectors>(alloc: Global, store: &mut Store<D>) -> Result<Kept, Fault>
 // The root of a store that has just the objects that it asks for.
 fn known_root<D: Sectors>(alloc: Global, store: &Store<D>) -> Result<Root, Fault>
     ensures ok { IfOk result (IsRoot (stores.content_of D.Sectors store.now).root) }
-    ensures layout { IfOk result (λ root. (stores.content_of D.Sectors store.now).layout ≡ number_of root.layout) }
+    ensures layout { IfOk result (λ root. (stores.content_of D.Sectors store.now).layout ≡ layout_number root.layout) }
     ensures found { IfOk result (λ root. (w : Warehouse) → Represents (stores.content_of D.Sectors store.now) w
         → root ≡ root_of w) }
     ensures readable { IsErrOf result BadLayout → D.keeps_word (stores.device_of store.now)

@@ -4,7 +4,7 @@ ghost use Rattle.cube_model.specs.declared.fault.Fault.TheVariants.{Memory};
 ghost use Rattle.cube_model.specs.Limits.{most_batch_rows, most_batches};
 ghost use Rattle.batch_admission.specs.Accepted.{HasAccepted};
 ghost use Rattle.warehouse_root.specs.declared.layout.Layout.{Layout};
-ghost use Rattle.warehouse_root.specs.Root.{AreProperTotals, IsProper};
+ghost use Rattle.warehouse_root.specs.Root.{AreProperTotals, IsProperRoot};
 ghost use Rattle.object_store.specs.Commit.{ArePuts};
 ghost use Rattle.object_store.specs.Content.{Content};
 ghost use Rattle.warehouse_objects.specs.Lawful.{beginning_puts};
@@ -41,7 +41,7 @@ pub(crate) struct Prepared {
 }
 
 impl Prepared {
-    ghost use Rattle.warehouse_root.specs.Root.{IsRoot, with_batch};
+    ghost use Rattle.warehouse_root.specs.Root.{IsRoot, root_with_batch};
 
     // A segment of so many rows, ship modes, and the root with the rows and their totals.
     pub(crate) fn with_segment(
@@ -57,7 +57,7 @@ impl Prepared {
         requires totals { AreProperTotals totals }
         ensures segment { IfOk result (λ p. p.segment.items ≡ segment.items) }
         ensures more { IfOk result (λ p. p.more ≡ more) }
-        ensures root { IfOk result (λ p. p.root ≡ with_batch rows totals root.now) }
+        ensures root { IfOk result (λ p. p.root ≡ root_with_batch rows totals root.now) }
         ensures spelled { IfOk result (λ p. IsRoot p.root_bytes.items p.root) }
         ensures memory { IfErr result (λ fault. fault ≡ Memory) }
     {
@@ -123,7 +123,7 @@ pub(crate) fn cause_of(fault: Fault) -> Fault
 pub(crate) fn kept_is_represented(dims: &Rc<Dims>, root: &Root)
     ensures dims { AreStorable dims.now.value }
     ensures puts { (layout : Layout) → ArePuts (beginning_puts layout dims.now.value) }
-    ensures root { IsProper root.now }
+    ensures root { IsProperRoot root.now }
     ensures agrees { (c : Content) (w : Warehouse) (modes : List (List ℕ)) → IsLoaded c dims.now.value modes root.now
         → Represents c w → Agrees w dims.now.value root.now }
     ensures laid { (c : Content) (w : Warehouse) (modes : List (List ℕ)) → IsLoaded c dims.now.value modes root.now

@@ -5,7 +5,7 @@ ghost use Rattle.object_store.specs.Disk.{Leaves};
 ghost use Rattle.warehouse_objects.specs.Warehouse.{Warehouse};
 ghost use Rattle.warehouse.specs.Session.{has_failed, device_of, disk_of, IsAt};
 ghost use Rattle.warehouse.specs.declared.command.Command.TheVariants as asks;
-ghost use Rattle.warehouse.specs.Running.{Phase, Slots, at, broken, Does, Holds, Ran, RanAll, FoundIn};
+ghost use Rattle.warehouse.specs.Running.{Phase, Slots, at, broken, Does, IsInPhase, Ran, RanAll, FoundIn};
 ghost use Rattle.warehouse.specs.Slots.{AreOf, AreRunning, DoesWith};
 
 use crate::command::{Command, Reply};
@@ -29,7 +29,7 @@ pub fn run<D: Sectors>(
     ensures ran { IfOk result (λ replies. (w : Warehouse) → IsAt D.Sectors session.old w
         → D.keeps_word (device_of session.new) →
         (after : Phase) × RanAll D.Sectors session.old (at w) commands.now replies.items session.new after
-        × Holds D.Sectors session.new after) }
+        × IsInPhase D.Sectors session.new after) }
 
     // At each moment a crash leaves what the commands before had made, or what one more may have made.
     ensures found { IfOk result (λ replies. (w : Warehouse) → IsAt D.Sectors session.old w

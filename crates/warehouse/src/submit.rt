@@ -10,7 +10,7 @@ ghost use Rattle.cube_model.specs.declared.fault.Fault.TheVariants.{Device, Fail
 ghost use Rattle.cube_model.specs.declared.rows.LineOrder.{LineOrder};
 ghost use Rattle.wire.specs.Limits.{most_objects};
 ghost use Rattle.object_store.specs.Disk.{Leaves};
-ghost use Rattle.warehouse_objects.specs.Facts.{Admits, PassesChecks, refusal_of};
+ghost use Rattle.warehouse_objects.specs.Facts.{AdmitsBatch, PassesChecks, refusal_of};
 ghost use Rattle.warehouse_objects.specs.Warehouse.{Warehouse, loaded};
 ghost use Rattle.warehouse_objects.specs.Represents.{Represents, root_of};
 ghost use Rattle.warehouse.specs.Growing.{Grows};
@@ -19,7 +19,7 @@ ghost use Rattle.warehouse.specs.Prepared.{IsPrepared, prepared_puts};
 ghost use Rattle.warehouse.specs.Refusing.{is_of_device};
 ghost use Rattle.warehouse.specs.Session.{has_failed, content_of, device_of, disk_of, IsAt, Breaks, CommitsOnce};
 ghost use Rattle.warehouse.specs.Session.{KeepsContent, SubmitRefuses};
-ghost use Rattle.warehouse.specs.Submitting.{IsReady, WithOrWithout};
+ghost use Rattle.warehouse.specs.Submitting.{BatchIsReady, WithOrWithout};
 
 use crate::growing::GrowingBatch;
 use crate::prepared::{Prepared, admission_of, cause_of, kept_is_represented};
@@ -41,12 +41,12 @@ impl<D: Sectors> Session<D> {
         // A crash at any point leaves the warehouse as it was, or with this batch if it is admissible.
         ensures leaves { (w : Warehouse) → IsAt D.Sectors self.old w
             → Leaves (disk_of D.Sectors self.old) (disk_of D.Sectors self.new)
-            (λ c. Represents c w ⊎ (Admits w number rows.now × Represents c (loaded w rows.now))) }
+            (λ c. Represents c w ⊎ (AdmitsBatch w number rows.now × Represents c (loaded w rows.now))) }
 
         // Then with it.
         ensures ok { OnOk result ((w : Warehouse) → IsAt D.Sectors self.old w
             → IsAt D.Sectors self.new (loaded w rows.now)
-            × (D.keeps_word (device_of self.new) → Admits w number rows.now)) }
+            × (D.keeps_word (device_of self.new) → AdmitsBatch w number rows.now)) }
 
         // After a refusal, unless the device failed, as it was at each moment.
         ensures refused { IfErr result (λ fault. fault ≢ Device → (w : Warehouse) → IsAt D.Sectors self.old w →
@@ -83,19 +83,21 @@ impl<D: Sectors> Session<D> {
         requires fine { has_failed self.old ≡ false }
         requires few { length (content_of D.Sectors self.old).objects + 2 ≤ most_objects }
         requires ready { (rows : List LineOrder) × IsPrepared self.old.root number rows prepared }
-        ensures leaves { (w : Warehouse) (rows : List LineOrder) → IsReady D.Sectors self.old w number rows prepared
+        ensures leaves { (w : Warehouse) (rows : List LineOrder)
+            → BatchIsReady D.Sectors self.old w number rows prepared
             → Leaves (disk_of D.Sectors self.old) (disk_of D.Sectors self.new) (WithOrWithout w number rows) }
         ensures ok { OnOk result ((w : Warehouse) (rows : List LineOrder)
-            → IsReady D.Sectors self.old w number rows prepared
-            → IsAt D.Sectors self.new (loaded w rows) × (D.keeps_word (device_of self.new) → Admits w number rows)) }
+            → BatchIsReady D.Sectors self.old w number rows prepared
+            → IsAt D.Sectors self.new (loaded w rows)
+            × (D.keeps_word (device_of self.new) → AdmitsBatch w number rows)) }
         ensures refused { IfErr result (λ fault. fault ≢ Device → (w : Warehouse) (rows : List LineOrder)
-            → IsReady D.Sectors self.old w number rows prepared
+            → BatchIsReady D.Sectors self.old w number rows prepared
             → IsAt D.Sectors self.new w
             × Leaves (disk_of D.Sectors self.old) (disk_of D.Sectors self.new) (λ c. Represents c w)) }
         ensures once { OnOk result (CommitsOnce D.Sectors self.old self.new) }
         ensures kept { IfErr result (λ fault. fault ≢ Device → KeepsContent D.Sectors self.old self.new) }
         ensures causes { IfErr result (λ fault. fault ≢ Device → (w : Warehouse) (rows : List LineOrder)
-            → IsReady D.Sectors self.old w number rows prepared
+            → BatchIsReady D.Sectors self.old w number rows prepared
             → D.keeps_word (device_of self.new) → SubmitRefuses D.Sectors self.old w number rows fault) }
         ensures failed { IsErrOf result Failed → ⊥ }
         ensures device { IsErrOf result Device → Breaks D.Sectors self.old self.new }

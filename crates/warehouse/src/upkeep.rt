@@ -6,7 +6,7 @@ ghost use Rattle.warehouse_objects.specs.Warehouse.{Warehouse};
 ghost use Rattle.warehouse_objects.specs.Represents.{Represents};
 ghost use Rattle.stored_cuboids.specs.Merged.{IsSound};
 ghost use Rattle.cuboid_commits.specs.Keeping.{IsKeptUp};
-ghost use Rattle.cuboid_commits.specs.Upkeep.{AreWhole};
+ghost use Rattle.cuboid_commits.specs.Upkeep.{CuboidsAreCurrent};
 ghost use Rattle.warehouse.specs.Session.{Breaks, IsAt, KeepsContent, device_of, disk_of, has_failed};
 ghost use Rattle.warehouse.specs.Upkeep.{IsLaidAt, UpkeepRefuses};
 
@@ -37,7 +37,7 @@ impl<D: Sectors> Session<D> {
         // Then each stored cuboid holds all batches.
         ensures ok { OnOk result ((w : Warehouse) → IsAt D.Sectors self.old w → (v : Warehouse) × IsKeptUp w v
             × IsAt D.Sectors self.new v
-            × (D.keeps_word (device_of self.new) → AreWhole v)) }
+            × (D.keeps_word (device_of self.new) → CuboidsAreCurrent v)) }
 
         // When each error comes.
         ensures refused { IfErr result (λ fault. fault ≢ Device → (w : Warehouse) → IsAt D.Sectors self.old w

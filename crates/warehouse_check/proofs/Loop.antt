@@ -15,7 +15,7 @@ use Rattle.warehouse_objects.specs.Represents.{IsLaidOut}
 use Rattle.warehouse_objects.specs.Warehouse.{Warehouse}
 use Rattle.warehouse_objects.proofs.Batches.{get_within, in_order_more, in_order_none, slice_get_snoc, some_one}
 use Rattle.warehouse_objects.proofs.Batches.{take_next}
-use Rattle.warehouse_check.specs.Checked.{AreBatches, IsNextBatch, IsSegmentAt}
+use Rattle.warehouse_check.specs.Checked.{AreBatches, IsCheckedBatch, IsSegmentAt}
 use Rattle.warehouse_check.proofs.Segments.{own_rows}
 
 -- so many batches were taken in; where the device keeps its word they are those of the content
@@ -56,7 +56,8 @@ segments_more c batches rows so_far next before batch is =
 -- one batch more
 pub so_far_next : (keeps after : Type 0) (c now : Content) (dimensions : DimRows) (counts : List ℕ) (index said : ℕ)
     (old new : Accepted) → (after → keeps) → (after → now ≡ c) → slice_get counts index ≡ Some said
-    → (so_far : AreSoFar keeps c dimensions counts index old) → IsNextBatch after now dimensions so_far.batches said new
+    → (so_far : AreSoFar keeps c dimensions counts index old)
+    → IsCheckedBatch after now dimensions so_far.batches said new
     → AreSoFar after c dimensions counts (index + 1) new
 so_far_next keeps after c now dimensions counts index said old new word same here so_far next =
     let rows = next.rows in
@@ -80,7 +81,7 @@ so_far_next keeps after c now dimensions counts index said old new word same her
 -- and it is that of the warehouse of the content
 pub own_next : (after : Type 0) (c now : Content) (w : Warehouse) (dimensions : DimRows) (index said : ℕ)
     (new : Accepted) → IsLaidOut c w → now ≡ c → after → index < length w.batches
-    → IsNextBatch after now dimensions (take index w.batches) said new → HasAccepted new (take (index + 1) w.batches)
+    → IsCheckedBatch after now dimensions (take index w.batches) said new → HasAccepted new (take (index + 1) w.batches)
 own_next after c now w dimensions index said new laid same k within next =
     let got = get_within w.batches index within in
     let length_is : length (take index w.batches) ≡ index = length-take-le index w.batches (omega (arith, within)) in

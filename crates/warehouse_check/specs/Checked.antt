@@ -9,7 +9,7 @@ use Rattle.column_segment.specs.Segment.{IsSegment}
 use Rattle.batch_admission.specs.Accepted.{Accepted, HasAccepted}
 use Rattle.batch_admission.specs.Totals.{totals_of}
 use Rattle.warehouse_root.specs.Objects.{segment_id}
-use Rattle.warehouse_root.specs.Root.{IsProper, PlainRoot}
+use Rattle.warehouse_root.specs.Root.{IsProperRoot, PlainRoot}
 use Rattle.warehouse_objects.specs.Warehouse.{AreInOrder, AreStorable, IsNext}
 use Rattle.warehouse_objects.specs.Represents.{HasItsObjects, stored}
 use Rattle.warehouse_objects.specs.Loaded.{IsLoaded}
@@ -41,7 +41,7 @@ pub record IsTakenIn (dimensions : DimRows) (batches : List (List LineOrder)) (n
   pub represents : HasAccepted new (batches ++ rows ∷ [])
 
 -- and where the device keeps its word, they are the segment of their number
-pub record IsNextBatch (keeps : Type 0) (c : Content) (dimensions : DimRows) (batches : List (List LineOrder))
+pub record IsCheckedBatch (keeps : Type 0) (c : Content) (dimensions : DimRows) (batches : List (List LineOrder))
     (said : ℕ) (new : Accepted) : Type 0 where
   pub rows : List LineOrder
   pub taken : IsTakenIn dimensions batches (length batches + 1) rows said new
@@ -55,6 +55,6 @@ pub record IsChecked (c : Content) : Type 0 where
   pub root : PlainRoot
   pub loaded : IsLoaded c rows modes root
   pub storable : AreStorable rows
-  pub proper : IsProper root
+  pub proper : IsProperRoot root
   pub objects : HasItsObjects c root
   pub has : HasBatches c rows root

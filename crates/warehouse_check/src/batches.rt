@@ -10,7 +10,7 @@ ghost use Rattle.batch_admission.specs.Accepted.{HasAccepted};
 ghost use Rattle.warehouse_objects.specs.Warehouse.{Warehouse};
 ghost use Rattle.warehouse_objects.specs.Reads.{ReadsOnly};
 ghost use Rattle.warehouse_objects.specs.Represents.{IsLaidOut, root_of, stored};
-ghost use Rattle.warehouse_check.specs.Checked.{HasBatches, IsNextBatch, IsSegmentAt};
+ghost use Rattle.warehouse_check.specs.Checked.{HasBatches, IsCheckedBatch, IsSegmentAt};
 
 use crate::finding::Finding;
 use crate::rows::take_in;
@@ -66,7 +66,7 @@ fn check_batch<D: Sectors>(
     requires few { admission.old.count < most_batches }
     ensures sound { IfOk result (λ found. found ≡ None → (batches : List (List LineOrder))
         → HasAccepted admission.old batches
-        → IsNextBatch (D.keeps_word (device_of store.new)) (content_of D.Sectors store.old) dims.now batches said
+        → IsCheckedBatch (D.keeps_word (device_of store.new)) (content_of D.Sectors store.old) dims.now batches said
         admission.new) }
     ensures found { IfOk result (λ found. IsTrue (is_some found) → D.keeps_word (device_of store.new)
         → (w : Warehouse) (before : ℕ) (batch : List LineOrder)

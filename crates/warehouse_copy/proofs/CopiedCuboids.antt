@@ -8,12 +8,12 @@ use Rattle.object_store.specs.Disk.{Disk, Leaves}
 use Rattle.object_store.specs.Moments.{leaves_then, leaves_weaker}
 use Rattle.warehouse_objects.specs.Facts.{Facts, facts_in}
 use Rattle.warehouse_objects.specs.Represents.{Represents, said_of}
-use Rattle.warehouse_objects.specs.Warehouse.{Cuboid, Warehouse, in_order, with_views}
+use Rattle.warehouse_objects.specs.Warehouse.{Cuboid, Warehouse, views_in_order, with_views}
 use Rattle.cuboid_commits.specs.Keeping.{AreKeptOn, IsKeptUp}
 use Rattle.cuboid_commits.proofs.CallerLemmas.{kept_same}
 use Rattle.warehouse.specs.declared.status.Status.{Status}
 use Rattle.warehouse.specs.Status.{IsStatus}
-use Rattle.warehouse_copy.specs.Copied.{AreSaidOf, HoldsPart, IsCopy, IsPart, views_of, with_first}
+use Rattle.warehouse_copy.specs.Copied.{AreSaidOf, HoldsPart, IsCopy, IsPart, stored_views_of, with_first}
 use Rattle.warehouse_copy.proofs.Parts.{holds_first}
 
 kept_views : (olds news : List Cuboid) → AreKeptOn olds news
@@ -43,13 +43,13 @@ module _ (w : Warehouse) (views : List View) (v : Warehouse)
   rows_are : v.rows ≡ w.rows
   rows_are = ap (λ (facts : Facts). facts.rows) kept.facts
 
-  pub is_copy : views ≡ views_of w → IsCopy w v
+  pub is_copy : views ≡ stored_views_of w → IsCopy w v
   is_copy same = record {
     layout = layout_is;
     rows = rows_are;
     batches = batches_are ∙ take_all (length w.batches) w.batches (omega arith);
     views = kept_views (with_views (with_first w (length w.batches)) views).cuboids v.cuboids kept.cuboids
-        ∙ new_views (in_order w.layout views) ∙ ap (in_order w.layout) same;
+        ∙ new_views (views_in_order w.layout views) ∙ ap (views_in_order w.layout) same;
   }
 
   pub is_part : IsPart w v

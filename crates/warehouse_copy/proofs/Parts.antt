@@ -10,7 +10,7 @@ use Rattle.cube_model.specs.declared.rows.LineOrder.{LineOrder}
 use Rattle.object_store.specs.Content.{Content}
 use Rattle.object_store.specs.Disk.{Disk, Leaves}
 use Rattle.object_store.specs.Moments.{leaves_weaker}
-use Rattle.warehouse_objects.specs.Facts.{Admits, refusal_in, refusal_of}
+use Rattle.warehouse_objects.specs.Facts.{AdmitsBatch, refusal_in, refusal_of}
 use Rattle.warehouse_objects.specs.Represents.{Represents}
 use Rattle.warehouse_objects.specs.Warehouse.{Warehouse, fresh_in, loaded}
 use Rattle.warehouse_objects.proofs.Batches.{get_within, some_one, take_next}
@@ -58,11 +58,11 @@ module _ (w : Warehouse) where
   module _ (before : ℕ) (rows : List LineOrder) (here : slice_get w.batches before ≡ Some rows) where
     pub submit_leaves : (old new : Disk)
         → Leaves old new (λ c. Represents c (with_first w before)
-        ⊎ (Admits (with_first w before) (before + 1) rows × Represents c (loaded (with_first w before) rows)))
+        ⊎ (AdmitsBatch (with_first w before) (before + 1) rows × Represents c (loaded (with_first w before) rows)))
         → Leaves old new (HoldsPart w)
     submit_leaves old new leaves =
         leaves_weaker (λ (c : Content). Represents c (with_first w before)
-        ⊎ (Admits (with_first w before) (before + 1) rows × Represents c (loaded (with_first w before) rows)))
+        ⊎ (AdmitsBatch (with_first w before) (before + 1) rows × Represents c (loaded (with_first w before) rows)))
         (HoldsPart w) old new
         (λ k c one. ⊎_elim (λ represents. holds_first before c represents)
         (λ both. holds_first (before + 1) c

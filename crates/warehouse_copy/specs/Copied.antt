@@ -5,23 +5,23 @@ use Rattle.cube_model.specs.declared.fault.Fault.TheVariants.{AlreadyFormatted, 
 use Rattle.lattice.specs.declared.view.View.{View}
 use Rattle.object_store.specs.Content.{Content}
 use Rattle.warehouse_objects.specs.Represents.{Represents}
-use Rattle.warehouse_objects.specs.Warehouse.{Cuboid, Warehouse, fresh_in, in_order}
+use Rattle.warehouse_objects.specs.Warehouse.{Cuboid, Warehouse, fresh_in, views_in_order}
 use Rattle.warehouse_root.specs.Limits.{most_cuboids}
 use Rattle.warehouse_root.specs.declared.cuboid.StoredCuboid.{StoredCuboid}
 use Rattle.cuboid_commits.specs.Keeping.{IsLeastTooLarge}
-use Rattle.cuboid_commits.specs.Upkeep.{AreWhole}
+use Rattle.cuboid_commits.specs.Upkeep.{CuboidsAreCurrent}
 use Rattle.warehouse.specs.Status.{IsSaidAt}
 
 -- the views of the stored cuboids
-abbrev pub views_of : Warehouse → List View
-views_of w = map (λ cuboid. cuboid.view) w.cuboids
+abbrev pub stored_views_of : Warehouse → List View
+stored_views_of w = map (λ cuboid. cuboid.view) w.cuboids
 
 -- the layout, the dimension rows and all batches of a warehouse, and the cuboids of its views
 pub record IsCopy (w copy : Warehouse) : Type 0 where
   pub layout : copy.layout ≡ w.layout
   pub rows : copy.rows ≡ w.rows
   pub batches : copy.batches ≡ w.batches
-  pub views : views_of copy ≡ in_order w.layout (views_of w)
+  pub views : stored_views_of copy ≡ views_in_order w.layout (stored_views_of w)
 
 -- the dimension rows of a warehouse, and its first so many batches
 pub record IsPart (w part : Warehouse) : Type 0 where
@@ -55,4 +55,4 @@ pub record AreSaidOf (stored : List Cuboid) (places : List (Option StoredCuboid)
 
 -- each stored cuboid holds all batches, or the grouping by its view has too many cells
 abbrev pub AreBroughtOn : Warehouse → Type 0
-AreBroughtOn w = AreWhole w ⊎ ((number : ℕ) × IsLeastTooLarge w number × (w.target ≡ length w.batches))
+AreBroughtOn w = CuboidsAreCurrent w ⊎ ((number : ℕ) × IsLeastTooLarge w number × (w.target ≡ length w.batches))

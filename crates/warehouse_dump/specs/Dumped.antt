@@ -11,27 +11,27 @@ use Rattle.table_texts.specs.Spellable.{is_spellable}
 use Rattle.table_texts.specs.Texts.{facts_text}
 
 -- the lines of some fact rows were written, all of them, and lines can spell the rows
-pub record AreWritten (rows : List LineOrder) (old new : Option (List ℕ)) : Type 0 where
+pub record RowsAreWritten (rows : List LineOrder) (old new : Option (List ℕ)) : Type 0 where
   pub spellable : list_all is_spellable rows ≡ true
   pub lines : Appends old new (facts_text rows)
 
 -- Why the rows of a batch are not written. There is no memory, or the device fails, or a line can spell one of them in
 -- no way, and then nothing is written; or the writer fails after a beginning of their lines
-abbrev pub RefusesRows : List LineOrder → Option (List ℕ) → Option (List ℕ) → Fault → Type 0
-RefusesRows rows old new Memory = Keeps old new
-RefusesRows rows old new Device = Keeps old new
-RefusesRows rows old new BadLayout = (list_all is_spellable rows ≡ false) × Keeps old new
-RefusesRows rows old new Output = (list_all is_spellable rows ≡ true) × AppendsBeginning old new (facts_text rows)
-RefusesRows rows old new _ = ⊥
+abbrev pub RowsAreRefused : List LineOrder → Option (List ℕ) → Option (List ℕ) → Fault → Type 0
+RowsAreRefused rows old new Memory = Keeps old new
+RowsAreRefused rows old new Device = Keeps old new
+RowsAreRefused rows old new BadLayout = (list_all is_spellable rows ≡ false) × Keeps old new
+RowsAreRefused rows old new Output = (list_all is_spellable rows ≡ true) × AppendsBeginning old new (facts_text rows)
+RowsAreRefused rows old new _ = ⊥
 
 -- Why the batch of a number is not written. Where there is none, nothing is written, and the fault says so, unless
 -- there is no memory or the device fails
-abbrev pub RefusesBatch : Option (List LineOrder) → Option (List ℕ) → Option (List ℕ) → Fault → Type 0
-RefusesBatch (Some rows) old new fault = RefusesRows rows old new fault
-RefusesBatch None old new NoSuchPrefix = Keeps old new
-RefusesBatch None old new Memory = Keeps old new
-RefusesBatch None old new Device = Keeps old new
-RefusesBatch None old new _ = ⊥
+abbrev pub DumpIsRefused : Option (List LineOrder) → Option (List ℕ) → Option (List ℕ) → Fault → Type 0
+DumpIsRefused (Some rows) old new fault = RowsAreRefused rows old new fault
+DumpIsRefused None old new NoSuchPrefix = Keeps old new
+DumpIsRefused None old new Memory = Keeps old new
+DumpIsRefused None old new Device = Keeps old new
+DumpIsRefused None old new _ = ⊥
 
 -- not all batches were written: the lines of some first ones were, and the next one is refused
 pub record RefusesAfter (batches : List (List LineOrder)) (old new : Option (List ℕ)) (fault : Fault) : Type 0 where
@@ -39,5 +39,5 @@ pub record RefusesAfter (batches : List (List LineOrder)) (old new : Option (Lis
   pub next : List LineOrder
   pub is_next : slice_get batches count ≡ Some next
   pub between : Option (List ℕ)
-  pub first : AreWritten (all_rows (take count batches)) old between
-  pub refused : RefusesRows next between new fault
+  pub first : RowsAreWritten (all_rows (take count batches)) old between
+  pub refused : RowsAreRefused next between new fault

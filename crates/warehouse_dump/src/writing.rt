@@ -9,7 +9,7 @@ ghost use Rattle.warehouse_objects.specs.Represents.{Represents};
 ghost use Rattle.warehouse_objects.specs.Warehouse.{Warehouse};
 ghost use Rattle.warehouse.specs.Comparing.{numbered};
 ghost use Rattle.warehouse.specs.Session.{Breaks, IsAt, device_of, disk_of, has_failed};
-ghost use Rattle.warehouse_dump.specs.Dumped.{AreWritten, RefusesAfter, RefusesBatch};
+ghost use Rattle.warehouse_dump.specs.Dumped.{RowsAreWritten, RefusesAfter, DumpIsRefused};
 
 use cube_model::Fault;
 use sector_device::Sectors;
@@ -38,7 +38,7 @@ pub fn write_batches<D: Sectors, W: Write>(
     // The lines of all rows are written, or those of some first batches.
     ensures ok { OnOk result ((w : Warehouse) → IsAt D.Sectors session.old w
         → D.keeps_word (device_of session.new)
-        → AreWritten (all_rows w.batches) (W.contents out.old) (W.contents out.new)) }
+        → RowsAreWritten (all_rows w.batches) (W.contents out.old) (W.contents out.new)) }
     ensures refused { IfErr result (λ fault. (w : Warehouse) → IsAt D.Sectors session.old w
         → D.keeps_word (device_of session.new)
         → RefusesAfter w.batches (W.contents out.old) (W.contents out.new) fault) }
@@ -79,10 +79,10 @@ pub fn write_batch<D: Sectors, W: Write>(
     ensures ok { OnOk result ((w : Warehouse) → IsAt D.Sectors session.old w
         → D.keeps_word (device_of session.new)
         → (rows : List LineOrder) × (numbered w.batches number ≡ Some rows)
-        × AreWritten rows (W.contents out.old) (W.contents out.new)) }
+        × RowsAreWritten rows (W.contents out.old) (W.contents out.new)) }
     ensures refused { IfErr result (λ fault. (w : Warehouse) → IsAt D.Sectors session.old w
         → D.keeps_word (device_of session.new)
-        → RefusesBatch (numbered w.batches number) (W.contents out.old) (W.contents out.new) fault) }
+        → DumpIsRefused (numbered w.batches number) (W.contents out.old) (W.contents out.new) fault) }
 
     // After a failure nothing is done.
     ensures failed { IsErrOf result Failed ↔ (has_failed session.old ≡ true) }

@@ -33,7 +33,8 @@ use Rattle.warehouse.specs.Session.{IsAt, device_of, disk_of}
 use Rattle.warehouse.proofs.Preparing.{follows_admitted}
 use Rattle.warehouse_jobs.specs.Cutting.{AreCut}
 use Rattle.warehouse_jobs.specs.Lawful.{LoadAddsTheOthers, LoadHoldsItsBatches, LoadedIsEvaluated, CrashedLoadIsFound}
-use Rattle.warehouse_jobs.specs.Loading.{Done, DoesAll, Loads, MayHold, TakesIn, batches_of, session_after, taken_of}
+use Rattle.warehouse_jobs.specs.Loading.{Done, DoesAll, Loads, LoadMayLeave, DeviceTakesBatch, batches_of}
+use Rattle.warehouse_jobs.specs.Loading.{session_after, taken_of}
 use Rattle.warehouse_jobs.specs.Loading.{with_batch, with_batches}
 use Rattle.warehouse_jobs.specs.declared.taken.Taken.{Taken}
 use Rattle.warehouse_jobs.proofs.ShipModes.{AreFit, fit_in, moded_of}
@@ -98,7 +99,7 @@ stays_there w first (batch ∷ batches) number rows is =
 
 -- and it is there once it was done
 is_held : {D : Type 0} (g : Ghosts D) (w : Warehouse) (number : ℕ) (rows : List LineOrder) (old new : Session D g)
-    (taken : Taken) → TakesIn g w number rows old new taken
+    (taken : Taken) → DeviceTakesBatch g w number rows old new taken
     → numbered (with_batch w number rows).batches number ≡ Some rows
 is_held g w number rows old new taken takes =
     ⊎_elim
@@ -150,7 +151,8 @@ holds_its_batches A g w first size text old new before after result loads =
 leaves_after : {D A : Type 0} (g : Ghosts D) (w : Warehouse) (first size : ℕ) (text : Option (List ℕ))
     (old new : Session D g) (before after : Option (List ℕ)) (result : Result A Fault)
     → (loads : Loads g w first size text old new before after result) → (lines : ℕ) → lines ≤ length loads.trace
-    → Leaves (disk_of g (session_after old (take lines loads.trace))) (disk_of g new) (MayHold w first size text lines)
+    → Leaves (disk_of g (session_after old (take lines loads.trace))) (disk_of g new)
+    (LoadMayLeave w first size text lines)
 leaves_after g w first size text old new before after result loads zero within = loads.leaves
 leaves_after {D} g w first size text old new before after result loads (suc place) within =
     let got = get_within loads.trace place (omega (arith, within)) in
@@ -159,14 +161,15 @@ leaves_after {D} g w first size text old new before after result loads (suc plac
     ∙ trace-session old (take place loads.trace) got.0 in
     let next : place + 1 ≡ suc place = omega arith in
     subst (λ n. Leaves (disk_of g (session_after old (take (suc place) loads.trace))) (disk_of g new)
-    (MayHold w first size text n)) next
-    (subst (λ (s : Session D g). Leaves (disk_of g s) (disk_of g new) (MayHold w first size text (place + 1)))
+    (LoadMayLeave w first size text n)) next
+    (subst (λ (s : Session D g). Leaves (disk_of g s) (disk_of g new) (LoadMayLeave w first size text (place + 1)))
     (sym last) (loads.stay place got.0 got.1))
 
 pub stopped_load : {D : Type 0} (A : Type 0) (g : Ghosts D) → RestartedShows g → CrashedLoadIsFound A g
 stopped_load {D} A g shows_it w first size text old mid new before after result loads k lines within mid_is image left
     device restarted =
-    let leaves = subst (λ (s : Session D g). Leaves (disk_of g s) (disk_of g new) (MayHold w first size text lines))
+    let leaves =
+    subst (λ (s : Session D g). Leaves (disk_of g s) (disk_of g new) (LoadMayLeave w first size text lines))
     (sym mid_is) (leaves_after g w first size text old new before after result loads lines within) in
     let shown = (leaves.moments k).each image left in
     let may = shown.2 in

@@ -17,13 +17,14 @@ use Rattle.warehouse_objects.specs.Facts.{AdmitsRows}
 use Rattle.warehouse_objects.specs.Warehouse.{Warehouse}
 use Rattle.warehouse_objects.specs.Represents.{Represents}
 use Rattle.added_rows.specs.Added.{widened}
-use Rattle.added_rows.specs.Among.{HasRows}
+use Rattle.added_rows.specs.Among.{ContainsRows}
 use Rattle.warehouse.specs.declared.session.Session.{Session}
 use Rattle.warehouse.specs.Session.{IsAt, disk_of, has_failed}
 use Rattle.warehouse.proofs.Refusing.{device_or}
 use Rattle.warehouse_jobs.specs.declared.taken.Taken.{Taken}
 use Rattle.warehouse_jobs.specs.declared.taken.Taken.TheVariants.{Added, Skipped}
-use Rattle.warehouse_jobs.specs.Adding.{AdditionRefuses, AddsRows, RefusesRows, TakesRows, row_total, taken_of}
+use Rattle.warehouse_jobs.specs.Adding.{AdditionRefuses, DoesAddition, RefusesRows, DeviceTakesRows, row_total}
+use Rattle.warehouse_jobs.specs.Adding.{addition_taken}
 use Rattle.warehouse_jobs.specs.Adding.{with_addition}
 use Rattle.warehouse_jobs.specs.Printed.{addition_text, additions_line, counts_text}
 
@@ -46,7 +47,7 @@ module _ {D : Type 0} (g : Ghosts D) (w : Warehouse) (number : ℕ) (rows : DimR
   pub takes-added : w.additions < number → AdmitsRows w number rows → IsAt g new (widened w rows)
       → Leaves (disk_of g old) (disk_of g new)
       (λ c. Represents c w ⊎ (AdmitsRows w number rows × Represents c (widened w rows)))
-      → TakesRows g w number rows old new Added
+      → DeviceTakesRows g w number rows old new Added
   takes-added lt admissible at leaves =
       let with_them : with_addition w number rows ≡ widened w rows =
       ap (λ b. if b then w else widened w rows) (above number w.additions lt) in record {
@@ -63,8 +64,8 @@ module _ {D : Type 0} (g : Ghosts D) (w : Warehouse) (number : ℕ) (rows : DimR
       }
 
   -- they are there, and nothing was done
-  pub takes-skipped : number ≤ w.additions → HasRows w.rows rows → IsAt g new w
-      → Leaves (disk_of g old) (disk_of g new) (λ c. Represents c w) → TakesRows g w number rows old new Skipped
+  pub takes-skipped : number ≤ w.additions → ContainsRows w.rows rows → IsAt g new w
+      → Leaves (disk_of g old) (disk_of g new) (λ c. Represents c w) → DeviceTakesRows g w number rows old new Skipped
   takes-skipped le same at leaves =
       let as_before : with_addition w number rows ≡ w =
       ap (λ b. if b then w else widened w rows) (above_or_at number w.additions le) in record {
@@ -99,23 +100,24 @@ module _ {D : Type 0} (g : Ghosts D) (w : Warehouse) (number : ℕ) (rows : DimR
 
   pub adds-refused : (before : Option (List ℕ)) (fault : Fault) (result : Result Unit Fault)
       → RefusesRows g w number rows old new fault → (other : Fault) × (result ≡ Err other) × (other ≡ fault)
-      → AddsRows g w number rows old new before before result
+      → DoesAddition g w number rows old new before before result
   adds-refused before fault result refused stop = rw (stop.1, stop.2) (inl (refused, Keeps-refl before))
 
   pub adds-written : (before after : Option (List ℕ)) (taken : Taken) (additions : ℕ) (result : Result Unit Fault)
-      → TakesRows g w number rows old new taken → additions ≡ (with_addition w number rows).additions
+      → DeviceTakesRows g w number rows old new taken → additions ≡ (with_addition w number rows).additions
       → Writes before after result (addition_text number (row_total rows) taken additions)
-      → AddsRows g w number rows old new before after result
+      → DoesAddition g w number rows old new before after result
   adds-written before after taken additions (Ok done) takes many written = (
-    subst (λ (t : Taken). TakesRows g w number rows old new t) takes.taken_is takes,
-    subst (λ (n : ℕ). Appends before after (addition_text number (row_total rows) (taken_of w number) n)) many
+    subst (λ (t : Taken). DeviceTakesRows g w number rows old new t) takes.taken_is takes,
+    subst (λ (n : ℕ). Appends before after (addition_text number (row_total rows) (addition_taken w number) n)) many
         (subst (λ (t : Taken). Appends before after (addition_text number (row_total rows) t additions)) takes.taken_is
         written),
   )
   adds-written before after taken additions (Err fault) takes many written = inr (
     written.0,
-    subst (λ (t : Taken). TakesRows g w number rows old new t) takes.taken_is takes,
-    subst (λ (n : ℕ). AppendsBeginning before after (addition_text number (row_total rows) (taken_of w number) n)) many
+    subst (λ (t : Taken). DeviceTakesRows g w number rows old new t) takes.taken_is takes,
+    subst (λ (n : ℕ). AppendsBeginning before after (addition_text number (row_total rows) (addition_taken w number) n))
+        many
         (subst (λ (t : Taken). AppendsBeginning before after (addition_text number (row_total rows) t additions))
         takes.taken_is written.1),
   )

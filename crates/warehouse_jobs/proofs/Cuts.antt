@@ -14,7 +14,7 @@ use Rattle.cube_model.specs.declared.fault.Fault.{Fault}
 use Rattle.cube_model.specs.declared.fault.Fault.TheVariants.{Memory, Input}
 use Rattle.cube_model.specs.declared.rows.LineOrder.{LineOrder}
 use Rattle.ssb_eval.proofs.Batches.{next_number-after, no_lines, parts_of-first}
-use Rattle.warehouse_jobs.specs.Cutting.{AreCut, AreCutFrom, IsNextBatch, IsNextFault}
+use Rattle.warehouse_jobs.specs.Cutting.{AreCut, AreCutFrom, IsNextBatch, IsFirstLineFault}
 
 -- the first one of the parts that are left
 cut-first : (number : ℕ) (parts : List (List (List ℕ))) (next : ℕ) (left others : List (List (List ℕ)))
@@ -59,7 +59,7 @@ parts-none (suc size) number (line ∷ lines) some read = let none : take (suc s
 
 -- a fault is that of the next part
 pub parts-fault : (size number : ℕ) (lines : List (List ℕ)) (fault : Fault) → 1 ≤ size
-    → rows_of lineorder_row number (take size lines) ≡ Err fault → IsNextFault number (parts_of size lines) fault
+    → rows_of lineorder_row number (take size lines) ≡ Err fault → IsFirstLineFault number (parts_of size lines) fault
 parts-fault zero number lines fault some read = absurd (omega arith)
 parts-fault (suc size) number [] fault some read = absurd (cc)
 parts-fault (suc size) number (line ∷ lines) fault some read = record {
@@ -177,12 +177,12 @@ pub record Remains (size : ℕ) (text : Option (List ℕ)) (lines : Unread) (bat
   pub none : (others : Unread) (rows : List LineOrder) → length rows ≡ 0
       → TakesBatch lineorder_row size lines others rows → IfSome text (λ _. left ≡ [])
   pub cause : (fault : Fault) → RefusesBatch lineorder_row size lines fault → (fault ≡ Memory)
-      ⊎ ((fault ≡ Input) ⊎ IfSome text (λ _. IsNextFault next left fault))
+      ⊎ ((fault ≡ Input) ⊎ IfSome text (λ _. IsFirstLineFault next left fault))
   pub batch : (others : Unread) (rows : List LineOrder) → 1 ≤ length rows
       → TakesBatch lineorder_row size lines others rows → IfSome text (λ _. IsNextBatch next left rows)
 
 abbrev pub Cause : Option (List ℕ) → ℕ → List (List (List ℕ)) → Fault → Type 0
-Cause text next left fault = (fault ≡ Memory) ⊎ ((fault ≡ Input) ⊎ IfSome text (λ _. IsNextFault next left fault))
+Cause text next left fault = (fault ≡ Memory) ⊎ ((fault ≡ Input) ⊎ IfSome text (λ _. IsFirstLineFault next left fault))
 
 cause_unknown : (size : ℕ) (lines : Unread) (fault : Fault) → RefusesBatch lineorder_row size lines fault
     → Cause None 1 [] fault

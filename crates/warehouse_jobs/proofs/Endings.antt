@@ -10,7 +10,7 @@ use Rattle.batch_loader.specs.Unread.{Unread}
 use Rattle.cube_model.specs.declared.fault.Fault.{Fault}
 use Rattle.cube_model.specs.declared.fault.Fault.TheVariants.{Memory}
 use Rattle.cube_model.specs.declared.rows.LineOrder.{LineOrder}
-use Rattle.warehouse_objects.specs.Facts.{Admits}
+use Rattle.warehouse_objects.specs.Facts.{AdmitsBatch}
 use Rattle.cube_model.specs.Limits.{most_batches}
 use Rattle.object_store.specs.Content.{Content}
 use Rattle.object_store.specs.Disk.{Leaves}
@@ -21,7 +21,8 @@ use Rattle.warehouse_objects.specs.Represents.{Represents}
 use Rattle.warehouse.specs.declared.session.Session.{Session}
 use Rattle.warehouse.specs.Session.{IsAt, disk_of}
 use Rattle.warehouse.proofs.Preparing.{follows_admitted}
-use Rattle.warehouse_jobs.specs.Loading.{Done, Ends, FailsInBatch, Loads, MayHold, batches_of, lines_in, session_after}
+use Rattle.warehouse_jobs.specs.Loading.{Done, Ends, FailsInBatch, Loads, LoadMayLeave, batches_of, batch_lines_in}
+use Rattle.warehouse_jobs.specs.Loading.{session_after}
 use Rattle.warehouse_jobs.specs.Loading.{with_batch, with_batches}
 use Rattle.warehouse_jobs.specs.Printed.{count_line}
 use Rattle.warehouse_jobs.proofs.Cuts.{Remains, remains}
@@ -42,8 +43,8 @@ module _ {D : Type 0} (g : Ghosts D) (w : Warehouse) (first size : ℕ) (text : 
   ended : (new : Session D g) (after : Option (List ℕ)) (result : Result Unit Fault)
       → Ends g text left.next left.left now (first + length trace) mid new fact after result
       → ((place : ℕ) (one : Done g) → slice_get trace place ≡ Some one
-      → Leaves (disk_of g one.session) (disk_of g new) (MayHold w first size text (place + 1)))
-      → Leaves (disk_of g old) (disk_of g new) (MayHold w first size text 0)
+      → Leaves (disk_of g one.session) (disk_of g new) (LoadMayLeave w first size text (place + 1)))
+      → Leaves (disk_of g old) (disk_of g new) (LoadMayLeave w first size text 0)
       → Loads g w first size text old new before after result
   ended new after result ends stay leaves = record {
     trace = trace;
@@ -53,7 +54,7 @@ module _ {D : Type 0} (g : Ghosts D) (w : Warehouse) (first size : ℕ) (text : 
     does = through.does;
     stay = stay;
     at = subst (λ (s : Session D g). IsAt g s now) (sym through.session_is) through.at;
-    written = subst (λ (t : Option (List ℕ)). Appends before t (lines_in w first (batches_of trace)))
+    written = subst (λ (t : Option (List ℕ)). Appends before t (batch_lines_in w first (batches_of trace)))
         (sym through.written_is) through.written;
     ends = subst
         (λ (t : Option (List ℕ)). Ends g text left.next left.left now (first + length trace) (session_after old trace)
@@ -82,7 +83,7 @@ module _ {D : Type 0} (g : Ghosts D) (w : Warehouse) (first size : ℕ) (text : 
       let number = first + length trace in
       leaves_weaker
       (λ (c : Content). Represents c now
-      ⊎ (Admits now number rows × Represents c (loaded now rows)))
+      ⊎ (AdmitsBatch now number rows × Represents c (loaded now rows)))
       (λ (c : Content). Represents c now ⊎ Represents c (with_batch now number rows)) (disk_of g mid)
       (disk_of g new)
       (λ k c here. ⊎_elim (λ s. inl s)
@@ -103,16 +104,16 @@ module _ {D : Type 0} (g : Ghosts D) (w : Warehouse) (first size : ℕ) (text : 
       let count : length done ≡ length trace = trace-count trace in
       let place : first + length trace ≡ first + length done = ap (λ n. first + n) (sym count) in
       let batch = left.batch others rows any takes in
-      let between : Leaves (disk_of g mid) (disk_of g new) (MayHold w first size text (length trace)) =
-      subst (λ n. Leaves (disk_of g mid) (disk_of g new) (MayHold w first size text n)) count
+      let between : Leaves (disk_of g mid) (disk_of g new) (LoadMayLeave w first size text (length trace)) =
+      subst (λ n. Leaves (disk_of g mid) (disk_of g new) (LoadMayLeave w first size text n)) count
       (leaves_weaker (λ (c : Content). Represents c now ⊎ Represents c (with_batch now (first + length trace) rows))
-      (MayHold w first size text (length done)) (disk_of g mid) (disk_of g new)
+      (LoadMayLeave w first size text (length done)) (disk_of g mid) (disk_of g new)
       (λ k c here. holds-next w first size text left.next left.left done rows c left.cut batch
       (subst (λ n. Represents c now ⊎ Represents c (with_batch now n rows)) place here))
       (failed_leaves new after rows fault fails)) in
       rw (stop.1, stop.2) (ended new after (Err fault) (inr (inl (record { rows = rows; read = batch; ends = fails })))
       (stay-on g w first size text trace mid new through.stay between)
-      (leaves_then (MayHold w first size text 0) (disk_of g old) (disk_of g mid) (disk_of g new) through.leaves
+      (leaves_then (LoadMayLeave w first size text 0) (disk_of g old) (disk_of g mid) (disk_of g new) through.leaves
       (leaves-fewer g w first size text 0 (length trace) mid new (omega arith) between)))
 
   -- no row was left

@@ -17,7 +17,7 @@ use Rattle.warehouse.specs.declared.session.Session.{Session}
 use Rattle.warehouse.specs.ByModes.{IsAskedByModes, RefusesByModes}
 use Rattle.warehouse.specs.Session.{IsAt, IsAsked, QueryRefuses, has_failed}
 use Rattle.warehouse.proofs.Refusing.{device_or}
-use Rattle.warehouse_jobs.specs.Reporting.{Answers, AnswersByModes, WritesAsked, answered_by, answered_by_modes}
+use Rattle.warehouse_jobs.specs.Reporting.{WritesAnswer, AnswersByModes, WritesAsked, answered_by, answered_by_modes}
 
 module _ {D : Type 0} (MayBeAsked : Type 0) (Refuses : Fault → Type 0) (g : Ghosts D) (w : Warehouse)
     (new : Session D g) (before : Option (List ℕ)) where
@@ -54,7 +54,8 @@ pub report-refused : {D : Type 0} (text : Answer → List ℕ) (g : Ghosts D) (w
     (new : Session D g) (before : Option (List ℕ)) (fault : Fault) (result : Result Unit Fault)
     → (fault ≡ Device → has_failed new ≡ true)
     → ((fault ≡ Device → ⊥) → QueryRefuses w count query fault × IsAt g new w)
-    → (other : Fault) × (result ≡ Err other) × (other ≡ fault) → Answers text g w count query new before before result
+    → (other : Fault) × (result ≡ Err other) × (other ≡ fault)
+    → WritesAnswer text g w count query new before before result
 report-refused text g w count query new before =
     asked-refused (IsAsked w count query) (QueryRefuses w count query) g w new before (answered_by text w count query)
 
@@ -62,7 +63,7 @@ report-refused text g w count query new before =
 pub report-written : {D : Type 0} (text : Answer → List ℕ) (g : Ghosts D) (w : Warehouse) (count : ℕ) (query : Query)
     (new : Session D g) (before after : Option (List ℕ)) (found : Answer) (result : Result Unit Fault)
     → IsAt g new w → IsAsked w count query × (found ≡ answer_as_of query count w.rows w.batches)
-    → Writes before after result (text found) → Answers text g w count query new before after result
+    → Writes before after result (text found) → WritesAnswer text g w count query new before after result
 report-written text g w count query new before =
     asked-written (IsAsked w count query) (QueryRefuses w count query) g w new before text
     (answer_as_of query count w.rows w.batches)

@@ -11,7 +11,7 @@ use Rattle.sector_device.specs.Device.{Image, IsImage}
 use Rattle.cube_model.specs.declared.fault.Fault.{Fault}
 use Rattle.cube_model.specs.declared.fault.Fault.TheVariants.{Device}
 use Rattle.cube_model.specs.declared.rows.LineOrder.{LineOrder}
-use Rattle.warehouse_objects.specs.Facts.{Admits}
+use Rattle.warehouse_objects.specs.Facts.{AdmitsBatch}
 use Rattle.object_store.specs.Content.{Content}
 use Rattle.object_store.specs.Disk.{Leaves, ShowsSome}
 use Rattle.object_store.specs.Moments.{begins, leaves_weaker}
@@ -24,8 +24,10 @@ use Rattle.warehouse.specs.Session.{IsAt, device_of, disk_of, has_failed}
 use Rattle.warehouse.proofs.Refusing.{device_or}
 use Rattle.warehouse_jobs.specs.declared.taken.Taken.{Taken}
 use Rattle.warehouse_jobs.specs.declared.taken.Taken.TheVariants.{Added, Skipped}
-use Rattle.warehouse_jobs.specs.Loading.{BatchRefuses, Done, DoesAll, DoesBatch, Refuses, TakesIn, batches_of}
-use Rattle.warehouse_jobs.specs.Loading.{after_taking, lines_in, line_in, session_after, taken_of, with_batch}
+use Rattle.warehouse_jobs.specs.Loading.{BatchRefuses, Done, DoesAll, DoesBatch, LoadIsRefused, DeviceTakesBatch}
+use Rattle.warehouse_jobs.specs.Loading.{batches_of}
+use Rattle.warehouse_jobs.specs.Loading.{after_taking, batch_lines_in, batch_line_in, session_after, taken_of}
+use Rattle.warehouse_jobs.specs.Loading.{with_batch}
 use Rattle.warehouse_jobs.specs.Loading.{with_batches, written_after}
 use Rattle.warehouse_jobs.specs.Printed.{batch_line}
 
@@ -63,18 +65,18 @@ with-last w number (batch ∷ batches) rows =
     ∙ ap (λ n. with_batch (with_batches (with_batch w number batch) (number + 1) batches) n rows) same
 
 pub lines-last : (w : Warehouse) (number : ℕ) (batches : List (List LineOrder)) (rows : List LineOrder)
-    → lines_in w number (batches ++ rows ∷ []) ≡ lines_in w number batches
-    ++ line_in (with_batches w number batches) (number + length batches) rows
+    → batch_lines_in w number (batches ++ rows ∷ []) ≡ batch_lines_in w number batches
+    ++ batch_line_in (with_batches w number batches) (number + length batches) rows
 lines-last w number [] rows =
     let same : number ≡ number + 0 = omega arith in
-    append-nil (line_in w number rows) ∙ ap (λ n. line_in w n rows) same
+    append-nil (batch_line_in w number rows) ∙ ap (λ n. batch_line_in w n rows) same
 lines-last w number (batch ∷ batches) rows =
     let same : number + 1 + length batches ≡ number + length (batch ∷ batches) = omega arith in
     let back = with_batches (with_batch w number batch) (number + 1) batches in
-    let front = lines_in (with_batch w number batch) (number + 1) batches in
-    ap (λ l. line_in w number batch ++ l) (lines-last (with_batch w number batch) (number + 1) batches rows)
-    ∙ sym (append_assoc (line_in w number batch) front (line_in back (number + 1 + length batches) rows))
-    ∙ ap (λ n. (line_in w number batch ++ front) ++ line_in back n rows) same
+    let front = batch_lines_in (with_batch w number batch) (number + 1) batches in
+    ap (λ l. batch_line_in w number batch ++ l) (lines-last (with_batch w number batch) (number + 1) batches rows)
+    ∙ sym (append_assoc (batch_line_in w number batch) front (batch_line_in back (number + 1 + length batches) rows))
+    ∙ ap (λ n. (batch_line_in w number batch ++ front) ++ batch_line_in back n rows) same
 
 -- ---- a list of batches that were done, and one more
 
@@ -97,15 +99,16 @@ trace-written before (first ∷ trace) one = trace-written first.written trace o
 
 pub does-more : {D : Type 0} (g : Ghosts D) (old : Session D g) (before : Option (List ℕ)) (w : Warehouse) (number : ℕ)
     (trace : List (Done g)) (one : Done g) → DoesAll g old before w number trace
-    → TakesIn g (with_batches w number (batches_of trace)) (number + length trace) one.rows (session_after old trace)
+    → DeviceTakesBatch g (with_batches w number (batches_of trace)) (number + length trace) one.rows
+    (session_after old trace)
     one.session (taken_of (with_batches w number (batches_of trace)) (number + length trace))
     → Appends (written_after before trace) one.written
-    (line_in (with_batches w number (batches_of trace)) (number + length trace) one.rows)
+    (batch_line_in (with_batches w number (batches_of trace)) (number + length trace) one.rows)
     → DoesAll g old before w number (trace ++ one ∷ [])
 does-more g old before w number [] one all takes line =
     let same : number + 0 ≡ number = omega arith in (
-      subst (λ n. TakesIn g w n one.rows old one.session (taken_of w n)) same takes,
-      subst (λ n. Appends before one.written (line_in w n one.rows)) same line,
+      subst (λ n. DeviceTakesBatch g w n one.rows old one.session (taken_of w n)) same takes,
+      subst (λ n. Appends before one.written (batch_line_in w n one.rows)) same line,
       tt,
     )
 does-more g old before w number (first ∷ trace) one all takes line =
@@ -114,9 +117,11 @@ does-more g old before w number (first ∷ trace) one all takes line =
       all.0,
       all.1,
       does-more g first.session first.written (with_batch w number first.rows) (number + 1) trace one all.2
-          (subst (λ n. TakesIn g back n one.rows (session_after first.session trace) one.session (taken_of back n)) same
+          (subst (λ n. DeviceTakesBatch g back n one.rows (session_after first.session trace) one.session
+          (taken_of back n)) same
           takes)
-          (subst (λ n. Appends (written_after first.written trace) one.written (line_in back n one.rows)) same line),
+          (subst (λ n. Appends (written_after first.written trace) one.written (batch_line_in back n one.rows)) same
+          line),
     )
 
 -- what holds at each place of a list, and of one more
@@ -141,17 +146,17 @@ still g session w only at =
 -- what became of one batch
 
 module _ {D : Type 0} (g : Ghosts D) (w : Warehouse) (number : ℕ) (rows : List LineOrder) (old new : Session D g) where
-  pub takes-added : length w.batches < number → Admits w number rows → IsAt g new (loaded w rows)
+  pub takes-added : length w.batches < number → AdmitsBatch w number rows → IsAt g new (loaded w rows)
       → Leaves (disk_of g old) (disk_of g new)
-      (λ c. Represents c w ⊎ (Admits w number rows × Represents c (loaded w rows)))
-      → TakesIn g w number rows old new Added
+      (λ c. Represents c w ⊎ (AdmitsBatch w number rows × Represents c (loaded w rows)))
+      → DeviceTakesBatch g w number rows old new Added
   takes-added lt admissible at leaves = record {
     taken_is = sym (is_added w number lt);
     follows = λ _. admissible;
     same = λ le. absurd (omega (arith, lt, le));
     at = subst (λ (v : Warehouse). IsAt g new v) (sym (with-added w number rows lt)) at;
     leaves = leaves_weaker
-        (λ (c : Content). Represents c w ⊎ (Admits w number rows × Represents c (loaded w rows)))
+        (λ (c : Content). Represents c w ⊎ (AdmitsBatch w number rows × Represents c (loaded w rows)))
         (λ (c : Content). Represents c w ⊎ Represents c (with_batch w number rows)) (disk_of g old) (disk_of g new)
         (λ k c here. ⊎_elim (λ s. inl s)
         (λ s. inr (subst (λ (v : Warehouse). Represents c v) (sym (with-added w number rows lt)) s.1)) here) leaves;
@@ -160,34 +165,35 @@ module _ {D : Type 0} (g : Ghosts D) (w : Warehouse) (number : ℕ) (rows : List
   pub refuses : (fault : Fault) → (fault ≡ Device → has_failed new ≡ true)
       → ((fault ≡ Device → ⊥) → BatchRefuses g old w number rows fault × IsAt g new w)
       → Leaves (disk_of g old) (disk_of g new)
-      (λ c. Represents c w ⊎ (Admits w number rows × Represents c (loaded w rows)))
-      → Refuses g w number rows old new fault
+      (λ c. Represents c w ⊎ (AdmitsBatch w number rows × Represents c (loaded w rows)))
+      → LoadIsRefused g w number rows old new fault
   refuses fault failed causes leaves = record {
     cause = ⊎_elim (λ e. inl (e, failed e)) (λ no. inr (causes no)) (device_or fault);
     leaves = leaves;
   }
 
   pub does-refused : (before : Option (List ℕ)) (fault : Fault) (result : Result Unit Fault)
-      → Refuses g w number rows old new fault → (other : Fault) × (result ≡ Err other) × (other ≡ fault)
+      → LoadIsRefused g w number rows old new fault → (other : Fault) × (result ≡ Err other) × (other ≡ fault)
       → DoesBatch g w number rows old new before before result
   does-refused before fault result refused stop = rw (stop.1, stop.2) (inl (refused, Keeps-refl before))
 
   pub does-written : (before after : Option (List ℕ)) (taken : Taken) (result : Result Unit Fault)
-      → TakesIn g w number rows old new taken → Writes before after result (batch_line number (length rows) taken)
+      → DeviceTakesBatch g w number rows old new taken
+      → Writes before after result (batch_line number (length rows) taken)
       → DoesBatch g w number rows old new before after result
   does-written before after taken (Ok done) takes written = (
-    subst (λ (t : Taken). TakesIn g w number rows old new t) takes.taken_is takes,
+    subst (λ (t : Taken). DeviceTakesBatch g w number rows old new t) takes.taken_is takes,
     subst (λ (t : Taken). Appends before after (batch_line number (length rows) t)) takes.taken_is written,
   )
   does-written before after taken (Err fault) takes written = inr (
     written.0,
-    subst (λ (t : Taken). TakesIn g w number rows old new t) takes.taken_is takes,
+    subst (λ (t : Taken). DeviceTakesBatch g w number rows old new t) takes.taken_is takes,
     subst (λ (t : Taken). AppendsBeginning before after (batch_line number (length rows) t)) takes.taken_is written.1,
   )
 
   -- the batch there was read, and nothing else was done
   pub takes-skipped : number ≤ length w.batches → numbered w.batches number ≡ Some rows → IsAt g new w
-      → Leaves (disk_of g old) (disk_of g new) (λ c. Represents c w) → TakesIn g w number rows old new Skipped
+      → Leaves (disk_of g old) (disk_of g new) (λ c. Represents c w) → DeviceTakesBatch g w number rows old new Skipped
   takes-skipped le same at leaves = record {
     taken_is = sym (is_skipped w number le);
     follows = λ lt. absurd (omega (arith, lt, le));
@@ -200,8 +206,8 @@ module _ {D : Type 0} (g : Ghosts D) (w : Warehouse) (number : ℕ) (rows : List
 
   pub only-read : Leaves (disk_of g old) (disk_of g new) (λ c. Represents c w)
       → Leaves (disk_of g old) (disk_of g new)
-      (λ c. Represents c w ⊎ (Admits w number rows × Represents c (loaded w rows)))
+      (λ c. Represents c w ⊎ (AdmitsBatch w number rows × Represents c (loaded w rows)))
   only-read leaves =
       leaves_weaker (λ (c : Content). Represents c w)
-      (λ (c : Content). Represents c w ⊎ (Admits w number rows × Represents c (loaded w rows)))
+      (λ (c : Content). Represents c w ⊎ (AdmitsBatch w number rows × Represents c (loaded w rows)))
       (disk_of g old) (disk_of g new) (λ k c here. inl here) leaves

@@ -11,7 +11,7 @@ use Rattle.warehouse_root.specs.Layouts.{has_modes}
 use Rattle.warehouse_objects.specs.Warehouse.{Warehouse, with_views}
 use Rattle.warehouse_objects.specs.Represents.{Represents}
 use Rattle.cuboid_commits.specs.Keeping.{IsKeptUp}
-use Rattle.cuboid_commits.specs.Upkeep.{AreWhole}
+use Rattle.cuboid_commits.specs.Upkeep.{CuboidsAreCurrent}
 use Rattle.warehouse.specs.declared.chosen.Chosen.{Chosen}
 use Rattle.warehouse.specs.declared.session.Session.{Session}
 use Rattle.warehouse.specs.Choosing.{ChooseForRefuses, ChooseRefuses, IsChoice, IsChoiceFor, views_of}
@@ -60,7 +60,7 @@ ChoosesFor g w demanded k old new before after result =
 pub record IsUpToDate {D : Type 0} (g : Ghosts D) (w : Warehouse) (new : Session D g) : Type 0 where
   pub now : Warehouse
   pub kept : IsKeptUp w now
-  pub whole : AreWhole now
+  pub whole : CuboidsAreCurrent now
   pub at : IsAt g new now
 
 -- each stored cuboid holds all batches, and that is written. Or the writer failed. Or nothing was written: the device

@@ -29,7 +29,7 @@ pub record IsNextBatch (next : ℕ) (left : List (List (List ℕ))) (rows : List
   pub read : rows_of lineorder_row next lines ≡ Ok rows
 
 -- this is the first fault of its lines
-pub record IsNextFault (next : ℕ) (left : List (List (List ℕ))) (fault : Fault) : Type 0 where
+pub record IsFirstLineFault (next : ℕ) (left : List (List (List ℕ))) (fault : Fault) : Type 0 where
   pub lines : List (List ℕ)
   pub others : List (List (List ℕ))
   pub part : left ≡ lines ∷ others

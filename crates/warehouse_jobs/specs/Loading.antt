@@ -11,7 +11,7 @@ use Rattle.object_store.specs.Content.{Content}
 use Rattle.object_store.specs.Disk.{Leaves}
 use Rattle.ssb_eval.specs.declared.unknown.UnknownKey.{UnknownKey}
 use Rattle.ssb_reports.specs.Writing.{AppendsBeginning}
-use Rattle.warehouse_objects.specs.Facts.{Admits}
+use Rattle.warehouse_objects.specs.Facts.{AdmitsBatch}
 use Rattle.warehouse_objects.specs.Warehouse.{Warehouse, loaded}
 use Rattle.warehouse_objects.specs.Represents.{Represents}
 use Rattle.warehouse.specs.declared.session.Session.{Session}
@@ -19,7 +19,7 @@ use Rattle.warehouse.specs.Comparing.{numbered}
 use Rattle.warehouse.specs.Session.{IsAt, disk_of, has_failed, SubmitRefuses}
 use Rattle.warehouse_jobs.specs.declared.taken.Taken.{Taken}
 use Rattle.warehouse_jobs.specs.declared.taken.Taken.TheVariants.{Added, Skipped}
-use Rattle.warehouse_jobs.specs.Cutting.{AreCutFrom, IsNextBatch, IsNextFault}
+use Rattle.warehouse_jobs.specs.Cutting.{AreCutFrom, IsNextBatch, IsFirstLineFault}
 use Rattle.warehouse_jobs.specs.Printed.{batch_line, count_line}
 
 -- the fact rows of a load, line by line, and what is kept of the batch that was read last: how many rows it has, and a
@@ -47,20 +47,21 @@ with_batches w number [] = w
 with_batches w number (rows ∷ batches) = with_batches (with_batch w number rows) (number + 1) batches
 
 -- the line of a batch
-abbrev pub line_in : Warehouse → ℕ → List LineOrder → List ℕ
-line_in w number rows = batch_line number (length rows) (taken_of w number)
+abbrev pub batch_line_in : Warehouse → ℕ → List LineOrder → List ℕ
+batch_line_in w number rows = batch_line number (length rows) (taken_of w number)
 
 -- the lines of some batches, the first of them with a number
-abbrev pub lines_in : Warehouse → ℕ → List (List LineOrder) → List ℕ
-lines_in w number [] = []
-lines_in w number (rows ∷ batches) = line_in w number rows ++ lines_in (with_batch w number rows) (number + 1) batches
+abbrev pub batch_lines_in : Warehouse → ℕ → List (List LineOrder) → List ℕ
+batch_lines_in w number [] = []
+batch_lines_in w number (rows ∷ batches) =
+    batch_line_in w number rows ++ batch_lines_in (with_batch w number rows) (number + 1) batches
 
 -- The device in one batch of a load. It represents the warehouse after it then, and until then this or the one before.
 -- A batch that is passed over has exactly the rows of the stored one, in the same order
-pub record TakesIn {D : Type 0} (g : Ghosts D) (w : Warehouse) (number : ℕ) (rows : List LineOrder)
+pub record DeviceTakesBatch {D : Type 0} (g : Ghosts D) (w : Warehouse) (number : ℕ) (rows : List LineOrder)
     (old new : Session D g) (taken : Taken) : Type 0 where
   pub taken_is : taken ≡ taken_of w number
-  pub follows : length w.batches < number → Admits w number rows
+  pub follows : length w.batches < number → AdmitsBatch w number rows
   pub same : number ≤ length w.batches → numbered w.batches number ≡ Some rows
   pub at : IsAt g new (with_batch w number rows)
   pub leaves : Leaves (disk_of g old) (disk_of g new) (λ c. Represents c w ⊎ Represents c (with_batch w number rows))
@@ -75,26 +76,26 @@ BatchRefuses g session w number rows fault =
 
 -- A batch is refused. The warehouse stays, unless the device failed: it may then have the batch, where that is
 -- admissible
-pub record Refuses {D : Type 0} (g : Ghosts D) (w : Warehouse) (number : ℕ) (rows : List LineOrder)
+pub record LoadIsRefused {D : Type 0} (g : Ghosts D) (w : Warehouse) (number : ℕ) (rows : List LineOrder)
     (old new : Session D g) (fault : Fault) : Type 0 where
   pub cause : ((fault ≡ Device) × (has_failed new ≡ true)) ⊎ (BatchRefuses g old w number rows fault × IsAt g new w)
   pub leaves : Leaves (disk_of g old) (disk_of g new)
-      (λ c. Represents c w ⊎ (Admits w number rows × Represents c (loaded w rows)))
+      (λ c. Represents c w ⊎ (AdmitsBatch w number rows × Represents c (loaded w rows)))
 
 -- One batch of a load did not end well: it is refused, and nothing is written. Or the device has it, and the writer
 -- fails in its line
 abbrev pub FailsInBatch : {D : Type 0} (g : Ghosts D) → Warehouse → ℕ → List LineOrder → (old new : Session D g)
     → (before after : Option (List ℕ)) → Fault → Type 0
 FailsInBatch g w number rows old new before after fault =
-    (Refuses g w number rows old new fault × Keeps before after)
-    ⊎ ((fault ≡ Output) × TakesIn g w number rows old new (taken_of w number)
-    × AppendsBeginning before after (line_in w number rows))
+    (LoadIsRefused g w number rows old new fault × Keeps before after)
+    ⊎ ((fault ≡ Output) × DeviceTakesBatch g w number rows old new (taken_of w number)
+    × AppendsBeginning before after (batch_line_in w number rows))
 
 -- one batch of a load: once the device has it, its line is written
 abbrev pub DoesBatch : {D A : Type 0} (g : Ghosts D) → Warehouse → ℕ → List LineOrder → (old new : Session D g)
     → (before after : Option (List ℕ)) → Result A Fault → Type 0
 DoesBatch g w number rows old new before after (Ok done) =
-    TakesIn g w number rows old new (taken_of w number) × Appends before after (line_in w number rows)
+    DeviceTakesBatch g w number rows old new (taken_of w number) × Appends before after (batch_line_in w number rows)
 DoesBatch g w number rows old new before after (Err fault) = FailsInBatch g w number rows old new before after fault
 
 -- A batch of a load that was done: its rows, and the session and what the writer had once its line was written
@@ -121,8 +122,8 @@ abbrev pub DoesAll : {D : Type 0} (g : Ghosts D) → (old : Session D g) → Opt
     → Type 0
 DoesAll g old before w number [] = ⊤
 DoesAll g old before w number (one ∷ later) =
-    TakesIn g w number one.rows old one.session (taken_of w number)
-    × Appends before one.written (line_in w number one.rows)
+    DeviceTakesBatch g w number one.rows old one.session (taken_of w number)
+    × Appends before one.written (batch_line_in w number one.rows)
     × DoesAll g one.session one.written (with_batch w number one.rows) (number + 1) later
 
 -- no line was left, and the number of batches is written
@@ -143,7 +144,7 @@ pub record CannotClose {D : Type 0} (g : Ghosts D) (text : Option (List ℕ)) (l
 -- the next batch could not be read: when out of memory, since the reader failed, or for the first fault of its lines
 pub record CannotRead {D : Type 0} (g : Ghosts D) (text : Option (List ℕ)) (next : ℕ) (left : List (List (List ℕ)))
     (old new : Session D g) (before after : Option (List ℕ)) (fault : Fault) : Type 0 where
-  pub cause : (fault ≡ Memory) ⊎ ((fault ≡ Input) ⊎ IfSome text (λ _. IsNextFault next left fault))
+  pub cause : (fault ≡ Memory) ⊎ ((fault ≡ Input) ⊎ IfSome text (λ _. IsFirstLineFault next left fault))
   pub same : new ≡ old
   pub nothing : Keeps before after
 
@@ -165,13 +166,14 @@ Ends g text next left w number old new before after (Err fault) =
 
 -- what a crash within a load may leave once so many batches were done: the warehouse with these, or with more of the
 -- text's
-pub record MayHold (w : Warehouse) (first size : ℕ) (text : Option (List ℕ)) (count : ℕ) (c : Content) : Type 0 where
-  pub some : List (List LineOrder)
-  pub next : ℕ
-  pub left : List (List (List ℕ))
-  pub cut : AreCutFrom text size some next left
-  pub no_fewer : count ≤ length some
-  pub represents : Represents c (with_batches w first some)
+pub record LoadMayLeave (w : Warehouse) (first size : ℕ) (text : Option (List ℕ)) (count : ℕ) (c : Content) : Type 0
+  where
+    pub some : List (List LineOrder)
+    pub next : ℕ
+    pub left : List (List (List ℕ))
+    pub cut : AreCutFrom text size some next left
+    pub no_fewer : count ≤ length some
+    pub represents : Represents c (with_batches w first some)
 
 -- A load in batches of so many lines, the first of them with a number. What the reader holds is a text, or it is not
 -- known, as that of a file: then all is said but which rows those of the batches are
@@ -186,12 +188,12 @@ pub record Loads {D A : Type 0} (g : Ghosts D) (w : Warehouse) (first size : ℕ
   pub does : DoesAll g old before w first trace
   -- from then on a crash leaves it
   pub stay : (place : ℕ) (one : Done g) → slice_get trace place ≡ Some one
-      → Leaves (disk_of g one.session) (disk_of g new) (MayHold w first size text (place + 1))
+      → Leaves (disk_of g one.session) (disk_of g new) (LoadMayLeave w first size text (place + 1))
   -- so the warehouse has them, and their lines are written
   pub at : IsAt g (session_after old trace) (with_batches w first (batches_of trace))
-  pub written : Appends before (written_after before trace) (lines_in w first (batches_of trace))
+  pub written : Appends before (written_after before trace) (batch_lines_in w first (batches_of trace))
   -- and the end
   pub ends : Ends g text next left (with_batches w first (batches_of trace)) (first + length trace)
       (session_after old trace) new (written_after before trace) after result
   -- what a crash at any point leaves
-  pub leaves : Leaves (disk_of g old) (disk_of g new) (MayHold w first size text 0)
+  pub leaves : Leaves (disk_of g old) (disk_of g new) (LoadMayLeave w first size text 0)

@@ -12,7 +12,7 @@ use Rattle.warehouse_objects.specs.Warehouse.{Warehouse}
 use Rattle.warehouse_objects.specs.Represents.{Represents}
 use Rattle.warehouse.specs.declared.session.Session.{Session}
 use Rattle.warehouse.specs.Session.{IsAt, IsAsked, disk_of}
-use Rattle.warehouse_jobs.specs.Reporting.{Answers, asked_for}
+use Rattle.warehouse_jobs.specs.Reporting.{WritesAnswer, batches_asked}
 
 -- why the partial report over the first batches of a warehouse cannot be read back, if it cannot
 abbrev pub partial_cause : Warehouse → ℕ → PartAsked → Option Fault
@@ -30,14 +30,15 @@ pub record RefusesMember {D : Type 0} (g : Ghosts D) (w : Warehouse) (count : �
 abbrev pub AnswersInPart : {D A : Type 0} (g : Ghosts D) → Warehouse → ℕ → PartAsked → (new : Session D g)
     → (before after : Option (List ℕ)) → Result A Fault → Type 0
 AnswersInPart g w count asked new before after (Ok done) =
-    (partial_cause w count asked ≡ None) × Answers {A = Unit {0}} (partial_text asked w.rows) g w count asked.query new
+    (partial_cause w count asked ≡ None) × WritesAnswer {A = Unit {0}} (partial_text asked w.rows) g w count asked.query
+    new
     before after (Ok tt)
 AnswersInPart g w count asked new before after (Err fault) =
-    Answers {A = Unit {0}} (partial_text asked w.rows) g w count asked.query new before after (Err fault)
+    WritesAnswer {A = Unit {0}} (partial_text asked w.rows) g w count asked.query new before after (Err fault)
     ⊎ RefusesMember g w count asked new before after fault
 
 -- a partial report leaves the warehouse as it is at each moment
 pub record ReportsInPart {D A : Type 0} (g : Ghosts D) (w : Warehouse) (as_of : Option ℕ) (asked : PartAsked)
     (old new : Session D g) (before after : Option (List ℕ)) (result : Result A Fault) : Type 0 where
-  pub ends : AnswersInPart g w (asked_for w as_of) asked new before after result
+  pub ends : AnswersInPart g w (batches_asked w as_of) asked new before after result
   pub leaves : Leaves (disk_of g old) (disk_of g new) (λ c. Represents c w)

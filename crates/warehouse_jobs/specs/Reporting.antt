@@ -24,9 +24,9 @@ use Rattle.warehouse.specs.Status.{IsStatus}
 use Rattle.warehouse_jobs.specs.Printed.{status_text}
 
 -- over how many batches a query is asked: so many, or all that are there
-abbrev pub asked_for : Warehouse → Option ℕ → ℕ
-asked_for w (Some as_of) = as_of
-asked_for w None = length w.batches
+abbrev pub batches_asked : Warehouse → Option ℕ → ℕ
+batches_asked w (Some as_of) = as_of
+batches_asked w None = length w.batches
 
 -- a text of the definition's answer over the first batches of a warehouse
 abbrev pub answered_by : (Answer → List ℕ) → Warehouse → ℕ → Query → List ℕ
@@ -47,9 +47,10 @@ WritesAsked text MayBeAsked Refuses g w new before after (Err fault) =
     ⊎ (Keeps before after × (((fault ≡ Device) × (has_failed new ≡ true)) ⊎ (Refuses fault × IsAt g new w)))
 
 -- a text of the answer to a query over the first batches was written, or not
-abbrev pub Answers : {D A : Type 0} → (Answer → List ℕ) → (g : Ghosts D) → Warehouse → ℕ → Query → (new : Session D g)
+abbrev pub WritesAnswer : {D A : Type 0} → (Answer → List ℕ) → (g : Ghosts D) → Warehouse → ℕ → Query
+    → (new : Session D g)
     → (before after : Option (List ℕ)) → Result A Fault → Type 0
-Answers text g w count query new before after result =
+WritesAnswer text g w count query new before after result =
     WritesAsked (answered_by text w count query) (IsAsked w count query) (QueryRefuses w count query) g w new before
     after result
 
@@ -63,13 +64,13 @@ AnswersByModes text g w count asked new before after result =
 -- a report, which leaves the warehouse as it is at each moment
 pub record Reports {D A : Type 0} (g : Ghosts D) (w : Warehouse) (as_of : Option ℕ) (query : Query)
     (old new : Session D g) (before after : Option (List ℕ)) (result : Result A Fault) : Type 0 where
-  pub ends : Answers (report_of query) g w (asked_for w as_of) query new before after result
+  pub ends : WritesAnswer (report_of query) g w (batches_asked w as_of) query new before after result
   pub leaves : Leaves (disk_of g old) (disk_of g new) (λ c. Represents c w)
 
 -- a report in a layout, which leaves the warehouse as it is at each moment
 pub record ReportsIn {D A : Type 0} (g : Ghosts D) (w : Warehouse) (as_of : Option ℕ) (asked : Asked)
     (old new : Session D g) (before after : Option (List ℕ)) (result : Result A Fault) : Type 0 where
-  pub ends : AnswersByModes (formatted asked) g w (asked_for w as_of) asked.query new before after result
+  pub ends : AnswersByModes (formatted asked) g w (batches_asked w as_of) asked.query new before after result
   pub leaves : Leaves (disk_of g old) (disk_of g new) (λ c. Represents c w)
 
 -- the numbers of the warehouse are written, or the writer fails after a beginning of them

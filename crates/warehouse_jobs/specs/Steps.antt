@@ -9,7 +9,7 @@ use Rattle.cube_model.specs.declared.fault.Fault.{Fault}
 use Rattle.cube_model.specs.declared.rows.LineOrder.{LineOrder}
 use Rattle.warehouse_objects.specs.Warehouse.{Warehouse}
 use Rattle.warehouse.specs.declared.session.Session.{Session}
-use Rattle.warehouse_jobs.specs.Loading.{FailsInBatch, TakesIn, line_in, taken_of}
+use Rattle.warehouse_jobs.specs.Loading.{FailsInBatch, DeviceTakesBatch, batch_line_in, taken_of}
 
 -- a batch of some rows was read
 pub record IsRead (size : ℕ) (lines rest : Unread) (rows : List LineOrder) : Type 0 where
@@ -26,7 +26,7 @@ pub record IsAtLast {D : Type 0} (g : Ghosts D) (size : ℕ) (lines rest : Unrea
   pub nothing : after ≡ before
 
 -- the next batch could not be read, and nothing happened
-pub record IsUnread {D : Type 0} (g : Ghosts D) (size : ℕ) (lines : Unread) (old new : Session D g)
+pub record IsNotRead {D : Type 0} (g : Ghosts D) (size : ℕ) (lines : Unread) (old new : Session D g)
     (before after : Option (List ℕ)) (fault : Fault) : Type 0 where
   pub refused : RefusesBatch lineorder_row size lines fault
   pub same : new ≡ old
@@ -37,9 +37,9 @@ pub record IsUnread {D : Type 0} (g : Ghosts D) (size : ℕ) (lines : Unread) (o
 abbrev pub Steps : {D : Type 0} (g : Ghosts D) → ℕ → Warehouse → ℕ → (lines rest : Unread) → (old new : Session D g)
     → (before after : Option (List ℕ)) → Result Bool Fault → Type 0
 Steps g size w number lines rest old new before after (Ok true) =
-    (rows : List LineOrder) × IsRead size lines rest rows × TakesIn g w number rows old new (taken_of w number)
-    × Appends before after (line_in w number rows)
+    (rows : List LineOrder) × IsRead size lines rest rows × DeviceTakesBatch g w number rows old new (taken_of w number)
+    × Appends before after (batch_line_in w number rows)
 Steps g size w number lines rest old new before after (Ok false) = IsAtLast g size lines rest old new before after
 Steps g size w number lines rest old new before after (Err fault) =
-    IsUnread g size lines old new before after fault
+    IsNotRead g size lines old new before after fault
     ⊎ ((rows : List LineOrder) × IsRead size lines rest rows × FailsInBatch g w number rows old new before after fault)

@@ -5,7 +5,7 @@ ghost use Rattle.cube_model.specs.declared.fault.Fault.TheVariants.{Failed};
 ghost use Rattle.cube_model.specs.Validity.{HaveShortTexts};
 ghost use Rattle.warehouse_objects.specs.Warehouse.{Warehouse};
 ghost use Rattle.warehouse.specs.Session.{device_of, has_failed, IsAt};
-ghost use Rattle.warehouse_jobs.specs.Adding.{AddsRows, RefusesRows, TakesRows, row_total};
+ghost use Rattle.warehouse_jobs.specs.Adding.{DoesAddition, RefusesRows, DeviceTakesRows, row_total};
 
 use crate::printing::write_addition;
 use crate::taken::Taken;
@@ -34,7 +34,7 @@ pub fn add<D: Sectors, W: Write>(
 
     // What is written, what the warehouse is then, and what a crash at any point until then leaves.
     ensures adds { (w : Warehouse) → IsAt D.Sectors session.old w → D.keeps_word (device_of session.new)
-        → AddsRows D.Sectors w number rows.now session.old session.new (W.contents out.old) (W.contents out.new)
+        → DoesAddition D.Sectors w number rows.now session.old session.new (W.contents out.old) (W.contents out.new)
         result }
 
     // Where the device failed in an earlier call, nothing is done.
@@ -60,7 +60,7 @@ fn take_rows<D: Sectors>(
     requires short { HaveShortTexts rows.now }
     ensures taken { IfOk result (λ taken. (w : Warehouse) → IsAt D.Sectors session.old w
         → D.keeps_word (device_of session.new)
-        → TakesRows D.Sectors w number rows.now session.old session.new taken) }
+        → DeviceTakesRows D.Sectors w number rows.now session.old session.new taken) }
     ensures refused { IfErr result (λ fault. (w : Warehouse) → IsAt D.Sectors session.old w
         → D.keeps_word (device_of session.new)
         → RefusesRows D.Sectors w number rows.now session.old session.new fault) }

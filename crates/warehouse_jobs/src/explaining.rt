@@ -4,7 +4,7 @@ ghost use Rattle.std.specs.Io.KnownBytes.{Keeps};
 ghost use Rattle.cube_model.specs.declared.fault.Fault.TheVariants.{Failed};
 ghost use Rattle.warehouse_objects.specs.Warehouse.{Warehouse};
 ghost use Rattle.warehouse.specs.Session.{device_of, has_failed, IsAt};
-ghost use Rattle.warehouse_jobs.specs.Reporting.{asked_for};
+ghost use Rattle.warehouse_jobs.specs.Reporting.{batches_asked};
 ghost use Rattle.warehouse_jobs.specs.Explaining.{Explains};
 
 use crate::plan_lines::write_plans;
@@ -34,7 +34,7 @@ pub fn explain<D: Sectors, W: Write>(
     out: &mut W,
 ) -> Result<(), Fault>
     ensures explains { (w : Warehouse) → IsAt D.Sectors session.now w → D.keeps_word (device_of session.now)
-        → Explains w (asked_for w as_of) asked.now (W.contents out.old) (W.contents out.new) result }
+        → Explains w (batches_asked w as_of) asked.now (W.contents out.old) (W.contents out.new) result }
     ensures failed { has_failed session.now ≡ true → (result ≡ Err Failed)
         × Keeps (W.contents out.old) (W.contents out.new) }
 {

@@ -11,7 +11,7 @@ ghost use Rattle.ssb_reports.specs.Writing.{Writes};
 ghost use Rattle.warehouse_objects.specs.Warehouse.{Warehouse};
 ghost use Rattle.warehouse.specs.Growing.{CanGrow, Grows, IsOfSession};
 ghost use Rattle.warehouse.specs.Session.{device_of, IsAt};
-ghost use Rattle.warehouse_jobs.specs.Loading.{DoesBatch, Loads, Refuses, TakesIn};
+ghost use Rattle.warehouse_jobs.specs.Loading.{DoesBatch, Loads, LoadIsRefused, DeviceTakesBatch};
 ghost use Rattle.warehouse_jobs.specs.Steps.{Steps};
 ghost use Rattle.warehouse_jobs.specs.Printed.{count_line};
 
@@ -335,10 +335,10 @@ fn take_in<D: Sectors>(
     requires batch { IsOfSession session.old batch.now }
     ensures taken { IfOk result (λ taken. (w : Warehouse) (rows : List LineOrder) → IsAt D.Sectors session.old w
         → Grows session.old rows batch.now → D.keeps_word (device_of session.new)
-        → TakesIn D.Sectors w number rows session.old session.new taken) }
+        → DeviceTakesBatch D.Sectors w number rows session.old session.new taken) }
     ensures refused { IfErr result (λ fault. (w : Warehouse) (rows : List LineOrder) → IsAt D.Sectors session.old w
         → Grows session.old rows batch.now → D.keeps_word (device_of session.new)
-        → Refuses D.Sectors w number rows session.old session.new fault) }
+        → LoadIsRefused D.Sectors w number rows session.old session.new fault) }
     ensures word { D.keeps_word (device_of session.new) → D.keeps_word (device_of session.old) }
 {
     if number > session.status()?.batches {

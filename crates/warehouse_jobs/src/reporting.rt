@@ -6,7 +6,7 @@ ghost use Rattle.ssb_reports.specs.Report.{report_of};
 ghost use Rattle.warehouse_objects.specs.Warehouse.{Warehouse};
 ghost use Rattle.warehouse_objects.specs.Represents.{Represents};
 ghost use Rattle.warehouse.specs.Session.{device_of, disk_of, has_failed, IsAt};
-ghost use Rattle.warehouse_jobs.specs.Reporting.{Answers, Reports, asked_for};
+ghost use Rattle.warehouse_jobs.specs.Reporting.{WritesAnswer, Reports, batches_asked};
 
 use cube_model::{Fault, Query};
 use sector_device::Sectors;
@@ -40,7 +40,7 @@ fn report_over<D: Sectors, W: Write>(
     out: &mut W,
 ) -> Result<(), Fault>
     ensures ends { (w : Warehouse) → IsAt D.Sectors session.old w → D.keeps_word (device_of session.new)
-        → Answers (report_of query.now) D.Sectors w count query.now session.new (W.contents out.old)
+        → WritesAnswer (report_of query.now) D.Sectors w count query.now session.new (W.contents out.old)
         (W.contents out.new) result }
     ensures leaves { (w : Warehouse) → IsAt D.Sectors session.old w
         → Leaves (disk_of D.Sectors session.old) (disk_of D.Sectors session.new) (λ c. Represents c w) }
@@ -57,7 +57,7 @@ pub(crate) fn batches_asked<D: Sectors>(
     as_of: Option<u32>,
 ) -> Result<u32, Fault>
     ensures ok { IfOk result (λ count. (w : Warehouse) → IsAt D.Sectors session.now w
-        → D.keeps_word (device_of session.now) → count ≡ asked_for w as_of) }
+        → D.keeps_word (device_of session.now) → count ≡ batches_asked w as_of) }
     ensures err { IfErr result (λ fault. (fault ≡ Failed) × (has_failed session.now ≡ true)) }
 {
     match as_of {

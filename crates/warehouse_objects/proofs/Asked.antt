@@ -21,7 +21,7 @@ use Rattle.lattice.specs.Views.{index_of}
 use Rattle.warehouse_root.specs.declared.cuboid.StoredCuboid.{StoredCuboid}
 use Rattle.warehouse_root.specs.declared.layout.Layout.{Layout}
 use Rattle.warehouse_root.specs.declared.layout.Layout.TheVariants.{First, Second}
-use Rattle.warehouse_root.specs.Layouts.{dimensions_of}
+use Rattle.warehouse_root.specs.Layouts.{dimension_object_count}
 use Rattle.warehouse_root.specs.Objects.{dimension_ids, object_ids, run_id, run_ids}
 use Rattle.warehouse_objects.specs.Warehouse.{Cuboid, Warehouse, cuboid_at, ship_modes_of}
 use Rattle.warehouse_objects.specs.Represents.{HasItsObjects, Represents, dimension_of, root_of, run_after, run_bytes}
@@ -203,33 +203,34 @@ module _ (c : Content) (w : Warehouse) (represents : Represents c w) where
   abbrev IsThere : ℕ → Type 0
   IsThere id = IsTrue (is_some (bytes_of c id))
 
-  fifth_there : (layout : Layout) → w.layout ≡ layout → All IsThere (range_with_len 5 (dimensions_of layout - 4))
+  fifth_there : (layout : Layout) → w.layout ≡ layout
+      → All IsThere (range_with_len 5 (dimension_object_count layout - 4))
   fifth_there First e = All-nil IsThere
   fifth_there Second e =
       All-cons IsThere 5 []
       (ap is_some (represents.objects 5 ∙ ap (λ (l : Layout). modes_object l (ship_modes_of w)) e)) (All-nil IsThere)
 
   in_two : (layout : Layout) → dimension_ids layout
-      ≡ (1 ∷ 2 ∷ 3 ∷ 4 ∷ []) ++ range_with_len 5 (dimensions_of layout - 4)
+      ≡ (1 ∷ 2 ∷ 3 ∷ 4 ∷ []) ++ range_with_len 5 (dimension_object_count layout - 4)
   in_two First = refl
   in_two Second = refl
 
   dimensions : All IsThere (dimension_ids w.layout)
   dimensions =
       subst (λ (l : List ℕ). All IsThere l) (sym (in_two w.layout))
-      (All-append IsThere (1 ∷ 2 ∷ 3 ∷ 4 ∷ []) (range_with_len 5 (dimensions_of w.layout - 4))
+      (All-append IsThere (1 ∷ 2 ∷ 3 ∷ 4 ∷ []) (range_with_len 5 (dimension_object_count w.layout - 4))
       (All-cons IsThere 1 (2 ∷ 3 ∷ 4 ∷ []) (ap is_some (represents.objects 1))
       (All-cons IsThere 2 (3 ∷ 4 ∷ []) (ap is_some (represents.objects 2))
       (All-cons IsThere 3 (4 ∷ []) (ap is_some (represents.objects 3))
       (All-cons IsThere 4 [] (ap is_some (represents.objects 4)) (All-nil IsThere)))))
       (fifth_there w.layout refl))
 
-  four_dimensions : (layout : Layout) → 4 ≤ dimensions_of layout
+  four_dimensions : (layout : Layout) → 4 ≤ dimension_object_count layout
   four_dimensions First = omega arith
   four_dimensions Second = omega arith
 
   five_dimensions : (layout : Layout) (modes : List (List ℕ)) → is_some (modes_object layout modes) ≡ true
-      → 5 ≤ dimensions_of layout
+      → 5 ≤ dimension_object_count layout
   five_dimensions First modes some = absurd (cc some)
   five_dimensions Second modes some = omega arith
 
@@ -273,7 +274,7 @@ module _ (c : Content) (w : Warehouse) (represents : Represents c w) where
       (object_ids (root_of w)) (once_distinct c.objects represents.once) (λ id there.
       asked_for (dimension_of w.rows Customer) (dimension_of w.rows Supplier) (dimension_of w.rows Part)
       (dimension_of w.rows Date) (modes_object w.layout (ship_modes_of w)) segment_of w.batches w.cuboids
-      (dimensions_of w.layout) (four_dimensions w.layout) (five_dimensions w.layout (ship_modes_of w)) id
+      (dimension_object_count w.layout) (four_dimensions w.layout) (five_dimensions w.layout (ship_modes_of w)) id
       (ap is_some (sym (represents.objects id)) ∙ sym (looked_up c.objects id) ∙ there)) in
       omega (arith, most, length-map c.objects (λ (o : ℕ × List ℕ). o.0))
 
@@ -295,7 +296,7 @@ module _ (c : Content) (w : Warehouse) (represents : Represents c w) where
         length-range_with_len (run_id cuboid.view 0) cuboid.runs,
       )
 
-  few_dimensions : (layout : Layout) → dimensions_of layout ≤ 5
+  few_dimensions : (layout : Layout) → dimension_object_count layout ≤ 5
   few_dimensions First = omega arith
   few_dimensions Second = omega arith
 
@@ -307,7 +308,7 @@ module _ (c : Content) (w : Warehouse) (represents : Represents c w) where
         arith,
         few_there,
         few_dimensions w.layout,
-        length-range_with_len 1 (dimensions_of w.layout),
+        length-range_with_len 1 (dimension_object_count w.layout),
         length-append (dimension_ids w.layout)
             (range_with_len 65537 (length (map length w.batches)) ++ flat_map run_ids (map said_of w.cuboids)),
         length-append (range_with_len 65537 (length (map length w.batches))) (flat_map run_ids (map said_of w.cuboids)),

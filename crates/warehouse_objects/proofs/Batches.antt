@@ -26,7 +26,7 @@ use Rattle.batch_admission.specs.Totals.{totals_of}
 use Rattle.cube_model.specs.declared.measure.Measure.TheVariants.{Discounted, ExtendedPrice, Profit, Quantity, Revenue}
 use Rattle.cube_model.specs.declared.measure.Measure.TheVariants.{SupplyCost}
 use Rattle.warehouse_root.specs.Limits.{most_additions, most_cuboids}
-use Rattle.warehouse_root.specs.Root.{AreAscending, AreProperTotals, IsProper, IsProperCuboid}
+use Rattle.warehouse_root.specs.Root.{ViewsAscend, AreProperTotals, IsProperRoot, IsProperCuboid}
 use Rattle.warehouse_objects.specs.Represents.{root_of, said_of, stored}
 use Rattle.warehouse_objects.specs.Warehouse.{AreInOrder, IsNext, Warehouse}
 
@@ -212,10 +212,10 @@ totals_proper rows in_range = record {
 pub record AreProperCuboids (w : Warehouse) : Type 0 where
   pub most : length (map said_of w.cuboids) ≤ most_cuboids
   pub each : All (IsProperCuboid w.layout (length (map length w.batches))) (map said_of w.cuboids)
-  pub ascending : AreAscending (map said_of w.cuboids)
+  pub ascending : ViewsAscend (map said_of w.cuboids)
 
 pub root_proper : (w : Warehouse) → AreInOrder w.rows w.batches → w.target ≤ length w.batches
-    → w.additions ≤ most_additions → AreProperCuboids w → IsProper (root_of w)
+    → w.additions ≤ most_additions → AreProperCuboids w → IsProperRoot (root_of w)
 root_proper w order target additions cuboids =
     let all : take (length w.batches) w.batches ≡ w.batches = take_all (length w.batches) w.batches (omega arith) in
     let many : length (map length w.batches) ≡ length w.batches = length-map w.batches length in record {

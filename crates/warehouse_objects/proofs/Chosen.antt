@@ -26,12 +26,13 @@ use Rattle.lattice.specs.Views.{index_of, lattice}
 use Rattle.warehouse_root.specs.declared.cuboid.StoredCuboid.{StoredCuboid}
 use Rattle.warehouse_root.specs.declared.layout.Layout.{Layout}
 use Rattle.warehouse_root.specs.declared.layout.Layout.TheVariants.{First, Second}
-use Rattle.warehouse_root.specs.Layouts.{has_modes, number_of, views_of}
+use Rattle.warehouse_root.specs.Layouts.{has_modes, layout_number, view_count}
 use Rattle.warehouse_root.specs.Limits.{most_cuboids}
 use Rattle.warehouse_root.specs.Objects.{run_id, run_ids}
 use Rattle.warehouse_root.specs.Root as roots
-use Rattle.warehouse_root.specs.Root.{AreAscending, IsProperCuboid}
-use Rattle.warehouse_objects.specs.Warehouse.{Cuboid, Warehouse, cuboid_at, dropped_ids, in_order, is_among, kept_of}
+use Rattle.warehouse_root.specs.Root.{ViewsAscend, IsProperCuboid}
+use Rattle.warehouse_objects.specs.Warehouse.{Cuboid, Warehouse, cuboid_at, dropped_ids, views_in_order, is_among}
+use Rattle.warehouse_objects.specs.Warehouse.{kept_of}
 use Rattle.warehouse_objects.specs.Warehouse.{ship_modes_of, with_views}
 use Rattle.warehouse_objects.specs.Represents.{HoldsGroupings, Represents, dimension_of, numbers_among, object_of}
 use Rattle.warehouse_objects.specs.Represents.{root_of, run_after, run_bytes, run_in, said_below, said_of, said_or_new}
@@ -178,27 +179,27 @@ numbers_by : (views vs : List View) (numbers : List ℕ) → map index_of vs ≡
     → map index_of (filter (λ view. is_among views (index_of view)) vs) ≡ filter (is_among views) numbers
 numbers_by views vs numbers same = map-filter (is_among views) index_of vs ∙ ap (filter (is_among views)) same
 
-all_numbers : (layout : Layout) → map index_of (lattice (has_modes layout)) ≡ range_with_len 0 (views_of layout)
+all_numbers : (layout : Layout) → map index_of (lattice (has_modes layout)) ≡ range_with_len 0 (view_count layout)
 all_numbers First = refl
 all_numbers Second = refl
 
 numbers_in : (layout : Layout) (views : List View)
     → map index_of (filter (λ view. is_among views (index_of view)) (lattice (has_modes layout)))
-    ≡ numbers_among views (views_of layout)
+    ≡ numbers_among views (view_count layout)
 unfolding numbers_among
 numbers_in layout views =
-    numbers_by views (lattice (has_modes layout)) (range_with_len 0 (views_of layout)) (all_numbers layout)
+    numbers_by views (lattice (has_modes layout)) (range_with_len 0 (view_count layout)) (all_numbers layout)
 
 pub numbers_are : (layout : Layout) (views : List View)
-    → map index_of (in_order layout views) ≡ numbers_among views (views_of layout)
-unfolding in_order
+    → map index_of (views_in_order layout views) ≡ numbers_among views (view_count layout)
+unfolding views_in_order
 numbers_are layout views = numbers_in layout views
 
 among_in_order : (layout : Layout) (views : List View) (q : ℕ)
-    → is_among (in_order layout views) q ≡ (is_among views q && asks (range_with_len 0 (views_of layout)) q)
+    → is_among (views_in_order layout views) q ≡ (is_among views q && asks (range_with_len 0 (view_count layout)) q)
 among_in_order layout views q =
-    asked_views (in_order layout views) q ∙ ap (λ (l : List ℕ). asks l q) (numbers_are layout views)
-    ∙ asked_among views (views_of layout) q
+    asked_views (views_in_order layout views) q ∙ ap (λ (l : List ℕ). asks l q) (numbers_are layout views)
+    ∙ asked_among views (view_count layout) q
 
 -- ---- what a root says of them
 
@@ -235,7 +236,8 @@ module _ (cuboids : List StoredCuboid) (number : ℕ) where
       by None e = refl
       by (Some cuboid) e = found_said cuboids number cuboid e
 
-  said_proper : (layout : Layout) (batches : ℕ) → number < views_of layout → All (IsProperCuboid layout batches) cuboids
+  said_proper : (layout : Layout) (batches : ℕ) → number < view_count layout
+      → All (IsProperCuboid layout batches) cuboids
       → IsProperCuboid layout batches (said_or_new number found)
   said_proper layout batches low all = by found refl
     where
@@ -256,23 +258,23 @@ module _ (views : List View) (cuboids : List StoredCuboid) where
 
   module _ (layout : Layout) where
     abbrev numbers : List ℕ
-    numbers = numbers_among views (views_of layout)
+    numbers = numbers_among views (view_count layout)
 
     pub said_few : length views ≤ most_cuboids → length (said_with layout views cuboids) ≤ most_cuboids
-    said_few few = omega (arith, few, numbers_few views (views_of layout), length-map numbers said_at)
+    said_few few = omega (arith, few, numbers_few views (view_count layout), length-map numbers said_at)
 
-    pub said_ascend : AreAscending (said_with layout views cuboids)
+    pub said_ascend : ViewsAscend (said_with layout views cuboids)
     said_ascend =
         AllPairs-mapped (λ (one : StoredCuboid) (other : StoredCuboid). one.view < other.view) said_at numbers
         (λ i j d before within.
-        let up = numbers_up views (views_of layout) i j d before within in
+        let up = numbers_up views (view_count layout) i j d before within in
         omega (arith, up, said_view cuboids (get_or numbers i d), said_view cuboids (get_or numbers j d)))
 
     pub said_each : (batches : ℕ) → All (IsProperCuboid layout batches) cuboids
         → All (IsProperCuboid layout batches) (said_with layout views cuboids)
     said_each batches all =
         All-map (IsProperCuboid layout batches) said_at numbers (λ k d within.
-        said_proper cuboids (get_or numbers k d) layout batches (numbers_low views (views_of layout) k d within) all)
+        said_proper cuboids (get_or numbers k d) layout batches (numbers_low views (view_count layout) k d within) all)
 
 -- ---- stored cuboids, found by their views
 
@@ -338,14 +340,14 @@ map_twice f g h (x ∷ xs) same = λ i. same x i ∷ map_twice f g h xs same i
 
 -- what the root says of the cuboids of some views
 said_of_views : (layout : Layout) (views : List View) (cuboids : List Cuboid)
-    → map said_of (map (kept_at cuboids) (in_order layout views)) ≡ said_with layout views (map said_of cuboids)
+    → map said_of (map (kept_at cuboids) (views_in_order layout views)) ≡ said_with layout views (map said_of cuboids)
 said_of_views layout views cuboids =
     map_twice (kept_at cuboids) said_of (λ view. said_at views (map said_of cuboids) (index_of view))
-    (in_order layout views)
+    (views_in_order layout views)
     (λ view. said_kept view (cuboid_at (index_of view) cuboids)
     ∙ ap (said_or_new (index_of view)) (sym (find_said cuboids (index_of view))))
     ∙ sym (map_twice index_of (said_at views (map said_of cuboids))
-    (λ view. said_at views (map said_of cuboids) (index_of view)) (in_order layout views) (λ view. refl))
+    (λ view. said_at views (map said_of cuboids) (index_of view)) (views_in_order layout views) (λ view. refl))
     ∙ ap (map (said_at views (map said_of cuboids))) (numbers_are layout views)
 
 -- the ids of the runs that are dropped
@@ -501,10 +503,10 @@ none_above (c ∷ cs) limit q all above =
     apart n lt = grind (arith, nat_tests, lt, above)
 
 -- views of a layout's lattice are found in it
-either_way : (layout : Layout) (views : List View) (q : ℕ) (o : Option (List ℕ)) → (views_of layout ≤ q → o ≡ None)
-    → (if is_among (in_order layout views) q then o else None) ≡ (if is_among views q then o else None)
+either_way : (layout : Layout) (views : List View) (q : ℕ) (o : Option (List ℕ)) → (view_count layout ≤ q → o ≡ None)
+    → (if is_among (views_in_order layout views) q then o else None) ≡ (if is_among views q then o else None)
 either_way layout views q o high =
-    ap (λ (b : Bool). if b then o else None) (among_in_order layout views q) ∙ by (cases_lt q (views_of layout))
+    ap (λ (b : Bool). if b then o else None) (among_in_order layout views q) ∙ by (cases_lt q (view_count layout))
   where
     none : (b : Bool) (x : Option (List ℕ)) → x ≡ None → (if b then x else None) ≡ None
     none true x e = e
@@ -514,20 +516,20 @@ either_way layout views q o high =
     all_of true = refl
     all_of false = refl
 
-    by : (q < views_of layout) ⊎ (views_of layout ≤ q)
-        → (if (is_among views q && asks (range_with_len 0 (views_of layout)) q) then o else None)
+    by : (q < view_count layout) ⊎ (view_count layout ≤ q)
+        → (if (is_among views q && asks (range_with_len 0 (view_count layout)) q) then o else None)
         ≡ (if is_among views q then o else None)
     by (inl lt) =
         ap (λ (t : Bool). if (is_among views q && t) then o else None)
-        (asks_range 0 (views_of layout) q (omega arith) (omega (arith, lt)))
+        (asks_range 0 (view_count layout) q (omega arith) (omega (arith, lt)))
         ∙ ap (λ (t : Bool). if t then o else None) (all_of (is_among views q))
-    by (inr le) = none (is_among views q && asks (range_with_len 0 (views_of layout)) q) o (high le)
+    by (inr le) = none (is_among views q && asks (range_with_len 0 (view_count layout)) q) o (high le)
         ∙ sym (none (is_among views q) o (high le))
 
 chooses : (layout : Layout) (cuboids : List Cuboid) (views : List View) (id : ℕ)
-    → All (λ c. length c.runs ≤ 8) cuboids → All (λ c. index_of c.view < views_of layout) cuboids → 131072 ≤ id
+    → All (λ c. length c.runs ≤ 8) cuboids → All (λ c. index_of c.view < view_count layout) cuboids → 131072 ≤ id
     → without (dropped views cuboids) id (run_after (id - 131072) cuboids)
-    ≡ run_after (id - 131072) (map (kept_at cuboids) (in_order layout views))
+    ≡ run_after (id - 131072) (map (kept_at cuboids) (views_in_order layout views))
 chooses layout cuboids views id few views_low from =
     let q = (id - 131072) / 16 in
     let m = (id - 131072) % 16 in
@@ -540,8 +542,8 @@ chooses layout cuboids views id few views_low from =
       | false ↦ λ e. goes views id q m parts low from cuboids e
     ]) refl)
     ∙ sym (either_way layout views q (run_in (cuboid_at q cuboids) m)
-    (λ le. ap (λ (o : Option Cuboid). run_in o m) (none_above cuboids (views_of layout) q views_low le)))
-    ∙ sym (at_views cuboids q m (in_order layout views))
+    (λ le. ap (λ (o : Option Cuboid). run_in o m) (none_above cuboids (view_count layout) q views_low le)))
+    ∙ sym (at_views cuboids q m (views_in_order layout views))
 
 not_dropped : (views : List View) (cuboids : List Cuboid) (id : ℕ) (was : Option (List ℕ)) → id < 131072
     → without (dropped views cuboids) id was ≡ was
@@ -563,7 +565,7 @@ not_dropped views (c ∷ cs) id was lt =
 module _ (c : Content) (w : Warehouse) (views : List View) (represents : Represents c w)
     (few : length views ≤ most_cuboids) where
   abbrev bytes : List ℕ
-  bytes = roots.root_of (root_of (with_views w views))
+  bytes = roots.root_spelling (root_of (with_views w views))
 
   abbrev Proper : StoredCuboid → Type 0
   Proper = IsProperCuboid w.layout (length (map length w.batches))
@@ -582,7 +584,8 @@ module _ (c : Content) (w : Warehouse) (views : List View) (represents : Represe
           ∙ sym (objects_low (dimension_of w.rows Customer) (dimension_of w.rows Supplier) (dimension_of w.rows Part)
           (dimension_of w.rows Date) (modes_object w.layout (ship_modes_of w)) segment_of
           (λ place. run_after place w.cuboids)
-          (λ place. run_after place (map (kept_at w.cuboids) (in_order w.layout views))) w.batches id (object_of w id)
+          (λ place. run_after place (map (kept_at w.cuboids) (views_in_order w.layout views))) w.batches id
+          (object_of w id)
           lt
           refl)
       by (inr le) =
@@ -594,11 +597,11 @@ module _ (c : Content) (w : Warehouse) (views : List View) (represents : Represe
           (λ k d within. (proper_each k d within).view) le
           ∙ sym (objects_high (dimension_of w.rows Customer) (dimension_of w.rows Supplier) (dimension_of w.rows Part)
           (dimension_of w.rows Date) (modes_object w.layout (ship_modes_of w)) segment_of
-          (λ place. run_after place (map (kept_at w.cuboids) (in_order w.layout views))) w.batches id le)
+          (λ place. run_after place (map (kept_at w.cuboids) (views_in_order w.layout views))) w.batches id le)
 
   proper_chosen : AreProperCuboids (with_views w views)
   proper_chosen =
-      let same : map said_of (map (kept_at w.cuboids) (in_order w.layout views))
+      let same : map said_of (map (kept_at w.cuboids) (views_in_order w.layout views))
       ≡ said_with w.layout views (map said_of w.cuboids) =
       said_of_views w.layout views w.cuboids in record {
         most = subst (λ (l : List StoredCuboid). length l ≤ most_cuboids) (sym same)
@@ -606,13 +609,13 @@ module _ (c : Content) (w : Warehouse) (views : List View) (represents : Represe
         each = subst (λ (l : List StoredCuboid). All Proper l) (sym same)
             (said_each views (map said_of w.cuboids) w.layout (length (map length w.batches))
             represents.root.proper.each);
-        ascending = subst (λ (l : List StoredCuboid). AreAscending l) (sym same)
+        ascending = subst (λ (l : List StoredCuboid). ViewsAscend l) (sym same)
             (said_ascend views (map said_of w.cuboids) w.layout);
       }
 
-  hold_chosen : All (HoldsGroupings (with_views w views)) (map (kept_at w.cuboids) (in_order w.layout views))
-  hold_chosen = All-map (HoldsGroupings (with_views w views)) (kept_at w.cuboids) (in_order w.layout views)
-      (λ k d within. holds (get_or (in_order w.layout views) k d))
+  hold_chosen : All (HoldsGroupings (with_views w views)) (map (kept_at w.cuboids) (views_in_order w.layout views))
+  hold_chosen = All-map (HoldsGroupings (with_views w views)) (kept_at w.cuboids) (views_in_order w.layout views)
+      (λ k d within. holds (get_or (views_in_order w.layout views) k d))
     where
       still : (cuboid : Cuboid) → HoldsGroupings w cuboid → HoldsGroupings (with_views w views) cuboid
       still cuboid holds = record {
@@ -636,15 +639,15 @@ module _ (c : Content) (w : Warehouse) (views : List View) (represents : Represe
           by (Some cuboid) e =
               still cuboid (found_in (HoldsGroupings w) w.cuboids (index_of view) cuboid represents.cuboids e)
 
-  pub represents_chosen : Represents (committed [] (dropped_ids w views) bytes (number_of w.layout) c)
+  pub represents_chosen : Represents (committed [] (dropped_ids w views) bytes (layout_number w.layout) c)
       (with_views w views)
   represents_chosen = record {
-    objects = λ id. bytes_after [] (dropped_ids w views) bytes (number_of w.layout) c id
+    objects = λ id. bytes_after [] (dropped_ids w views) bytes (layout_number w.layout) c id
         ∙ ap (without (dropped_ids w views) id) (represents.objects id) ∙ object_chosen id;
-    once = once_after [] (dropped_ids w views) bytes (number_of w.layout) c represents.once;
-    layout = layout_after [] (dropped_ids w views) bytes (number_of w.layout) c;
+    once = once_after [] (dropped_ids w views) bytes (layout_number w.layout) c represents.once;
+    layout = layout_after [] (dropped_ids w views) bytes (layout_number w.layout) c;
     root = record {
-      spelled = root_after [] (dropped_ids w views) bytes (number_of w.layout) c;
+      spelled = root_after [] (dropped_ids w views) bytes (layout_number w.layout) c;
       proper = root_proper (with_views w views) represents.batches (omega arith) represents.root.proper.additions
           proper_chosen;
     };

@@ -25,12 +25,12 @@ use Rattle.dimensions.proofs.CallerLemmas.{good_customers, good_dates, good_part
 use Rattle.dimensions.specs.Shown.{rows_on}
 use Rattle.warehouse_root.specs.declared.layout.Layout.{Layout}
 use Rattle.warehouse_root.specs.declared.layout.Layout.TheVariants.{First, Second}
-use Rattle.warehouse_root.specs.Layouts.{number_of}
+use Rattle.warehouse_root.specs.Layouts.{layout_number}
 use Rattle.warehouse_root.specs.Modes.{AreModes, kept_modes, modes_spelling}
 use Rattle.warehouse_root.specs.Objects.{segment_id}
 use Rattle.warehouse_root.proofs.ModesLaws.{modes_spelling-least, modes_spelling-most}
 use Rattle.warehouse_root.specs.Root as roots
-use Rattle.warehouse_root.specs.Root.{IsProper, IsProperCuboid}
+use Rattle.warehouse_root.specs.Root.{IsProperRoot, IsProperCuboid}
 use Rattle.warehouse_root.specs.declared.cuboid.StoredCuboid.{StoredCuboid}
 use Rattle.cuboid_cells.specs.declared.span.Span.{Span}
 use Rattle.cuboid_cells.specs.Spelled.{IsSpan}
@@ -38,7 +38,7 @@ use Rattle.cuboid_cells.specs.Steps.{cells_of}
 use Rattle.cuboid_upkeep.specs.Grouping.{RepresentRows}
 use Rattle.cuboid_upkeep.proofs.CallerLemmas.{they_still_represent}
 use Rattle.warehouse_objects.specs.Warehouse.{AreInOrder, AreStorable, Cuboid, IsNext, StoredRun, Warehouse, aimed}
-use Rattle.warehouse_objects.specs.Facts.{Admits}
+use Rattle.warehouse_objects.specs.Facts.{AdmitsBatch}
 use Rattle.warehouse_objects.specs.Warehouse.{fresh_in, loaded, migrated, ship_modes_of}
 use Rattle.warehouse_objects.specs.Represents.{Follow, HasRows, HoldsGroupings, Represents, dimension_of, modes_object}
 use Rattle.warehouse_objects.specs.Represents.{object_of}
@@ -152,7 +152,7 @@ object_batch w before low =
 -- ---- a content that was made
 
 abbrev first_bytes : Layout → List ℕ
-first_bytes layout = roots.root_of (roots.first_root layout)
+first_bytes layout = roots.root_spelling (roots.first_root layout)
 
 -- the objects that a warehouse is made of
 objects_first : (rows : DimRows) (id : ℕ) (layout : Layout)
@@ -168,14 +168,15 @@ objects_first rows id Second =
     (dimension_of rows Date) (modes_spelling []) None segment_of (λ _. None) [] id
 
 pub represents_created : (layout : Layout) (rows : DimRows) → AreStorable rows
-    → Represents (created (beginning_puts layout rows) (first_bytes layout) (number_of layout)) (fresh_in layout rows)
+    → Represents (created (beginning_puts layout rows) (first_bytes layout) (layout_number layout))
+    (fresh_in layout rows)
 represents_created layout rows storable =
     let puts : List (ℕ × List ℕ) = beginning_puts layout rows in record {
-      objects = λ id. bytes_created puts (first_bytes layout) (number_of layout) id ∙ objects_first rows id layout;
-      once = once_created puts (first_bytes layout) (number_of layout);
-      layout = layout_created puts (first_bytes layout) (number_of layout);
+      objects = λ id. bytes_created puts (first_bytes layout) (layout_number layout) id ∙ objects_first rows id layout;
+      once = once_created puts (first_bytes layout) (layout_number layout);
+      layout = layout_created puts (first_bytes layout) (layout_number layout);
       root = record {
-        spelled = root_created puts (first_bytes layout) (number_of layout);
+        spelled = root_created puts (first_bytes layout) (layout_number layout);
         proper = root_proper (fresh_in layout rows) (in_order_none rows) (omega arith) (omega arith) (record {
           most = omega arith;
           each = All-nil (IsProperCuboid layout 0);
@@ -248,7 +249,7 @@ groupings_moved w cuboid holds = record {
 }
 
 -- the marks of stored cuboids, by the root
-mark_within : (w : Warehouse) → IsProper (root_of w) → All (λ cuboid. cuboid.mark ≤ length w.batches) w.cuboids
+mark_within : (w : Warehouse) → IsProperRoot (root_of w) → All (λ cuboid. cuboid.mark ≤ length w.batches) w.cuboids
 mark_within w proper = λ k d within.
     let said = proper.each k (said_of d) (omega (arith, within, length-map w.cuboids said_of)) in
     let same : get_or (map said_of w.cuboids) k (said_of d) ≡ said_of (get_or w.cuboids k d) =
@@ -256,12 +257,12 @@ mark_within w proper = λ k d within.
     omega (arith, said.mark, ap (λ (s : StoredCuboid). s.mark) same, length-map w.batches length)
 
 module _ (c : Content) (w : Warehouse) (number : ℕ) (batch : List LineOrder) (represents : Represents c w)
-    (admits : Admits w number batch) (fits : FitColumns batch) where
+    (admits : AdmitsBatch w number batch) (fits : FitColumns batch) where
   admissible : IsAdmissible w.rows w.batches number batch
   admissible = admissible_in w.layout w.rows w.batches number batch admits
 
   abbrev bytes : List ℕ
-  bytes = roots.root_of (root_of (loaded w batch))
+  bytes = roots.root_spelling (root_of (loaded w batch))
 
   is_next : number ≡ length w.batches + 1
   is_next = next_number w.rows w.batches number batch admissible
@@ -319,13 +320,13 @@ module _ (c : Content) (w : Warehouse) (number : ℕ) (batch : List LineOrder) (
       (dimension_of w.rows Date) segment_of (λ place. run_after place w.cuboids) (w.batches ++ batch ∷ [])
       w.layout (ship_modes_of w) (ship_modes_of (loaded w batch)) id same_modes
 
-  pub represents_loaded : Represents (committed puts [] bytes (number_of w.layout) c) (loaded w batch)
+  pub represents_loaded : Represents (committed puts [] bytes (layout_number w.layout) c) (loaded w batch)
   represents_loaded = record {
-    objects = λ id. bytes_after puts [] bytes (number_of w.layout) c id ∙ objects_loaded id;
-    once = once_after puts [] bytes (number_of w.layout) c represents.once;
-    layout = layout_after puts [] bytes (number_of w.layout) c;
+    objects = λ id. bytes_after puts [] bytes (layout_number w.layout) c id ∙ objects_loaded id;
+    once = once_after puts [] bytes (layout_number w.layout) c represents.once;
+    layout = layout_after puts [] bytes (layout_number w.layout) c;
     root = record {
-      spelled = root_after puts [] bytes (number_of w.layout) c;
+      spelled = root_after puts [] bytes (layout_number w.layout) c;
       proper = root_proper (loaded w batch) in_order target represents.root.proper.additions (record {
         most = represents.root.proper.most_cuboids;
         each = λ k d within. proper_more (get_or (map said_of w.cuboids) k d) (represents.root.proper.each k d within);
@@ -343,14 +344,14 @@ module _ (c : Content) (w : Warehouse) (number : ℕ) (batch : List LineOrder) (
 -- ---- a new target
 
 pub represents_aimed : (c : Content) (w : Warehouse) → Represents c w
-    → Represents (committed [] [] (roots.root_of (root_of (aimed w))) (number_of w.layout) c) (aimed w)
+    → Represents (committed [] [] (roots.root_spelling (root_of (aimed w))) (layout_number w.layout) c) (aimed w)
 represents_aimed c w represents =
-    let bytes : List ℕ = roots.root_of (root_of (aimed w)) in record {
-      objects = λ id. bytes_after [] [] bytes (number_of w.layout) c id ∙ represents.objects id;
-      once = once_after [] [] bytes (number_of w.layout) c represents.once;
-      layout = layout_after [] [] bytes (number_of w.layout) c;
+    let bytes : List ℕ = roots.root_spelling (root_of (aimed w)) in record {
+      objects = λ id. bytes_after [] [] bytes (layout_number w.layout) c id ∙ represents.objects id;
+      once = once_after [] [] bytes (layout_number w.layout) c represents.once;
+      layout = layout_after [] [] bytes (layout_number w.layout) c;
       root = record {
-        spelled = root_after [] [] bytes (number_of w.layout) c;
+        spelled = root_after [] [] bytes (layout_number w.layout) c;
         proper = root_proper (aimed w) represents.batches (omega arith) represents.root.proper.additions (record {
           most = represents.root.proper.most_cuboids;
           each = represents.root.proper.each;
@@ -369,7 +370,7 @@ represents_aimed c w represents =
 -- the root with the batch is the root with its rows and its totals
 pub root_loaded : (w : Warehouse) (batch : List LineOrder)
     → root_of (loaded w batch)
-    ≡ roots.with_batch (length batch) (stored (totals_of (all_rows (w.batches ++ batch ∷ [])))) (root_of w)
+    ≡ roots.root_with_batch (length batch) (stored (totals_of (all_rows (w.batches ++ batch ∷ [])))) (root_of w)
 root_loaded w batch =
     let lengths : map length (w.batches ++ batch ∷ []) ≡ map length w.batches ++ length batch ∷ [] =
     map-append length w.batches (batch ∷ []) in
@@ -498,7 +499,7 @@ segment_and_modes number batch modes is are =
 
 -- and what a submit puts
 pub loading_is_put : (c : Content) (w : Warehouse) (number : ℕ) (batch : List LineOrder) → Represents c w
-    → Admits w number batch → ArePuts (loading_puts w number batch)
+    → AdmitsBatch w number batch → ArePuts (loading_puts w number batch)
 loading_is_put c w number batch represents admits =
     (elim (length (ship_modes_of (loaded w batch)) == length (ship_modes_of w)) as
     (λ (t : Bool). ArePuts

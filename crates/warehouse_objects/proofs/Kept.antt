@@ -18,10 +18,10 @@ use Rattle.column_segment.specs.Segment.{segment_of}
 use Rattle.lattice.specs.declared.view.View.{View}
 use Rattle.lattice.specs.Views.{index_of}
 use Rattle.warehouse_root.specs.declared.cuboid.StoredCuboid.{StoredCuboid}
-use Rattle.warehouse_root.specs.Layouts.{number_of, views_of}
+use Rattle.warehouse_root.specs.Layouts.{layout_number, view_count}
 use Rattle.warehouse_root.specs.Objects.{run_id}
 use Rattle.warehouse_root.specs.Root as roots
-use Rattle.warehouse_root.specs.Root.{AreAscending, IsProperCuboid}
+use Rattle.warehouse_root.specs.Root.{ViewsAscend, IsProperCuboid}
 use Rattle.warehouse_objects.specs.Warehouse.{Cuboid, StoredRun, Warehouse, cuboid_at, kept, ship_modes_of, put_cuboid}
 use Rattle.warehouse_objects.specs.Represents.{Follow, HoldsGroupings, Represents, dimension_of, object_of, root_of}
 use Rattle.warehouse_objects.specs.Represents.{modes_object, run_after, run_bytes, run_in, said_of}
@@ -278,7 +278,7 @@ not_put v n id o bytes lt = grind (arith, nat_tests, lt)
 module _ (c : Content) (w : Warehouse) (old new : Cuboid) (represents : Represents c w) (may : MayReplace w old new)
   where
     abbrev root_bytes : List ℕ
-    root_bytes = roots.root_of (root_of (kept w new))
+    root_bytes = roots.root_spelling (root_of (kept w new))
 
     many : length (map said_of (put_cuboid new w.cuboids)) ≡ length (map said_of w.cuboids)
     many = length-map (put_cuboid new w.cuboids) said_of
@@ -295,7 +295,7 @@ module _ (c : Content) (w : Warehouse) (old new : Cuboid) (represents : Represen
 
     proper_new : Proper (said_of new)
     proper_new = record {
-      view = subst (λ (n : ℕ). n < views_of w.layout) (ap index_of (sym may.view)) old_view;
+      view = subst (λ (n : ℕ). n < view_count w.layout) (ap index_of (sym may.view)) old_view;
       mark = omega (arith, may.within, length-map w.batches length);
       no_run = (λ none. absurd (no_runs none), λ none. absurd (omega (arith, may.some, none)));
       most_runs = may.few;
@@ -314,7 +314,7 @@ module _ (c : Content) (w : Warehouse) (old new : Cuboid) (represents : Represen
               | false ↦ λ e. found_in xs (All-tail (λ cuboid. Proper (said_of cuboid)) x xs all) e
             ]) is
 
-        old_view : index_of old.view < views_of w.layout
+        old_view : index_of old.view < view_count w.layout
         old_view = (found_in w.cuboids proper_old may.stored).view
 
         no_runs : length new.runs ≡ 0 → ⊥
@@ -367,14 +367,14 @@ module _ (c : Content) (w : Warehouse) (old new : Cuboid) (represents : Represen
     -- of any commit that makes the runs of the cuboid so
     represents_kept : (puts : List (ℕ × List ℕ)) (drops : List ℕ)
         → ((id : ℕ) → among puts id (without drops id (object_of w id)) ≡ object_of (kept w new) id)
-        → Represents (committed puts drops root_bytes (number_of w.layout) c) (kept w new)
+        → Represents (committed puts drops root_bytes (layout_number w.layout) c) (kept w new)
     represents_kept puts drops objects = record {
-      objects = λ id. bytes_after puts drops root_bytes (number_of w.layout) c id
+      objects = λ id. bytes_after puts drops root_bytes (layout_number w.layout) c id
           ∙ ap (λ (o : Option (List ℕ)). among puts id (without drops id o)) (represents.objects id) ∙ objects id;
-      once = once_after puts drops root_bytes (number_of w.layout) c represents.once;
-      layout = layout_after puts drops root_bytes (number_of w.layout) c;
+      once = once_after puts drops root_bytes (layout_number w.layout) c represents.once;
+      layout = layout_after puts drops root_bytes (layout_number w.layout) c;
       root = record {
-        spelled = root_after puts drops root_bytes (number_of w.layout) c;
+        spelled = root_after puts drops root_bytes (layout_number w.layout) c;
         proper = root_proper (kept w new) represents.batches
             (omega (arith, represents.root.proper.target, length-map w.batches length)) represents.root.proper.additions
             proper_after;
@@ -426,7 +426,8 @@ module _ (c : Content) (w : Warehouse) (old new : Cuboid) (represents : Represen
             ]) is
 
     pub represents_appended : (run : StoredRun) → new.runs ≡ old.runs ++ run ∷ []
-        → Represents (committed (run_put new (length old.runs) run) [] root_bytes (number_of w.layout) c) (kept w new)
+        → Represents (committed (run_put new (length old.runs) run) [] root_bytes (layout_number w.layout) c)
+        (kept w new)
     represents_appended run more =
         represents_kept (run_put new (length old.runs) run) []
         (object_kept (run_put new (length old.runs) run) []
@@ -434,7 +435,7 @@ module _ (c : Content) (w : Warehouse) (old new : Cuboid) (represents : Represen
         (λ id le. appended w.cuboids old new run id may.stored may.view le more (omega (arith, old_few))))
 
     pub represents_merged : (run : StoredRun) → new.runs ≡ run ∷ []
-        → Represents (committed (run_put new 0 run) (later_runs old) root_bytes (number_of w.layout) c) (kept w new)
+        → Represents (committed (run_put new 0 run) (later_runs old) root_bytes (layout_number w.layout) c) (kept w new)
     represents_merged run one =
         represents_kept (run_put new 0 run) (later_runs old)
         (object_kept (run_put new 0 run) (later_runs old)

@@ -25,7 +25,7 @@ use Rattle.cube_model.specs.Limits.{longest_text, most_members}
 use Rattle.cube_model.specs.ShipModes.{crowded_place, modes_cause, modes_in, reserved_place}
 use Rattle.cube_model.specs.Validity.{members_of}
 use Rattle.batch_admission.proofs.CallerLemmas.{all_rows-last}
-use Rattle.batch_admission.specs.ShipModes.{row_at}
+use Rattle.batch_admission.specs.ShipModes.{row_number_at}
 use Rattle.dictionary.specs.Dictionary.{EachOnce, firsts}
 use Rattle.dictionary.specs.Spelling.{AreShort}
 use Rattle.dictionary.proofs.CallerLemmas.{absent, list_any-firsts, list_any_place}
@@ -229,7 +229,7 @@ firsts-once (text ∷ texts) once =
     ap (λ l. text ∷ filter (λ other. not (bytes_eq text other)) l) (firsts-once texts once.1)
     ∙ ap (λ l. text ∷ l) (keeps_all text texts once.0)
 
-at_row : (f : ℕ → Fault) (place : Option ℕ) (row : ℕ) → Some row ≡ row_at place
+at_row : (f : ℕ → Fault) (place : Option ℕ) (row : ℕ) → Some row ≡ row_number_at place
     → option_map (λ p. f (p + 1)) place ≡ Some (f row)
 at_row f None row e = absurd cc
 at_row f (Some p) row e = let same : row ≡ p + 1 = some_number row (p + 1) e in ap (λ n. Some (f n)) (sym same)
@@ -237,20 +237,20 @@ at_row f (Some p) row e = let same : row ≡ p + 1 = some_number row (p + 1) e i
     some_number : (a b : ℕ) → Some a ≡ Some b → a ≡ b
     some_number a b e = cc
 
-at_no_row : (f : ℕ → Fault) (place : Option ℕ) → None ≡ row_at place → option_map (λ p. f (p + 1)) place ≡ None
+at_no_row : (f : ℕ → Fault) (place : Option ℕ) → None ≡ row_number_at place → option_map (λ p. f (p + 1)) place ≡ None
 at_no_row f None e = refl
 at_no_row f (Some p) e = absurd cc
 
 module _ (earlier texts : List (List ℕ)) where
-  pub cause_reserved : (row : ℕ) → Some row ≡ row_at (reserved_place texts)
+  pub cause_reserved : (row : ℕ) → Some row ≡ row_number_at (reserved_place texts)
       → modes_cause InBatch earlier texts ≡ Some (ReservedMember (InBatch row))
   cause_reserved row e =
       ap (λ (c : Option Fault). first_cause (c ∷ option_map (λ p. TooManyMembers (InBatch (p + 1)))
       (crowded_place earlier texts) ∷ []))
       (at_row (λ n. ReservedMember (InBatch n)) (reserved_place texts) row e)
 
-  pub cause_crowded : (row : ℕ) → None ≡ row_at (reserved_place texts)
-      → Some row ≡ row_at (crowded_place earlier texts)
+  pub cause_crowded : (row : ℕ) → None ≡ row_number_at (reserved_place texts)
+      → Some row ≡ row_number_at (crowded_place earlier texts)
       → modes_cause InBatch earlier texts ≡ Some (TooManyMembers (InBatch row))
   cause_crowded row none e =
       ap (λ (c : Option Fault). first_cause (c ∷ option_map (λ p. TooManyMembers (InBatch (p + 1)))
@@ -259,7 +259,7 @@ module _ (earlier texts : List (List ℕ)) where
       ∙ ap (λ (c : Option Fault). first_cause (c ∷ []))
       (at_row (λ n. TooManyMembers (InBatch n)) (crowded_place earlier texts) row e)
 
-  pub cause_none : None ≡ row_at (reserved_place texts) → None ≡ row_at (crowded_place earlier texts)
+  pub cause_none : None ≡ row_number_at (reserved_place texts) → None ≡ row_number_at (crowded_place earlier texts)
       → modes_cause InBatch earlier texts ≡ None
   cause_none none also =
       ap (λ (c : Option Fault). first_cause (c ∷ option_map (λ p. TooManyMembers (InBatch (p + 1)))
@@ -274,7 +274,7 @@ none_then (Some x) e there = absurd cc
 
 -- those of a batch after ship modes that can be members
 pub modes_after : (known texts more : List (List ℕ)) → AreModes known → AreShort texts
-    → None ≡ row_at (reserved_place texts) → more ≡ firsts (known ++ texts) → length more ≤ most_members
+    → None ≡ row_number_at (reserved_place texts) → more ≡ firsts (known ++ texts) → length more ≤ most_members
     → AreModes more
 modes_after known texts more are short free is few =
     let none : list_any (bytes_eq (codes "ALL")) texts ≡ false =

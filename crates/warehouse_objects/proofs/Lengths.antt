@@ -24,8 +24,9 @@ use Rattle.dimensions.specs.Shapes.{lowers_of, lower_of}
 use Rattle.dimensions.specs.TextRows.{TextRow}
 use Rattle.dimensions.proofs.CallerLemmas.{few_good_rows, good_places_above, good_places_of_rows, good_texts}
 use Rattle.dimensions.proofs.CallerLemmas.{lower_below}
-use Rattle.dimension_objects.specs.Spelled.{codes_in_order, dimension_spelling, header_of, keys_spelling}
-use Rattle.dimension_objects.specs.Spelled.{linked_columns, parts_of, row_columns, stored_columns, texts_in_order}
+use Rattle.dimension_objects.specs.Spelled.{codes_in_order, dimension_spelling, dimension_header, keys_spelling}
+use Rattle.dimension_objects.specs.Spelled.{linked_columns, dimension_parts, row_columns, stored_columns}
+use Rattle.dimension_objects.specs.Spelled.{texts_in_order}
 use Rattle.dimension_objects.specs.Spelled as dimension_objects
 use Rattle.dimension_objects.proofs.Front.{length-numbers}
 use Rattle.dimension_objects.proofs.SpelledLaws.{linked_all, row_all, stored_all}
@@ -136,7 +137,7 @@ narrow = (
 )
 
 module _ (number : ℕ) (rows : List LineOrder) where
-  front : length (segments.header_of number (length rows)) ≡ 12
+  front : length (segments.segment_header number (length rows)) ≡ 12
   front = omega (
     arith,
     length-append (codes "SEG1") (spelling 4 number ++ spelling 4 (length rows)),
@@ -149,13 +150,13 @@ module _ (number : ℕ) (rows : List LineOrder) where
   columns = flat_map (number_column rows) number_columns ++ flat_map (text_column rows) text_columns
 
   pub segment_least : 1 ≤ length (segment_of number rows)
-  segment_least = omega (arith, length-append (segments.header_of number (length rows)) columns, front)
+  segment_least = omega (arith, length-append (segments.segment_header number (length rows)) columns, front)
 
   pub segment_most : IsBatch rows → length (segment_of number rows) ≤ most_object_bytes
   segment_most batch =
       omega (
         arith,
-        length-append (segments.header_of number (length rows)) columns,
+        length-append (segments.segment_header number (length rows)) columns,
         front,
         length-append (flat_map (number_column rows) number_columns) (flat_map (text_column rows) text_columns),
         number_columns_most rows batch.few number_columns narrow,
@@ -195,7 +196,7 @@ module _ (axis : Axis) (rows : List TextRow) (good : AreGoodRows axis rows) wher
   keys = map (λ row. row.key) rows
 
   abbrev numbers : ℕ → List ℕ
-  numbers = (parts_of axis rows).codes
+  numbers = (dimension_parts axis rows).codes
 
   few_codes : (i : ℕ) → i < length (lowers_of axis) → length (numbers i) ≤ most_dimension_rows
   few_codes i lt = elim (lower_of axis i) as (λ o. lower_of axis i ≡ o → length (numbers i) ≤ most_dimension_rows) [
@@ -216,9 +217,9 @@ module _ (axis : Axis) (rows : List TextRow) (good : AreGoodRows axis rows) wher
   linked = codes_in_order numbers (linked_columns axis)
 
   abbrev texts : List ℕ
-  texts = texts_in_order (parts_of axis rows).texts (stored_columns axis)
+  texts = texts_in_order (dimension_parts axis rows).texts (stored_columns axis)
 
-  header : length (dimension_objects.header_of axis (length keys)) ≡ 12
+  header : length (dimension_objects.dimension_header axis (length keys)) ≡ 12
   header = omega (
     arith,
     length-append (codes "DIM1") (spelling 4 (dimension_objects.axis_number axis) ++ spelling 4 (length keys)),
@@ -231,7 +232,7 @@ module _ (axis : Axis) (rows : List TextRow) (good : AreGoodRows axis rows) wher
   dimension_least =
       omega (
         arith,
-        length-append (dimension_objects.header_of axis (length keys))
+        length-append (dimension_objects.dimension_header axis (length keys))
             (texts ++ (linked ++ (keys_spelling keys ++ last))),
         header,
       )
@@ -241,14 +242,14 @@ module _ (axis : Axis) (rows : List TextRow) (good : AreGoodRows axis rows) wher
   in_all =
       omega (
         arith,
-        length-append (dimension_objects.header_of axis (length keys))
+        length-append (dimension_objects.dimension_header axis (length keys))
             (texts ++ (linked ++ (keys_spelling keys ++ last))),
         header,
         length-append texts (linked ++ (keys_spelling keys ++ last)),
         length-append linked (keys_spelling keys ++ last),
         length-append (keys_spelling keys) last,
-        texts_in_order_most (parts_of axis rows).texts (stored_columns axis)
-            (stored_all axis (λ column. AreProper most_members ((parts_of axis rows).texts column))
+        texts_in_order_most (dimension_parts axis rows).texts (stored_columns axis)
+            (stored_all axis (λ column. AreProper most_members ((dimension_parts axis rows).texts column))
             (good_texts axis rows good)),
         codes_in_order_most numbers (linked_columns axis)
             (linked_all axis (λ column. length (numbers column) ≤ most_dimension_rows) few_codes),

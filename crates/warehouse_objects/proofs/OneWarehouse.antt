@@ -22,9 +22,9 @@ use Rattle.cuboid_cells.proofs.CallerLemmas.{IsRun-one}
 use Rattle.warehouse_root.specs.declared.cuboid.StoredCuboid.{StoredCuboid}
 use Rattle.warehouse_root.specs.declared.layout.Layout.{Layout}
 use Rattle.warehouse_root.specs.declared.layout.Layout.TheVariants.{First, Second}
-use Rattle.warehouse_root.specs.Layouts.{number_of, views_of}
+use Rattle.warehouse_root.specs.Layouts.{layout_number, view_count}
 use Rattle.warehouse_root.specs.Objects.{run_id}
-use Rattle.warehouse_root.specs.Root.{AreAscending}
+use Rattle.warehouse_root.specs.Root.{ViewsAscend}
 use Rattle.warehouse_root.proofs.CallerLemmas.{root_fits, root_of-one}
 use Rattle.warehouse_objects.specs.Warehouse.{Cuboid, Warehouse, cuboid_at, ship_modes_of}
 use Rattle.warehouse_objects.specs.Represents.{IsLaid, Represents, RepresentsWith, dimension_of, object_of, root_of}
@@ -41,7 +41,7 @@ place_is v r few =
     (omega (arith, parts, low, few), omega (arith, parts, low, few))
 
 -- a cuboid of cuboids by ascending views is that of its view
-pub own_view : (cuboids : List Cuboid) (k : ℕ) (d : Cuboid) → AreAscending (map said_of cuboids) → k < length cuboids
+pub own_view : (cuboids : List Cuboid) (k : ℕ) (d : Cuboid) → ViewsAscend (map said_of cuboids) → k < length cuboids
     → cuboid_at (index_of (get_or cuboids k d).view) cuboids ≡ Some (get_or cuboids k d)
 own_view [] k d up within = absurd (omega (arith, within))
 own_view (c ∷ cs) zero d up within =
@@ -62,7 +62,7 @@ own_view (c ∷ cs) (suc k) d up within =
     other : (n m : ℕ) → n < m → (n == m) ≡ false
     other n m lt = grind (arith, nat_tests, lt)
 
-pub object_run : (w : Warehouse) (k r : ℕ) (d : Cuboid) → AreAscending (map said_of w.cuboids) → k < length w.cuboids
+pub object_run : (w : Warehouse) (k r : ℕ) (d : Cuboid) → ViewsAscend (map said_of w.cuboids) → k < length w.cuboids
     → r < 16
     → object_of w (run_id (index_of (get_or w.cuboids k d).view) r) ≡ option_map (run_bytes (get_or w.cuboids k d))
     (slice_get (get_or w.cuboids k d).runs r)
@@ -97,7 +97,7 @@ batches_same (x ∷ xs) [] many same = absurd (omega (arith, many))
 batches_same (x ∷ xs) (y ∷ ys) many same =
     λ i. same 0 x y refl refl i ∷ batches_same xs ys (omega (arith, many)) (λ k. same (suc k)) i
 
-pub one_layout : (a b : Layout) → number_of a ≡ number_of b → a ≡ b
+pub one_layout : (a b : Layout) → layout_number a ≡ layout_number b → a ≡ b
 one_layout First First same = refl
 one_layout First Second same = absurd (omega (arith, same))
 one_layout Second First same = absurd (omega (arith, same))
@@ -206,7 +206,7 @@ module _ (law : ValidRowsKeepTheRules) (c : Content) (w v : Warehouse) (is : Rep
 module _ {Keeps : Warehouse → Cuboid → Type 0} (c : Content) (w : Warehouse) (represents : RepresentsWith Keeps c w)
   where
     abbrev IsOfLayout : Cuboid → Type 0
-    IsOfLayout cuboid = index_of cuboid.view < views_of w.layout
+    IsOfLayout cuboid = index_of cuboid.view < view_count w.layout
 
     pub views_within : All IsOfLayout w.cuboids
     views_within = λ k d within.

@@ -4,7 +4,7 @@ use Rattle.cube_model.specs.declared.fault.Fault.{Fault}
 use Rattle.cube_model.specs.declared.fault.Fault.TheVariants.{BadLayout, Memory}
 use Rattle.object_store.specs.Content.{Content}
 use Rattle.warehouse_root.specs.declared.layout.Layout.{Layout}
-use Rattle.warehouse_root.specs.Layouts.{number_of}
+use Rattle.warehouse_root.specs.Layouts.{layout_number}
 use Rattle.warehouse_root.specs.Root.{IsRootOf, PlainRoot}
 use Rattle.warehouse_root.proofs.CallerLemmas.{IsRootOf-one}
 use Rattle.warehouse_objects.specs.Warehouse.{Warehouse}
@@ -12,7 +12,7 @@ use Rattle.warehouse_objects.specs.Represents.{Represents, root_of}
 use Rattle.warehouse_objects.proofs.OneWarehouse.{one_layout}
 
 -- the root of the warehouse that a content represents
-module _ (content : Content) (layout : Layout) (is : content.layout ≡ number_of layout) (bytes : List ℕ)
+module _ (content : Content) (layout : Layout) (is : content.layout ≡ layout_number layout) (bytes : List ℕ)
     (same : bytes ≡ content.root) where
   is_root : (w : Warehouse) → Represents content w → IsRootOf layout bytes (root_of w)
   is_root w represents =

@@ -12,7 +12,7 @@ use Rattle.cube_model.specs.declared.rows.PartRow.{PartRow}
 use Rattle.cube_model.specs.declared.rows.DateRow.{DateRow}
 use Rattle.cube_model.specs.declared.rows.DimRows.{DimRows}
 use Rattle.cube_model.specs.Lawful.{KeepAllRules, ValidRowsKeepTheRules}
-use Rattle.dictionary.specs.Columns.{text_at}
+use Rattle.dictionary.specs.Columns.{text_of_code}
 use Rattle.dictionary.specs.Dictionary.{firsts}
 use Rattle.dictionary.proofs.CallerLemmas.{bytes_eq-refl, list_any_here, list_any-firsts, place_within, text_at_place}
 use Rattle.dictionary.proofs.ColumnLaws.{column_has_codes}
@@ -25,8 +25,8 @@ use Rattle.dimensions.proofs.CallerLemmas.{few_good_rows, good_codes, good_custo
 use Rattle.dimensions.proofs.CallerLemmas.{good_suppliers, lower_below}
 use Rattle.dimensions.proofs.CodedRules.{determined}
 use Rattle.dimensions.proofs.CodedTexts.{all_from_get}
-use Rattle.dimension_objects.specs.Spelled.{HaveKeys, codes_in_order, dimension_spelling, keys_spelling, linked_columns}
-use Rattle.dimension_objects.specs.Spelled.{parts_of, row_columns, stored_columns, texts_in_order}
+use Rattle.dimension_objects.specs.Spelled.{KeysFit, codes_in_order, dimension_spelling, keys_spelling, linked_columns}
+use Rattle.dimension_objects.specs.Spelled.{dimension_parts, row_columns, stored_columns, texts_in_order}
 use Rattle.dimension_objects.proofs.Front.{FitCodes, numbers-one}
 use Rattle.dimension_objects.proofs.SpelledLaws.{after_codes, after_header, after_texts, each_column, each_stored}
 use Rattle.dimension_objects.proofs.SpelledLaws.{keys_fit, linked_all, many, places, proper_texts, row_all}
@@ -63,7 +63,7 @@ above lowers texts is =
 -- ---- one dimension
 
 module _ (axis : Axis) (rows others : List TextRow) (good : AreGoodRows axis rows) (also : AreGoodRows axis others)
-    (have_keys : HaveKeys rows) (have_others : HaveKeys others)
+    (have_keys : KeysFit rows) (have_others : KeysFit others)
     (same : dimension_spelling axis rows ≡ dimension_spelling axis others) where
   abbrev keys : List ℕ
   keys = map (λ row. row.key) rows
@@ -72,16 +72,16 @@ module _ (axis : Axis) (rows others : List TextRow) (good : AreGoodRows axis row
   other_keys = map (λ row. row.key) others
 
   abbrev texts : ℕ → List (List ℕ)
-  texts = (parts_of axis rows).texts
+  texts = (dimension_parts axis rows).texts
 
   abbrev other_texts : ℕ → List (List ℕ)
-  other_texts = (parts_of axis others).texts
+  other_texts = (dimension_parts axis others).texts
 
   abbrev numbers : ℕ → List ℕ
-  numbers = (parts_of axis rows).codes
+  numbers = (dimension_parts axis rows).codes
 
   abbrev other_numbers : ℕ → List ℕ
-  other_numbers = (parts_of axis others).codes
+  other_numbers = (dimension_parts axis others).codes
 
   abbrev last : List ℕ
   last = codes_in_order numbers (row_columns axis)
@@ -153,7 +153,7 @@ module _ (axis : Axis) (rows others : List TextRow) (good : AreGoodRows axis row
   placed : (i : ℕ) → i < length (lowers_of axis) → texts_at_places axis i rows ≡ texts_at_places axis i others
   placed i lt =
       sym (column_has_codes (texts_at_places axis i rows)).1
-      ∙ (λ k. map (text_at (same_texts i lt k)) (same_codes i lt k))
+      ∙ (λ k. map (text_of_code (same_texts i lt k)) (same_codes i lt k))
       ∙ (column_has_codes (texts_at_places axis i others)).1
 
   columns_in : (steps i : ℕ) → i < steps → i < length (lowers_of axis) → column_of i rows ≡ column_of i others
@@ -226,8 +226,8 @@ module _ {Row : Type 0} (f : Row → TextRow) where
 
   axis_one : (axis : Axis) → ((row : Row) → length (f row).texts ≡ length (lowers_of axis))
       → ((row other : Row) → f row ≡ f other → row ≡ other) → (rows others : List Row)
-      → AreGoodRows axis (map f rows) → AreGoodRows axis (map f others) → HaveKeys (map f rows)
-      → HaveKeys (map f others) → dimension_spelling axis (map f rows) ≡ dimension_spelling axis (map f others)
+      → AreGoodRows axis (map f rows) → AreGoodRows axis (map f others) → KeysFit (map f rows)
+      → KeysFit (map f others) → dimension_spelling axis (map f rows) ≡ dimension_spelling axis (map f others)
       → rows ≡ others
   axis_one axis wide back rows others good more have_keys have_others same =
       map_one back rows others

@@ -64,17 +64,17 @@ pub data Change : Type 0 where
   the_layout : Change
 
 -- facts with a change that is admissible there
-abbrev pub Adds : Facts → Change → Facts → Type 0
-Adds facts (a_batch batch) new =
+abbrev pub AddsChange : Facts → Change → Facts → Type 0
+AddsChange facts (a_batch batch) new =
     IsAdmissibleIn facts.layout facts.rows facts.batches (length facts.batches + 1) batch
     × (new ≡ with_next facts batch)
-Adds facts (some_rows more) new = (addition_refusal facts.rows facts.additions (facts.additions + 1) more ≡ None)
+AddsChange facts (some_rows more) new = (addition_refusal facts.rows facts.additions (facts.additions + 1) more ≡ None)
     × (new ≡ with_rows facts more)
-Adds facts the_layout new = (migration_refusal facts.layout facts.batches ≡ None) × (new ≡ in_second facts)
+AddsChange facts the_layout new = (migration_refusal facts.layout facts.batches ≡ None) × (new ≡ in_second facts)
 
 -- a batch of a number may be added to a warehouse
-abbrev pub Admits : Warehouse → ℕ → List LineOrder → Type 0
-Admits w number batch = IsAdmissibleIn w.layout w.rows w.batches number batch
+abbrev pub AdmitsBatch : Warehouse → ℕ → List LineOrder → Type 0
+AdmitsBatch w number batch = IsAdmissibleIn w.layout w.rows w.batches number batch
 
 -- the first cause that forbids it
 abbrev pub refusal_of : Warehouse → ℕ → List LineOrder → Option Fault

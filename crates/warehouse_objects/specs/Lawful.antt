@@ -12,12 +12,12 @@ use Rattle.warehouse_root.specs.declared.layout.Layout.TheVariants.{First, Secon
 use Rattle.lattice.specs.declared.view.View.{View}
 use Rattle.lattice.specs.Views.{index_of}
 use Rattle.warehouse_root.specs.Limits.{most_cells, most_cuboids, most_runs}
-use Rattle.warehouse_root.specs.Layouts.{number_of}
+use Rattle.warehouse_root.specs.Layouts.{layout_number}
 use Rattle.warehouse_root.specs.Modes.{AreModes, modes_id, modes_spelling}
 use Rattle.warehouse_root.specs.Objects.{run_id, segment_id}
 use Rattle.warehouse_root.specs.Root as roots
-use Rattle.warehouse_objects.specs.Facts.{Admits}
-use Rattle.warehouse_objects.specs.Warehouse.{Warehouse, AreStorable, Cuboid, StoredRun, aimed, cells_in, cuboid_at}
+use Rattle.warehouse_objects.specs.Facts.{AdmitsBatch}
+use Rattle.warehouse_objects.specs.Warehouse.{Warehouse, AreStorable, Cuboid, StoredRun, aimed, cell_count, cuboid_at}
 use Rattle.warehouse_objects.specs.Warehouse.{dropped_ids, fresh_in, kept, loaded, ship_modes_of, with_views}
 use Rattle.warehouse_objects.specs.Represents.{HasModes, HasRows, HoldsGroupings, Represents, dimension_of, root_of}
 use Rattle.warehouse_objects.specs.Represents.{run_bytes}
@@ -55,21 +55,22 @@ loading_puts w number batch = batch_put number batch ++ new_modes_put w batch
 abbrev pub CreatingRepresents : Type 0
 CreatingRepresents = (layout : Layout) (rows : DimRows) → AreStorable rows
     → Represents
-    (created (beginning_puts layout rows) (roots.root_of (roots.first_root layout)) (number_of layout))
+    (created (beginning_puts layout rows) (roots.root_spelling (roots.first_root layout)) (layout_number layout))
     (fresh_in layout rows)
 
 -- a commit of an admissible batch and of the root with it makes a content that represents one batch more
 abbrev pub LoadingRepresents : Type 0
 LoadingRepresents = (c : Content) (w : Warehouse) (number : ℕ) (batch : List LineOrder)
-    → Represents c w → Admits w number batch → FitColumns batch
+    → Represents c w → AdmitsBatch w number batch → FitColumns batch
     → Represents
-    (committed (loading_puts w number batch) [] (roots.root_of (root_of (loaded w batch))) (number_of w.layout) c)
+    (committed (loading_puts w number batch) [] (roots.root_spelling (root_of (loaded w batch)))
+    (layout_number w.layout) c)
     (loaded w batch)
 
 -- a commit of the root with another target makes a content whose cuboids are to hold all batches
 abbrev pub AimingRepresents : Type 0
 AimingRepresents = (c : Content) (w : Warehouse) → Represents c w
-    → Represents (committed [] [] (roots.root_of (root_of (aimed w))) (number_of w.layout) c) (aimed w)
+    → Represents (committed [] [] (roots.root_spelling (root_of (aimed w))) (layout_number w.layout) c) (aimed w)
 
 -- the object of a run of a cuboid
 abbrev pub run_put : Cuboid → ℕ → StoredRun → List (ℕ × List ℕ)
@@ -88,7 +89,7 @@ pub record MayReplace (w : Warehouse) (old new : Cuboid) : Type 0 where
   pub some : 1 ≤ new.mark
   pub within : new.mark ≤ length w.batches
   pub few : length new.runs ≤ most_runs
-  pub cells : cells_in new.runs ≤ most_cells
+  pub cells : cell_count new.runs ≤ most_cells
 
 -- a commit of one run more, after those of its cuboid, or in the place of all of them
 abbrev pub AppendingRepresents : Type 0
@@ -96,7 +97,8 @@ AppendingRepresents = (c : Content) (w : Warehouse) (old new : Cuboid) (run : St
     → MayReplace w old new
     → new.runs ≡ old.runs ++ run ∷ []
     → Represents
-    (committed (run_put new (length old.runs) run) [] (roots.root_of (root_of (kept w new))) (number_of w.layout) c)
+    (committed (run_put new (length old.runs) run) [] (roots.root_spelling (root_of (kept w new)))
+    (layout_number w.layout) c)
     (kept w new)
 
 abbrev pub MergingRepresents : Type 0
@@ -104,21 +106,22 @@ MergingRepresents = (c : Content) (w : Warehouse) (old new : Cuboid) (run : Stor
     → MayReplace w old new
     → new.runs ≡ run ∷ []
     → Represents
-    (committed (run_put new 0 run) (later_runs old) (roots.root_of (root_of (kept w new))) (number_of w.layout) c)
+    (committed (run_put new 0 run) (later_runs old) (roots.root_spelling (root_of (kept w new)))
+    (layout_number w.layout) c)
     (kept w new)
 
 -- a commit of the root with the cuboids of some views, that drops the runs of the others
 abbrev pub ChoosingRepresents : Type 0
 ChoosingRepresents = (c : Content) (w : Warehouse) (views : List View) → Represents c w → length views ≤ most_cuboids
     → Represents
-    (committed [] (dropped_ids w views) (roots.root_of (root_of (with_views w views))) (number_of w.layout) c)
+    (committed [] (dropped_ids w views) (roots.root_spelling (root_of (with_views w views))) (layout_number w.layout) c)
     (with_views w views)
 
 -- the objects of storable rows, and those of an admissible batch, are such as a store takes
 abbrev pub ObjectsAreStorable : Type 0
 ObjectsAreStorable = ((rows : DimRows) → AreStorable rows
     → ArePuts (dimension_puts rows) × ((layout : Layout) → ArePuts (beginning_puts layout rows)))
-    × ((c : Content) (w : Warehouse) (number : ℕ) (batch : List LineOrder) → Represents c w → Admits w number batch
+    × ((c : Content) (w : Warehouse) (number : ℕ) (batch : List LineOrder) → Represents c w → AdmitsBatch w number batch
     → ArePuts (loading_puts w number batch))
 
 -- objects 1 to 4 are the dimensions of one list of rows at most

@@ -17,7 +17,7 @@ use Rattle.batch_admission.specs.Totals.{totals_of}
 use Rattle.lattice.specs.declared.view.View.{View}
 use Rattle.lattice.specs.Views.{index_of}
 use Rattle.cuboid_cells.specs.declared.span.Span.{Span}
-use Rattle.cuboid_cells.specs.Cells.{AreProper}
+use Rattle.cuboid_cells.specs.Cells.{AreProperCells}
 use Rattle.cuboid_cells.specs.Spelled.{IsSpan, run_of}
 use Rattle.cuboid_cells.specs.Steps.{cells_of}
 use Rattle.cuboid_upkeep.specs.Grouping.{RepresentRows}
@@ -25,11 +25,11 @@ use Rattle.warehouse_root.specs.declared.cuboid.StoredCuboid.{StoredCuboid}
 use Rattle.warehouse_root.specs.declared.layout.Layout.{Layout}
 use Rattle.warehouse_root.specs.declared.layout.Layout.TheVariants.{First, Second}
 use Rattle.warehouse_root.specs.declared.totals.StoredTotals.{StoredTotals}
-use Rattle.warehouse_root.specs.Layouts.{number_of, views_of}
+use Rattle.warehouse_root.specs.Layouts.{layout_number, view_count}
 use Rattle.warehouse_root.specs.Modes.{AreModes, modes_id, modes_spelling}
 use Rattle.warehouse_root.specs.Objects.{object_ids, run_id, segment_id}
 use Rattle.warehouse_root.specs.Root.{IsRoot, PlainRoot}
-use Rattle.warehouse_objects.specs.Warehouse.{Warehouse, AreInOrder, AreStorable, Cuboid, StoredRun, cells_in}
+use Rattle.warehouse_objects.specs.Warehouse.{Warehouse, AreInOrder, AreStorable, Cuboid, StoredRun, cell_count}
 use Rattle.warehouse_objects.specs.Warehouse.{cuboid_at, is_among, ship_modes_of}
 
 -- the bytes of the rows of a dimension
@@ -85,7 +85,12 @@ stored totals = record {
 -- what the root says of a cuboid
 abbrev pub said_of : Cuboid → StoredCuboid
 said_of cuboid =
-    record { view = index_of cuboid.view; runs = length cuboid.runs; mark = cuboid.mark; cells = cells_in cuboid.runs }
+    record {
+      view = index_of cuboid.view;
+      runs = length cuboid.runs;
+      mark = cuboid.mark;
+      cells = cell_count cuboid.runs;
+    }
 
 -- what the root says of a warehouse
 abbrev pub root_of : Warehouse → PlainRoot
@@ -114,7 +119,7 @@ said_below count views cuboids = map (λ number. said_or_new number (find (λ cu
 
 -- the same of all views of a layout
 abbrev pub said_with : Layout → List View → List StoredCuboid → List StoredCuboid
-said_with layout views cuboids = said_below (views_of layout) views cuboids
+said_with layout views cuboids = said_below (view_count layout) views cuboids
 
 -- the fact rows of the batches of a span
 abbrev pub rows_in : List (List LineOrder) → Span → List LineOrder
@@ -129,7 +134,7 @@ Follow from (run ∷ runs) mark = (run.span.from ≡ from) × Follow run.span.to
 pub record IsLaid (w : Warehouse) (cuboid : Cuboid) : Type 0 where
   pub follow : Follow 0 cuboid.runs cuboid.mark
   pub spans : All (λ run. IsSpan run.span) cuboid.runs
-  pub proper : All (λ run. AreProper (cells_of cuboid.view run.cells)) cuboid.runs
+  pub proper : All (λ run. AreProperCells (cells_of cuboid.view run.cells)) cuboid.runs
 
 -- and each of its runs is the grouping of its batches by the view
 pub record HoldsGroupings (w : Warehouse) (cuboid : Cuboid) : Type 0 where
@@ -144,7 +149,7 @@ pub record RepresentsWith (Keeps : Warehouse → Cuboid → Type 0) (c : Content
   pub objects : (id : ℕ) → bytes_of c id ≡ object_of w id
   -- and none is there twice
   pub once : AllPairs (λ one other. one.0 < other.0) c.objects
-  pub layout : c.layout ≡ number_of w.layout
+  pub layout : c.layout ≡ layout_number w.layout
   -- the root says what the warehouse is, and keeps the rules of roots
   pub root : IsRoot c.root (root_of w)
   pub rows : AreStorable w.rows

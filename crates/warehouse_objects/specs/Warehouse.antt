@@ -10,7 +10,7 @@ use Rattle.cube_model.specs.Validity.{HaveShortTexts, IsValid}
 use Rattle.column_segment.specs.Columns.{FitsColumn, number_columns}
 use Rattle.column_segment.specs.Segment.{FitColumns}
 use Rattle.dimensions.specs.Shown.{rows_on}
-use Rattle.dimension_objects.specs.Spelled.{HaveKeys}
+use Rattle.dimension_objects.specs.Spelled.{KeysFit}
 use Rattle.lattice.specs.declared.view.View.{View}
 use Rattle.lattice.specs.Views.{index_of, lattice}
 use Rattle.cuboid_cells.specs.declared.cell.Cell.{Cell}
@@ -52,8 +52,8 @@ abbrev pub ship_modes_of : Warehouse → List (List ℕ)
 ship_modes_of w = kept_modes w.layout (all_rows w.batches)
 
 -- how many cells runs have together
-abbrev pub cells_in : List StoredRun → ℕ
-cells_in runs = sum_by (λ run. length run.cells) runs
+abbrev pub cell_count : List StoredRun → ℕ
+cell_count runs = sum_by (λ run. length run.cells) runs
 
 -- a warehouse of no batch in a layout
 abbrev pub fresh_in : Layout → DimRows → Warehouse
@@ -92,8 +92,8 @@ abbrev pub is_among : List View → ℕ → Bool
 is_among views number = list_any (λ view. index_of view == number) views
 
 -- the views of a layout that are among some, each once, by their numbers
-unfoldable pub in_order : Layout → List View → List View
-in_order layout views = filter (λ view. is_among views (index_of view)) (lattice (has_modes layout))
+unfoldable pub views_in_order : Layout → List View → List View
+views_in_order layout views = filter (λ view. is_among views (index_of view)) (lattice (has_modes layout))
 
 -- a stored cuboid of a view as it is, or one that holds no batch
 abbrev pub kept_of : View → Option Cuboid → Cuboid
@@ -104,7 +104,7 @@ kept_of view (Some cuboid) = cuboid
 abbrev pub with_views : Warehouse → List View → Warehouse
 with_views w views = record w {
   target = 0;
-  cuboids = map (λ view. kept_of view (cuboid_at (index_of view) w.cuboids)) (in_order w.layout views);
+  cuboids = map (λ view. kept_of view (cuboid_at (index_of view) w.cuboids)) (views_in_order w.layout views);
 }
 
 -- the ids of the runs that go then: those of the stored cuboids of other views
@@ -117,7 +117,7 @@ dropped_ids w views =
 pub record AreStorable (rows : DimRows) : Type 0 where
   pub valid : IsValid rows
   pub short : HaveShortTexts rows
-  pub keys : (axis : Axis) → HaveKeys (rows_on rows axis)
+  pub keys : (axis : Axis) → KeysFit (rows_on rows axis)
 
 -- the numbers of a fact row are within the limits of their columns
 abbrev pub FitsColumns : LineOrder → Type 0

@@ -5,7 +5,7 @@ ghost use Rattle.cube_model.specs.declared.attr.Axis.TheVariants.{Customer, Supp
 ghost use Rattle.cube_model.specs.declared.rows.DimRows.{DimRows};
 ghost use Rattle.object_store.specs.Content.{bytes_of};
 ghost use Rattle.object_store.specs.Store.{content_of, device_of, has_failed};
-ghost use Rattle.warehouse_root.specs.Layouts.{number_of};
+ghost use Rattle.warehouse_root.specs.Layouts.{layout_number};
 ghost use Rattle.warehouse_root.specs.Modes.{AreModes};
 ghost use Rattle.warehouse_root.specs.Root.{IsRoot, IsRootOf};
 ghost use Rattle.warehouse_objects.specs.Warehouse.{AreStorable, Warehouse};
@@ -26,7 +26,7 @@ use warehouse_root::{Layout, MODES_ID, Root};
 /// the root and the layout show it.
 pub fn read_root<D: Sectors>(alloc: Global, store: &Store<D>) -> Result<Root, Fault>
     ensures ok { IfOk result (IsRoot (content_of D.Sectors store.now).root) }
-    ensures layout { IfOk result (λ root. (content_of D.Sectors store.now).layout ≡ number_of root.layout) }
+    ensures layout { IfOk result (λ root. (content_of D.Sectors store.now).layout ≡ layout_number root.layout) }
     ensures found { IfOk result (λ root. (w : Warehouse) → Represents (content_of D.Sectors store.now) w
         → root ≡ root_of w) }
     ensures refused { IfErr result (λ fault. (fault ≡ Memory)
@@ -40,7 +40,7 @@ pub fn read_root<D: Sectors>(alloc: Global, store: &Store<D>) -> Result<Root, Fa
 
 // The root of a store of a layout.
 fn read_root_in<D: Sectors>(alloc: Global, store: &Store<D>, layout: Layout) -> Result<Root, Fault>
-    requires layout { (content_of D.Sectors store.now).layout ≡ number_of layout }
+    requires layout { (content_of D.Sectors store.now).layout ≡ layout_number layout }
     ensures ok { IfOk result (IsRootOf layout (content_of D.Sectors store.now).root) }
     ensures found { IfOk result (λ root. (w : Warehouse) → Represents (content_of D.Sectors store.now) w
         → root ≡ root_of w) }

@@ -4,7 +4,7 @@ ghost use Rattle.std.specs.List.{AllByRecursion};
 ghost use Rattle.column_segment.specs.Columns.{FitsColumn, figure_columns, key_columns};
 ghost use Rattle.column_segment.specs.Segment.{FitColumns};
 ghost use Rattle.dimensions.specs.Shown.{rows_on};
-ghost use Rattle.dimension_objects.specs.Spelled.{HaveKeys};
+ghost use Rattle.dimension_objects.specs.Spelled.{KeysFit};
 ghost use Rattle.warehouse_objects.specs.Warehouse.{AreStorable, FitsColumns};
 
 use cube_model::{Axis, LineOrder};
@@ -23,7 +23,7 @@ pub fn rows_are_storable(dims: &Dims)
 
 // The keys of a dimension fit four bytes.
 fn keys_fit(dims: &Dims, axis: Axis)
-    ensures { HaveKeys (rows_on dims.now axis) }
+    ensures { KeysFit (rows_on dims.now axis) }
 {
     numbers_are_short(dims.keys(axis));
 }

@@ -10,14 +10,16 @@ use Rattle.warehouse_root.specs.declared.cuboid.StoredCuboid.{StoredCuboid}
 use Rattle.warehouse_root.specs.declared.layout.Layout.{Layout}
 use Rattle.warehouse_root.specs.declared.layout.Layout.TheVariants.{First, Second}
 use Rattle.warehouse_root.specs.declared.totals.StoredTotals.{StoredTotals}
-use Rattle.warehouse_root.specs.Layouts.{views_of}
+use Rattle.warehouse_root.specs.Layouts.{view_count}
 use Rattle.warehouse_root.specs.Reading.{CuboidFits, TotalsFit}
-use Rattle.warehouse_root.specs.Root.{AreProperTotals, IsProper, IsRoot, IsRootOf, PlainRoot, counts_of, cuboid_of}
-use Rattle.warehouse_root.specs.Root.{root_of, totals_of}
+use Rattle.warehouse_root.specs.Root.{AreProperTotals, IsProperRoot, IsRoot, IsRootOf, PlainRoot, counts_spelling}
+use Rattle.warehouse_root.specs.Root.{cuboid_of}
+use Rattle.warehouse_root.specs.Root.{root_spelling, totals_spelling}
 use Rattle.warehouse_root.proofs.Fields.{four-one, length-four, six-append}
 
 -- the counts have 16 bytes
-pub length-counts_of : (batches target additions cuboids : ℕ) → length (counts_of batches target additions cuboids) ≡ 16
+pub length-counts_of : (batches target additions cuboids : ℕ)
+    → length (counts_spelling batches target additions cuboids) ≡ 16
 length-counts_of batches target additions cuboids =
     omega (
       arith,
@@ -47,7 +49,7 @@ last_totals totals =
     ++ (spelling 8 totals.supplycost ++ (spelling 8 totals.discounted ++ spelling 8 totals.profit))
 
 -- the totals have 48 bytes
-pub length-totals_of : (totals : StoredTotals) → length (totals_of totals) ≡ 48
+pub length-totals_of : (totals : StoredTotals) → length (totals_spelling totals) ≡ 48
 unfolding last_totals
 length-totals_of totals =
     let last : length (last_totals totals) ≡ 32 = omega (
@@ -90,15 +92,15 @@ length-cuboids (cuboid ∷ cuboids) =
 
 -- how many bytes a root has
 pub length-root_of : (root : PlainRoot)
-    → length (root_of root) ≡ 64 + 4 * length root.batches + 12 * length root.cuboids
+    → length (root_spelling root) ≡ 64 + 4 * length root.batches + 12 * length root.cuboids
 length-root_of root =
-    let counts : List ℕ = counts_of (length root.batches) root.target root.additions (length root.cuboids) in
+    let counts : List ℕ = counts_spelling (length root.batches) root.target root.additions (length root.cuboids) in
     let batches : List ℕ = flat_map (spelling 4) root.batches in
     let cuboids : List ℕ = flat_map cuboid_of root.cuboids in
     omega (
       arith,
-      length-append counts (totals_of root.totals ++ (batches ++ cuboids)),
-      length-append (totals_of root.totals) (batches ++ cuboids),
+      length-append counts (totals_spelling root.totals ++ (batches ++ cuboids)),
+      length-append (totals_spelling root.totals) (batches ++ cuboids),
       length-append batches cuboids,
       length-counts_of (length root.batches) root.target root.additions (length root.cuboids),
       length-totals_of root.totals,
@@ -113,7 +115,7 @@ root_is_short bytes root is =
 
 -- bytes begin with the totals of one
 pub totals-one : (one other : StoredTotals) (xs ys : List ℕ) → TotalsFit one → TotalsFit other
-    → totals_of one ++ xs ≡ totals_of other ++ ys → (one ≡ other) × (xs ≡ ys)
+    → totals_spelling one ++ xs ≡ totals_spelling other ++ ys → (one ≡ other) × (xs ≡ ys)
 totals-one one other xs ys fit other_fit same =
     let parts =
     sym (six-append (spelling 8 one.quantity) (spelling 8 one.extendedprice) (spelling 8 one.revenue)
@@ -213,11 +215,11 @@ totals_fit totals proper = record {
   profit = omega (arith, proper.profit);
 }
 
-few_views : (layout : Layout) → views_of layout ≤ 512
-few_views layout = elim layout as (λ l. views_of l ≤ 512) [ First ↦ omega arith | Second ↦ omega arith ]
+few_views : (layout : Layout) → view_count layout ≤ 512
+few_views layout = elim layout as (λ l. view_count l ≤ 512) [ First ↦ omega arith | Second ↦ omega arith ]
 
 -- those of a proper root do
-pub root_fits : (root : PlainRoot) → IsProper root → RootFits root
+pub root_fits : (root : PlainRoot) → IsProperRoot root → RootFits root
 root_fits root proper = record {
   many = omega (arith, proper.most_batches);
   target = omega (arith, proper.target, proper.most_batches);
@@ -260,12 +262,12 @@ made_of one other same0 same1 same2 same3 same4 same5 =
 
 -- a root whose numbers fit is the only one of its layout with its bytes
 pub root_of-one : (one other : PlainRoot) → RootFits one → RootFits other → one.layout ≡ other.layout
-    → root_of one ≡ root_of other → one ≡ other
+    → root_spelling one ≡ root_spelling other → one ≡ other
 root_of-one one other fits other_fits layout same =
     let counts = four-one 4 4 4 4 (length one.batches) one.target one.additions (length one.cuboids)
     (length other.batches) other.target other.additions (length other.cuboids)
-    (totals_of one.totals ++ (flat_map (spelling 4) one.batches ++ flat_map cuboid_of one.cuboids))
-    (totals_of other.totals ++ (flat_map (spelling 4) other.batches ++ flat_map cuboid_of other.cuboids))
+    (totals_spelling one.totals ++ (flat_map (spelling 4) one.batches ++ flat_map cuboid_of one.cuboids))
+    (totals_spelling other.totals ++ (flat_map (spelling 4) other.batches ++ flat_map cuboid_of other.cuboids))
     fits.many fits.target fits.additions fits.cuboids other_fits.many other_fits.target other_fits.additions
     other_fits.cuboids same in
     let totals =

@@ -6,9 +6,9 @@ use Rattle.std.proofs.lemmas.List.Kept.{AllPairs-cons}
 use Rattle.warehouse_root.specs.declared.cuboid.StoredCuboid.{StoredCuboid}
 use Rattle.warehouse_root.specs.declared.layout.Layout.{Layout}
 use Rattle.warehouse_root.specs.declared.layout.Layout.TheVariants.{First, Second}
-use Rattle.warehouse_root.specs.Layouts.{dimensions_of}
+use Rattle.warehouse_root.specs.Layouts.{dimension_object_count}
 use Rattle.warehouse_root.specs.Objects.{dimension_ids, object_ids, run_ids, run_id, segment_ids}
-use Rattle.warehouse_root.specs.Root.{AreAscending, IsProper, IsProperCuboid, PlainRoot}
+use Rattle.warehouse_root.specs.Root.{ViewsAscend, IsProperRoot, IsProperCuboid, PlainRoot}
 
 -- each is above those before it, none is below `low`, and all are below `high`
 abbrev pub Climbs : ℕ → List ℕ → ℕ → Type 0
@@ -47,7 +47,7 @@ apart low high (x ∷ xs) climbs =
 -- the runs of cuboids whose views ascend
 runs : (layout : Layout) (batches low : ℕ) (cuboids : List StoredCuboid)
     → All (λ cuboid. low ≤ run_id cuboid.view 0) cuboids
-    → All (IsProperCuboid layout batches) cuboids → AreAscending cuboids
+    → All (IsProperCuboid layout batches) cuboids → ViewsAscend cuboids
     → (high : ℕ) × Climbs low (flat_map run_ids cuboids) high
 runs layout batches low [] above each ascending = (low, omega arith)
 runs layout batches low (cuboid ∷ cuboids) above each ascending =
@@ -65,15 +65,15 @@ runs layout batches low (cuboid ∷ cuboids) above each ascending =
           (All-head (λ later. low ≤ run_id later.view 0) cuboid cuboids above) (row first cuboid.runs)) rest.1,
     )
 
-few_dimensions : (layout : Layout) → dimensions_of layout ≤ 5
+few_dimensions : (layout : Layout) → dimension_object_count layout ≤ 5
 few_dimensions First = omega arith
 few_dimensions Second = omega arith
 
 -- the objects of a proper root
-pub objects : (root : PlainRoot) → IsProper root → AllPairs (λ one other. one < other) (object_ids root)
+pub objects : (root : PlainRoot) → IsProperRoot root → AllPairs (λ one other. one < other) (object_ids root)
 objects root proper =
     let batches : ℕ = length root.batches in
-    let dimensions : ℕ = dimensions_of root.layout in
+    let dimensions : ℕ = dimension_object_count root.layout in
     let last = runs root.layout batches (65536 + 1 + batches) root.cuboids
     (λ k d within. omega (arith, proper.most_batches)) proper.each proper.ascending in
     let after = join 65537 (65537 + batches) last.0 (segment_ids batches) (flat_map run_ids root.cuboids)

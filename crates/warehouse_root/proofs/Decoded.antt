@@ -7,8 +7,9 @@ use Rattle.warehouse_root.specs.declared.layout.Layout.{Layout}
 use Rattle.warehouse_root.specs.declared.reading.Counts.{Counts}
 use Rattle.warehouse_root.specs.declared.totals.StoredTotals.{StoredTotals}
 use Rattle.warehouse_root.specs.Reading.{AreCountsOf, ArePartsOf, ReadsCounts, ReadsCuboids, ReadsFront, ReadsRows}
-use Rattle.warehouse_root.specs.Reading.{ReadsTotals, SpellNoRoot, parts_of}
-use Rattle.warehouse_root.specs.Root.{IsProper, IsRoot, IsRootOf, PlainRoot, counts_of, cuboid_of, root_of, totals_of}
+use Rattle.warehouse_root.specs.Reading.{ReadsTotals, SpellNoRoot, root_of_parts}
+use Rattle.warehouse_root.specs.Root.{IsProperRoot, IsRoot, IsRootOf, PlainRoot, counts_spelling, cuboid_of}
+use Rattle.warehouse_root.specs.Root.{root_spelling, totals_spelling}
 use Rattle.warehouse_root.proofs.CallerLemmas.{RootFits, length-root_of, root_fits, root_of-one}
 use Rattle.warehouse_root.proofs.Fields.{four-one}
 
@@ -24,7 +25,7 @@ module _ (bytes : List ℕ) where
       let fits = root_fits root is.proper in
       let same = four-one 4 4 4 4 counts.batches counts.target counts.additions counts.cuboids (length root.batches)
       root.target root.additions (length root.cuboids)
-      mid (totals_of root.totals ++ (flat_map (spelling 4) root.batches ++ flat_map cuboid_of root.cuboids))
+      mid (totals_spelling root.totals ++ (flat_map (spelling 4) root.batches ++ flat_map cuboid_of root.cuboids))
       reads.fit.batches reads.fit.target reads.fit.additions reads.fit.cuboids fits.many fits.target fits.additions
       fits.cuboids (sym reads.spelled ∙ is.spelled) in
       omega (arith, ap length is.spelled, length-root_of root, same.0, same.3)
@@ -43,23 +44,23 @@ module _ (layout : Layout) (bytes : List ℕ) where
         none
 
     -- the bytes are those of the parts
-    pub parts_spelled : bytes ≡ root_of (parts_of layout counts totals batches cuboids)
+    pub parts_spelled : bytes ≡ root_spelling (root_of_parts layout counts totals batches cuboids)
     parts_spelled =
         let ends : r2 ≡ flat_map cuboid_of cuboids = reads3.spelled
         ∙ ap (λ (xs : List ℕ). flat_map cuboid_of cuboids ++ xs) none_left
         ∙ append-nil (flat_map cuboid_of cuboids) in
-        let rest : r0 ≡ totals_of totals ++ (flat_map (spelling 4) batches ++ flat_map cuboid_of cuboids) =
+        let rest : r0 ≡ totals_spelling totals ++ (flat_map (spelling 4) batches ++ flat_map cuboid_of cuboids) =
         reads1.spelled
-        ∙ ap (λ (xs : List ℕ). totals_of totals ++ xs)
+        ∙ ap (λ (xs : List ℕ). totals_spelling totals ++ xs)
         (reads2.spelled ∙ ap (λ (xs : List ℕ). flat_map (spelling 4) batches ++ xs) ends) in
         reads0.spelled
-        ∙ ap (λ (xs : List ℕ). counts_of counts.batches counts.target counts.additions counts.cuboids ++ xs) rest
-        ∙ ap (λ (n : ℕ). counts_of n counts.target counts.additions counts.cuboids
-        ++ (totals_of totals ++ (flat_map (spelling 4) batches ++ flat_map cuboid_of cuboids))) (sym reads2.many)
-        ∙ ap (λ (n : ℕ). counts_of (length batches) counts.target counts.additions n
-        ++ (totals_of totals ++ (flat_map (spelling 4) batches ++ flat_map cuboid_of cuboids))) (sym reads3.many)
+        ∙ ap (λ (xs : List ℕ). counts_spelling counts.batches counts.target counts.additions counts.cuboids ++ xs) rest
+        ∙ ap (λ (n : ℕ). counts_spelling n counts.target counts.additions counts.cuboids
+        ++ (totals_spelling totals ++ (flat_map (spelling 4) batches ++ flat_map cuboid_of cuboids))) (sym reads2.many)
+        ∙ ap (λ (n : ℕ). counts_spelling (length batches) counts.target counts.additions n
+        ++ (totals_spelling totals ++ (flat_map (spelling 4) batches ++ flat_map cuboid_of cuboids))) (sym reads3.many)
 
-    parts_fit : RootFits (parts_of layout counts totals batches cuboids)
+    parts_fit : RootFits (root_of_parts layout counts totals batches cuboids)
     parts_fit = record {
       many = omega (arith, reads2.many, reads0.fit.batches);
       target = reads0.fit.target;
@@ -72,14 +73,15 @@ module _ (layout : Layout) (bytes : List ℕ) where
 
     -- a root of these bytes has these parts
     pub parts_are : (root : PlainRoot) → IsRootOf layout bytes root
-        → parts_of layout counts totals batches cuboids ≡ root
+        → root_of_parts layout counts totals batches cuboids ≡ root
     parts_are root is =
-        root_of-one (parts_of layout counts totals batches cuboids) root parts_fit (root_fits root is.is_root.proper)
+        root_of-one (root_of_parts layout counts totals batches cuboids) root parts_fit
+        (root_fits root is.is_root.proper)
         (sym is.of_layout) (sym parts_spelled ∙ is.is_root.spelled)
 
     -- the parts are a root, where they keep the rules
-    pub is_root_of : IsProper (parts_of layout counts totals batches cuboids)
-        → IsRootOf layout bytes (parts_of layout counts totals batches cuboids)
+    pub is_root_of : IsProperRoot (root_of_parts layout counts totals batches cuboids)
+        → IsRootOf layout bytes (root_of_parts layout counts totals batches cuboids)
     is_root_of proper = record { of_layout = refl; is_root = record { spelled = parts_spelled; proper = proper } }
 
 -- the front and what is after it

@@ -3,7 +3,7 @@ use Rattle.std.proofs.Common.{ℕ, arith}
 use Rattle.warehouse_root.specs.declared.cuboid.StoredCuboid.{StoredCuboid}
 use Rattle.warehouse_root.specs.declared.layout.Layout.{Layout}
 use Rattle.warehouse_root.specs.declared.layout.Layout.TheVariants.{First, Second}
-use Rattle.warehouse_root.specs.Root.{IsProper, IsProperCuboid, PlainRoot, in_second}
+use Rattle.warehouse_root.specs.Root.{IsProperRoot, IsProperCuboid, PlainRoot, root_in_second}
 
 cuboid_stays : (layout : Layout) (batches : ℕ) (cuboid : StoredCuboid) → IsProperCuboid layout batches cuboid
     → IsProperCuboid Second batches cuboid
@@ -16,7 +16,7 @@ cuboid_stays First batches cuboid own = record {
 }
 cuboid_stays Second batches cuboid own = own
 
-pub moved : (root : PlainRoot) → IsProper root → IsProper (in_second root)
+pub moved : (root : PlainRoot) → IsProperRoot root → IsProperRoot (root_in_second root)
 moved root proper = record {
   most_batches = proper.most_batches;
   rows = proper.rows;

@@ -5,7 +5,8 @@ use Rattle.std.proofs.lemmas.Bool.Decides.{nat_tests}
 use Rattle.std.proofs.lemmas.List.{get_or-map, length-map}
 use Rattle.std.proofs.lemmas.List.Elements.{All-map}
 use Rattle.warehouse_root.specs.declared.cuboid.StoredCuboid.{StoredCuboid}
-use Rattle.warehouse_root.specs.Root.{AreAscending, IsProper, IsProperCuboid, PlainRoot, put_cuboid, with_cuboid}
+use Rattle.warehouse_root.specs.Root.{ViewsAscend, IsProperRoot, IsProperCuboid, PlainRoot, put_stored_cuboid}
+use Rattle.warehouse_root.specs.Root.{with_cuboid}
 
 module _ (cuboid : StoredCuboid) where
   abbrev placed_at : StoredCuboid → StoredCuboid
@@ -25,7 +26,7 @@ module _ (cuboid : StoredCuboid) where
     | false ↦ has
   ]
 
-  placed_ascend : (cuboids : List StoredCuboid) → AreAscending cuboids → AreAscending (put_cuboid cuboid cuboids)
+  placed_ascend : (cuboids : List StoredCuboid) → ViewsAscend cuboids → ViewsAscend (put_stored_cuboid cuboid cuboids)
   placed_ascend cuboids up i j d before within =
       let there : j < length cuboids = omega (arith, within, length-map cuboids placed_at) in
       let less = up i j d before there in
@@ -35,8 +36,8 @@ module _ (cuboid : StoredCuboid) where
       ∙ placed_view (get_or cuboids j d) in
       omega (arith, less, at_i, at_j)
 
-  pub placed : (root : PlainRoot) → IsProper root → IsProperCuboid root.layout (length root.batches) cuboid
-      → IsProper (with_cuboid cuboid root)
+  pub placed : (root : PlainRoot) → IsProperRoot root → IsProperCuboid root.layout (length root.batches) cuboid
+      → IsProperRoot (with_cuboid cuboid root)
   placed root proper own = record {
     most_batches = proper.most_batches;
     rows = proper.rows;

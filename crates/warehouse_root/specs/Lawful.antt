@@ -5,7 +5,7 @@ use Rattle.wire.specs.Limits.{most_root_bytes}
 use Rattle.warehouse_root.specs.declared.layout.Layout.{Layout}
 use Rattle.warehouse_root.specs.Modes.{SpellModes}
 use Rattle.warehouse_root.specs.Objects.{object_ids}
-use Rattle.warehouse_root.specs.Root.{IsProper, IsRoot, IsRootOf, PlainRoot}
+use Rattle.warehouse_root.specs.Root.{IsProperRoot, IsRoot, IsRootOf, PlainRoot}
 
 -- bytes are at most one root of a layout
 abbrev pub BytesAreOneRoot : Type 0
@@ -14,7 +14,7 @@ BytesAreOneRoot = (layout : Layout) (bytes : List ℕ) (a b : PlainRoot) → IsR
 
 -- the objects that a proper root asks for have ids that differ, and come by ascending id
 abbrev pub ObjectsAreApart : Type 0
-ObjectsAreApart = (root : PlainRoot) → IsProper root → AllPairs (λ one other. one < other) (object_ids root)
+ObjectsAreApart = (root : PlainRoot) → IsProperRoot root → AllPairs (λ one other. one < other) (object_ids root)
 
 -- a root is no longer than a store takes
 abbrev pub RootsAreShort : Type 0

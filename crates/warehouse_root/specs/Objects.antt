@@ -3,12 +3,12 @@ use Rattle.std.specs.Prelude.{ℕ, ◌+◌, ◌*◌, List, ◌++◌, length}
 use Rattle.std.specs.List.{flat_map, range_with_len}
 use Rattle.warehouse_root.specs.declared.cuboid.StoredCuboid.{StoredCuboid}
 use Rattle.warehouse_root.specs.declared.layout.Layout.{Layout}
-use Rattle.warehouse_root.specs.Layouts.{dimensions_of}
+use Rattle.warehouse_root.specs.Layouts.{dimension_object_count}
 use Rattle.warehouse_root.specs.Root.{PlainRoot}
 
 -- the dimensions from 1 on: customers, suppliers, parts, days, and from the second layout on ship modes
 abbrev pub dimension_ids : Layout → List ℕ
-dimension_ids layout = range_with_len 1 (dimensions_of layout)
+dimension_ids layout = range_with_len 1 (dimension_object_count layout)
 
 -- the segment of a batch; batches count from 1
 abbrev pub segment_id : ℕ → ℕ

@@ -6,15 +6,16 @@ use Rattle.warehouse_root.specs.declared.cuboid.StoredCuboid.{StoredCuboid}
 use Rattle.warehouse_root.specs.declared.layout.Layout.{Layout}
 use Rattle.warehouse_root.specs.declared.totals.StoredTotals.{StoredTotals}
 use Rattle.warehouse_root.specs.declared.reading.Counts.{Counts}
-use Rattle.warehouse_root.specs.Root.{IsProper, IsRoot, IsRootOf, PlainRoot, counts_of, cuboid_of, totals_of}
+use Rattle.warehouse_root.specs.Root.{IsProperRoot, IsRoot, IsRootOf, PlainRoot, counts_spelling, cuboid_of}
+use Rattle.warehouse_root.specs.Root.{totals_spelling}
 
 -- a root with these counts has so many bytes
 abbrev pub AreCountsOf : ℕ → Counts → Type 0
 AreCountsOf bytes counts = bytes ≡ 64 + 4 * counts.batches + 12 * counts.cuboids
 
 -- what a root says that has these parts
-abbrev pub parts_of : Layout → Counts → StoredTotals → List ℕ → List StoredCuboid → PlainRoot
-parts_of layout counts totals batches cuboids = record {
+abbrev pub root_of_parts : Layout → Counts → StoredTotals → List ℕ → List StoredCuboid → PlainRoot
+root_of_parts layout counts totals batches cuboids = record {
   layout = layout;
   batches = batches;
   target = counts.target;
@@ -49,13 +50,13 @@ pub record CuboidFits (cuboid : StoredCuboid) : Type 0 where
 -- the counts were read from the front of `old`, and `new` is left
 pub record ReadsCounts (old new : List ℕ) (counts : Counts) : Type 0 where
   pub fit : CountsFit counts
-  pub spelled : old ≡ counts_of counts.batches counts.target counts.additions counts.cuboids ++ new
+  pub spelled : old ≡ counts_spelling counts.batches counts.target counts.additions counts.cuboids ++ new
   pub left : length old ≡ 16 + length new
 
 -- the totals were read from the front of `old`, and `new` is left
 pub record ReadsTotals (old new : List ℕ) (totals : StoredTotals) : Type 0 where
   pub fit : TotalsFit totals
-  pub spelled : old ≡ totals_of totals ++ new
+  pub spelled : old ≡ totals_spelling totals ++ new
   pub left : length old ≡ 48 + length new
 
 -- the rows of so many batches were read from the front of `old`, and `new` is left
@@ -89,10 +90,10 @@ pub record ReadsFront (old new : List ℕ) (counts : Counts) (totals : StoredTot
 pub record ArePartsOf (bytes : List ℕ) (counts : Counts) (totals : StoredTotals) (batches : List ℕ)
     (cuboids : List StoredCuboid) : Type 0 where
   pub many : length batches ≡ counts.batches
-  pub is_root_of : (layout : Layout) → IsProper (parts_of layout counts totals batches cuboids)
-      → IsRootOf layout bytes (parts_of layout counts totals batches cuboids)
+  pub is_root_of : (layout : Layout) → IsProperRoot (root_of_parts layout counts totals batches cuboids)
+      → IsRootOf layout bytes (root_of_parts layout counts totals batches cuboids)
   pub parts_are : (layout : Layout) (root : PlainRoot) → IsRootOf layout bytes root
-      → parts_of layout counts totals batches cuboids ≡ root
+      → root_of_parts layout counts totals batches cuboids ≡ root
 
 -- the bytes are those of no root
 abbrev pub SpellNoRoot : List ℕ → Type 0

@@ -6,7 +6,7 @@ use Rattle.wire.specs.Spelling.{spelling}
 use Rattle.warehouse_root.specs.declared.cuboid.StoredCuboid.{StoredCuboid}
 use Rattle.warehouse_root.specs.declared.layout.Layout.{Layout}
 use Rattle.warehouse_root.specs.declared.totals.StoredTotals.{StoredTotals}
-use Rattle.warehouse_root.specs.Layouts.{views_of}
+use Rattle.warehouse_root.specs.Layouts.{view_count}
 use Rattle.warehouse_root.specs.declared.layout.Layout.TheVariants.{First, Second}
 use Rattle.warehouse_root.specs.Limits.{greatest_total, most_additions, most_cells, most_cuboids, most_runs}
 
@@ -24,13 +24,13 @@ pub record PlainRoot : Type 0 where
   pub cuboids : List StoredCuboid
 
 -- how many batches, the target, how many additions, how many cuboids
-abbrev pub counts_of : ℕ → ℕ → ℕ → ℕ → List ℕ
-counts_of batches target additions cuboids =
+abbrev pub counts_spelling : ℕ → ℕ → ℕ → ℕ → List ℕ
+counts_spelling batches target additions cuboids =
     spelling 4 batches ++ (spelling 4 target ++ (spelling 4 additions ++ spelling 4 cuboids))
 
 -- the 48 bytes of the totals, measure by measure
-abbrev pub totals_of : StoredTotals → List ℕ
-totals_of totals =
+abbrev pub totals_spelling : StoredTotals → List ℕ
+totals_spelling totals =
     spelling 8 totals.quantity ++ (spelling 8 totals.extendedprice ++ (spelling 8 totals.revenue
     ++ (spelling 8 totals.supplycost ++ (spelling 8 totals.discounted ++ spelling 8 totals.profit))))
 
@@ -40,10 +40,10 @@ cuboid_of cuboid =
     spelling 2 cuboid.view ++ (spelling 2 cuboid.runs ++ (spelling 4 cuboid.mark ++ spelling 4 cuboid.cells))
 
 -- the bytes of a root: the counts, the totals, the rows of each batch, each cuboid
-abbrev pub root_of : PlainRoot → List ℕ
-root_of root =
-    counts_of (length root.batches) root.target root.additions (length root.cuboids)
-    ++ (totals_of root.totals ++ (flat_map (spelling 4) root.batches ++ flat_map cuboid_of root.cuboids))
+abbrev pub root_spelling : PlainRoot → List ℕ
+root_spelling root =
+    counts_spelling (length root.batches) root.target root.additions (length root.cuboids)
+    ++ (totals_spelling root.totals ++ (flat_map (spelling 4) root.batches ++ flat_map cuboid_of root.cuboids))
 
 -- each total keeps its limit
 pub record AreProperTotals (totals : StoredTotals) : Type 0 where
@@ -56,7 +56,7 @@ pub record AreProperTotals (totals : StoredTotals) : Type 0 where
 
 -- the rules of a cuboid that is stored over so many batches
 pub record IsProperCuboid (layout : Layout) (batches : ℕ) (cuboid : StoredCuboid) : Type 0 where
-  pub view : cuboid.view < views_of layout
+  pub view : cuboid.view < view_count layout
   pub mark : cuboid.mark ≤ batches
   -- a cuboid that holds no batch has no run, and another one has some
   pub no_run : (cuboid.runs ≡ 0) ↔ (cuboid.mark ≡ 0)
@@ -64,11 +64,11 @@ pub record IsProperCuboid (layout : Layout) (batches : ℕ) (cuboid : StoredCubo
   pub most_cells : cuboid.cells ≤ most_cells
 
 -- the view of each cuboid is below those of the cuboids after it
-abbrev pub AreAscending : List StoredCuboid → Type 0
-AreAscending cuboids = AllPairs (λ one other. one.view < other.view) cuboids
+abbrev pub ViewsAscend : List StoredCuboid → Type 0
+ViewsAscend cuboids = AllPairs (λ one other. one.view < other.view) cuboids
 
 -- the rules of a root
-pub record IsProper (root : PlainRoot) : Type 0 where
+pub record IsProperRoot (root : PlainRoot) : Type 0 where
   pub most_batches : length root.batches ≤ most_batches
   pub rows : All (λ rows. rows ≤ most_batch_rows) root.batches
   pub target : root.target ≤ length root.batches
@@ -76,12 +76,12 @@ pub record IsProper (root : PlainRoot) : Type 0 where
   pub totals : AreProperTotals root.totals
   pub most_cuboids : length root.cuboids ≤ most_cuboids
   pub each : All (IsProperCuboid root.layout (length root.batches)) root.cuboids
-  pub ascending : AreAscending root.cuboids
+  pub ascending : ViewsAscend root.cuboids
 
 -- the bytes are those of a proper root: there is no other spelling of it
 pub record IsRoot (bytes : List ℕ) (root : PlainRoot) : Type 0 where
-  pub spelled : bytes ≡ root_of root
-  pub proper : IsProper root
+  pub spelled : bytes ≡ root_spelling root
+  pub proper : IsProperRoot root
 
 -- the bytes are a root of that layout
 pub record IsRootOf (layout : Layout) (bytes : List ℕ) (root : PlainRoot) : Type 0 where
@@ -100,27 +100,27 @@ first_root layout = record {
 }
 
 -- the root with one batch more, of so many rows, and the totals with its rows
-abbrev pub with_batch : ℕ → StoredTotals → PlainRoot → PlainRoot
-with_batch rows totals root = record root { batches = root.batches ++ rows ∷ []; totals = totals }
+abbrev pub root_with_batch : ℕ → StoredTotals → PlainRoot → PlainRoot
+root_with_batch rows totals root = record root { batches = root.batches ++ rows ∷ []; totals = totals }
 
 -- the root with another target
 abbrev pub with_target : ℕ → PlainRoot → PlainRoot
 with_target target root = record root { target = target }
 
 -- the root where rows were added to dimensions once more
-abbrev pub with_addition : PlainRoot → PlainRoot
-with_addition root = record root { additions = root.additions + 1 }
+abbrev pub root_with_addition : PlainRoot → PlainRoot
+root_with_addition root = record root { additions = root.additions + 1 }
 
 -- the root of the same batches and cuboids in the second layout
-abbrev pub in_second : PlainRoot → PlainRoot
-in_second root = record root { layout = Second }
+abbrev pub root_in_second : PlainRoot → PlainRoot
+root_in_second root = record root { layout = Second }
 
 -- a cuboid in the place of that of its view
-abbrev pub put_cuboid : StoredCuboid → List StoredCuboid → List StoredCuboid
-put_cuboid cuboid cuboids = map (λ other. if other.view == cuboid.view then cuboid else other) cuboids
+abbrev pub put_stored_cuboid : StoredCuboid → List StoredCuboid → List StoredCuboid
+put_stored_cuboid cuboid cuboids = map (λ other. if other.view == cuboid.view then cuboid else other) cuboids
 
 abbrev pub with_cuboid : StoredCuboid → PlainRoot → PlainRoot
-with_cuboid cuboid root = record root { cuboids = put_cuboid cuboid root.cuboids }
+with_cuboid cuboid root = record root { cuboids = put_stored_cuboid cuboid root.cuboids }
 
 -- the root with other cuboids, which are to hold no batch yet
 abbrev pub with_cuboids : List StoredCuboid → PlainRoot → PlainRoot

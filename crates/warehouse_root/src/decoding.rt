@@ -1,8 +1,8 @@
 //! The rules of a root that was read.
 ghost use Rattle.std.specs.Prelude.{◌≡◌, ◌≤◌, ◌↔◌, length, All, IsTrue};
 ghost use Rattle.cube_model.specs.Limits.{most_batch_rows};
-ghost use Rattle.warehouse_root.specs.Reading.{parts_of};
-ghost use Rattle.warehouse_root.specs.Root.{AreAscending, IsProper, IsProperCuboid};
+ghost use Rattle.warehouse_root.specs.Reading.{root_of_parts};
+ghost use Rattle.warehouse_root.specs.Root.{ViewsAscend, IsProperRoot, IsProperCuboid};
 
 use crate::cuboid::StoredCuboid;
 use crate::layout::Layout;
@@ -20,7 +20,7 @@ pub(crate) fn keep_rules(
     cuboids: &[StoredCuboid],
 ) -> bool
     requires { length batches.now ≡ counts.now.batches }
-    ensures { IsTrue result ↔ IsProper (parts_of layout counts.now totals.now batches.now cuboids.now) }
+    ensures { IsTrue result ↔ IsProperRoot (root_of_parts layout counts.now totals.now batches.now cuboids.now) }
 {
     batches.len() <= MOST_BATCHES
         && cuboids.len() <= MOST_CUBOIDS
@@ -50,7 +50,7 @@ fn are_proper(cuboids: &[StoredCuboid], layout: Layout, batches: u32) -> bool
 
 // Whether each view is below the next.
 fn ascend(cuboids: &[StoredCuboid]) -> bool
-    ensures { IsTrue result ↔ AreAscending cuboids.now }
+    ensures { IsTrue result ↔ ViewsAscend cuboids.now }
 {
     cuboids.is_sorted_by(|one, other| one.view < other.view)
 }

@@ -3,7 +3,7 @@ ghost use Rattle.std.specs.Prelude.{◌≡◌, ◌++◌, length, IfErr, OnOk};
 ghost use Rattle.std.specs.List.{flat_map};
 ghost use Rattle.cube_model.specs.declared.fault.Fault.{Fault};
 ghost use Rattle.wire.specs.Spelling.{spelling};
-ghost use Rattle.warehouse_root.specs.Root.{counts_of, cuboid_of, totals_of};
+ghost use Rattle.warehouse_root.specs.Root.{counts_spelling, cuboid_of, totals_spelling};
 
 use crate::cuboid::StoredCuboid;
 use crate::totals::StoredTotals;
@@ -18,7 +18,7 @@ pub(crate) fn push_counts(
     additions: u32,
     cuboids: u32,
 ) -> Result<(), Fault>
-    ensures ok { OnOk result (out.new.items ≡ out.old.items ++ counts_of batches target additions cuboids) }
+    ensures ok { OnOk result (out.new.items ≡ out.old.items ++ counts_spelling batches target additions cuboids) }
     ensures memory { IfErr result (λ fault. fault ≡ Fault.Memory) }
 {
     push_u32(out, batches)?;
@@ -29,7 +29,7 @@ pub(crate) fn push_counts(
 
 // Adds the totals.
 pub(crate) fn push_totals(out: &mut Vec<u8>, totals: &StoredTotals) -> Result<(), Fault>
-    ensures ok { OnOk result (out.new.items ≡ out.old.items ++ totals_of totals.now) }
+    ensures ok { OnOk result (out.new.items ≡ out.old.items ++ totals_spelling totals.now) }
     ensures memory { IfErr result (λ fault. fault ≡ Fault.Memory) }
 {
     push_u64(out, totals.quantity)?;

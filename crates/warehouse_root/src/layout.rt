@@ -12,11 +12,11 @@ pub enum Layout {
 
 impl Layout {
     ghost use Rattle.warehouse_root.specs.declared.layout.Layout.{Layout};
-    ghost use Rattle.warehouse_root.specs.Layouts.{dimensions_of, has_modes, number_of, views_of};
+    ghost use Rattle.warehouse_root.specs.Layouts.{dimension_object_count, has_modes, layout_number, view_count};
 
     /// The layout of a number, 1 or 2, as it is stored.
     pub fn of_number(number: u32) -> Option<Layout>
-        ensures { (layout : Layout) → (result ≡ Some layout) ↔ (number ≡ number_of layout) }
+        ensures { (layout : Layout) → (result ≡ Some layout) ↔ (number ≡ layout_number layout) }
     {
         match number {
             1 => Some(Layout::First),
@@ -27,7 +27,7 @@ impl Layout {
 
     /// Its number on the device.
     pub fn number(self) -> u32
-        ensures { result ≡ number_of self }
+        ensures { result ≡ layout_number self }
     {
         match self {
             Layout::First => 1,
@@ -37,7 +37,7 @@ impl Layout {
 
     /// How many views it has. They count from 0.
     pub fn views(self) -> u16
-        ensures { result ≡ views_of self }
+        ensures { result ≡ view_count self }
     {
         match self {
             Layout::First => 256,
@@ -54,7 +54,7 @@ impl Layout {
 
     /// How many objects hold dimensions. They count from 1.
     pub fn dimensions(self) -> u32
-        ensures { result ≡ dimensions_of self }
+        ensures { result ≡ dimension_object_count self }
     {
         match self {
             Layout::First => 4,

@@ -6,9 +6,11 @@ ghost use Rattle.cube_model.specs.declared.fault.Fault.{Fault};
 ghost use Rattle.cube_model.specs.Limits.{most_batch_rows, most_batches};
 ghost use Rattle.warehouse_root.specs.Limits.{most_additions, most_cuboids};
 ghost use Rattle.warehouse_root.specs.Objects.{object_ids};
-ghost use Rattle.warehouse_root.specs.Root.{AreAscending, AreProperTotals, IsProper, IsProperCuboid, IsRoot, IsRootOf};
-ghost use Rattle.warehouse_root.specs.Root.{PlainRoot, first_root, in_second, put_cuboid, root_of, with_addition};
-ghost use Rattle.warehouse_root.specs.Root.{with_batch};
+ghost use Rattle.warehouse_root.specs.Root.{ViewsAscend, AreProperTotals, IsProperRoot, IsProperCuboid, IsRoot};
+ghost use Rattle.warehouse_root.specs.Root.{IsRootOf};
+ghost use Rattle.warehouse_root.specs.Root.{PlainRoot, first_root, root_in_second, put_stored_cuboid, root_spelling};
+ghost use Rattle.warehouse_root.specs.Root.{root_with_addition};
+ghost use Rattle.warehouse_root.specs.Root.{root_with_batch};
 ghost use Rattle.warehouse_root.specs.Root.{with_cuboid, with_cuboids, with_target};
 
 use crate::cuboid::StoredCuboid;
@@ -34,7 +36,7 @@ pub struct Root {
 }
 
 impl Model for Root {
-    ghost use Rattle.warehouse_root.specs.Root.{IsProper, PlainRoot};
+    ghost use Rattle.warehouse_root.specs.Root.{IsProperRoot, PlainRoot};
 
     ghost Value = { PlainRoot };
 
@@ -47,7 +49,7 @@ impl Model for Root {
       cuboids = root.cuboids.items;
     } };
 
-    ghost invariant = { λ root. IsProper (record {
+    ghost invariant = { λ root. IsProperRoot (record {
       layout = root.layout;
       batches = root.batches.items;
       target = root.target;
@@ -85,7 +87,7 @@ impl Root {
         requires batches { length self.now.batches < most_batches }
         requires rows { rows ≤ most_batch_rows }
         requires totals { AreProperTotals totals }
-        ensures ok { IfOk result (λ root. root ≡ with_batch rows totals self.now) }
+        ensures ok { IfOk result (λ root. root ≡ root_with_batch rows totals self.now) }
         ensures memory { IfErr result (λ fault. fault ≡ Fault.Memory) }
     {
         let batches = with_rows(alloc, &self.batches, rows)?;
@@ -121,7 +123,7 @@ impl Root {
     /// The root where rows were added to dimensions once more.
     pub fn with_addition(&self, alloc: Global) -> Result<Root, Fault>
         requires { self.now.additions < most_additions }
-        ensures ok { IfOk result (λ root. root ≡ with_addition self.now) }
+        ensures ok { IfOk result (λ root. root ≡ root_with_addition self.now) }
         ensures memory { IfErr result (λ fault. fault ≡ Fault.Memory) }
     {
         let batches = Vec::from_slice(alloc, &self.batches)?;
@@ -138,7 +140,7 @@ impl Root {
 
     /// The root of the same batches and cuboids in the second layout.
     pub fn in_second_layout(&self, alloc: Global) -> Result<Root, Fault>
-        ensures ok { IfOk result (λ root. root ≡ in_second self.now) }
+        ensures ok { IfOk result (λ root. root ≡ root_in_second self.now) }
         ensures memory { IfErr result (λ fault. fault ≡ Fault.Memory) }
     {
         let batches = Vec::from_slice(alloc, &self.batches)?;
@@ -175,7 +177,7 @@ impl Root {
     pub fn with_cuboids(&self, alloc: Global, cuboids: Vec<StoredCuboid>) -> Result<Root, Fault>
         requires few { length cuboids.items ≤ most_cuboids }
         requires each { All (IsProperCuboid self.now.layout (length self.now.batches)) cuboids.items }
-        requires ascending { AreAscending cuboids.items }
+        requires ascending { ViewsAscend cuboids.items }
         ensures ok { IfOk result (λ root. root ≡ with_cuboids cuboids.items self.now) }
         ensures memory { IfErr result (λ fault. fault ≡ Fault.Memory) }
     {
@@ -203,7 +205,7 @@ impl Root {
 
     // Adds the bytes of the root.
     fn push_parts(&self, out: &mut Vec<u8>) -> Result<(), Fault>
-        ensures ok { OnOk result (out.new.items ≡ out.old.items ++ root_of self.now) }
+        ensures ok { OnOk result (out.new.items ≡ out.old.items ++ root_spelling self.now) }
         ensures memory { IfErr result (λ fault. fault ≡ Fault.Memory) }
     {
         push_counts(
@@ -249,7 +251,7 @@ impl Root {
         ensures value { result ≡ self.now.layout }
 
         // Each root keeps the rules.
-        ensures proper { IsProper self.now }
+        ensures proper { IsProperRoot self.now }
     {
         self.layout
     }
@@ -327,7 +329,7 @@ fn with_one(
     cuboids: &[StoredCuboid],
     cuboid: StoredCuboid,
 ) -> Result<Vec<StoredCuboid>, Fault>
-    ensures ok { IfOk result (λ put. put.items ≡ put_cuboid cuboid cuboids.now) }
+    ensures ok { IfOk result (λ put. put.items ≡ put_stored_cuboid cuboid cuboids.now) }
     ensures memory { IfErr result (λ fault. fault ≡ Fault.Memory) }
 {
     let mut put = Vec::with_capacity(alloc, cuboids.len())?;

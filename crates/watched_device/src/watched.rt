@@ -1,6 +1,7 @@
 // A device, and what sees its calls.
 ghost use Rattle.std.specs.Prelude.{◌≡◌, ◌+◌, ◌/◌, ◌%◌, ◌^◌, ◌<◌, ◌≤◌, length, OnOk};
-ghost use Rattle.sector_device.specs.Device.{CountsFailure, HasRun, IsInRun, Stays, Writes, WritesWithin};
+ghost use Rattle.sector_device.specs.Device.{CountsFailure, HasRun, IsInRun, CandidatesStay, WritesSector};
+ghost use Rattle.sector_device.specs.Device.{WritesWithin};
 
 use crate::Observer;
 use sector_device::{DeviceError, Sectors};
@@ -69,7 +70,7 @@ impl<D: Sectors, O: Observer> Sectors for Watched<D, O> {
         ensures goes_on { D.Sectors.always_keeps → KeepsWord D.Sectors self.old → KeepsWord D.Sectors self.new }
         ensures bytes { OnOk result (KeepsWord D.Sectors self.new → to.new ≡ (state_of D.Sectors self.old).reads i) }
         ensures stays { KeepsWord D.Sectors self.new
-            → Stays (state_of D.Sectors self.old) (state_of D.Sectors self.new) }
+            → CandidatesStay (state_of D.Sectors self.old) (state_of D.Sectors self.new) }
 
         ensures noted { IsNoted O.Observer.reads 1 result (observer_of self.old) (observer_of self.new) }
     {
@@ -87,7 +88,7 @@ impl<D: Sectors, O: Observer> Sectors for Watched<D, O> {
         ensures written { OnOk result
             (KeepsWord D.Sectors self.new → (state_of D.Sectors self.new).reads i ≡ from.now) }
         ensures writes { KeepsWord D.Sectors self.new
-            → Writes i from.now (state_of D.Sectors self.old) (state_of D.Sectors self.new) }
+            → WritesSector i from.now (state_of D.Sectors self.old) (state_of D.Sectors self.new) }
 
         ensures noted { IsNoted O.Observer.writes 1 result (observer_of self.old) (observer_of self.new) }
     {
@@ -107,7 +108,7 @@ impl<D: Sectors, O: Observer> Sectors for Watched<D, O> {
         ensures bytes { OnOk result
             (KeepsWord D.Sectors self.new → HasRun (state_of D.Sectors self.old).reads first to.new) }
         ensures stays { KeepsWord D.Sectors self.new
-            → Stays (state_of D.Sectors self.old) (state_of D.Sectors self.new) }
+            → CandidatesStay (state_of D.Sectors self.old) (state_of D.Sectors self.new) }
 
         ensures noted { IsNoted O.Observer.reads (length to.old / 512) result (observer_of self.old)
             (observer_of self.new) }

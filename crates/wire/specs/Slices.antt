@@ -3,5 +3,5 @@ use Rattle.std.specs.Prelude.{ℕ, List}
 use Rattle.wire.specs.declared.source.SliceSource.{SliceSource}
 
 -- the bytes that are at every id
-abbrev pub bytes_of : SliceSource → List ℕ
-bytes_of source = source.bytes.now
+abbrev pub slice_bytes : SliceSource → List ℕ
+slice_bytes source = source.bytes.now

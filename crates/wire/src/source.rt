@@ -64,11 +64,11 @@ pub struct SliceSource<'a> {
 }
 
 impl<'a> SliceSource<'a> {
-    ghost use Rattle.wire.specs.Slices.{bytes_of};
+    ghost use Rattle.wire.specs.Slices.{slice_bytes};
 
     /// The bytes as a source.
     pub fn new(bytes: &'a [u8]) -> Self
-        ensures { bytes_of result ≡ bytes.now }
+        ensures { slice_bytes result ≡ bytes.now }
     {
         SliceSource { bytes }
     }

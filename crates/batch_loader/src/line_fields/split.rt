@@ -1,7 +1,7 @@
 //! Splitting a line at its bars.
 ghost use Rattle.std.specs.Prelude.{◌≡◌, Some, None, IfSome, MatchOption, MatchResult};
 ghost use Rattle.batch_loader.specs.Fields.{AreEnds, fields_of, parts_at, without_cr};
-ghost use Rattle.batch_loader.specs.LineFields.{texts_of};
+ghost use Rattle.batch_loader.specs.LineFields.{field_texts};
 
 use super::LineFields;
 use super::bars::{first_window, next_end};
@@ -11,7 +11,7 @@ use cube_model::Fault;
 /// is empty.
 #[inline(always)]
 pub fn fields<const N: usize>(line: &[u8], number: u64) -> Result<LineFields<'_, N>, Fault>
-    ensures { MatchResult result (λ fields. fields_of N line.now ≡ Some (texts_of fields))
+    ensures { MatchResult result (λ fields. fields_of N line.now ≡ Some (field_texts fields))
         (λ fault. (fields_of N line.now ≡ None) × (fault ≡ Fault.FieldCount number)) }
 {
     let mut ends = [0usize; N];

@@ -1,6 +1,6 @@
 //! Numbers of one digit or two.
 ghost use Rattle.std.specs.Prelude.{◌≡◌, ◌≤◌, ◌-◌, ◌∷◌, [], None, true, false, IfSome, length, slice_range};
-ghost use Rattle.batch_loader.specs.Numbers.{is_digit, number_of};
+ghost use Rattle.batch_loader.specs.Numbers.{is_digit, number_spelled};
 
 use super::number_between;
 
@@ -10,7 +10,7 @@ use super::number_between;
 pub fn few_digits_between(text: &[u8], start: usize, end: usize, limit: u64) -> Option<u64>
     requires order { start ≤ end }
     requires within { end ≤ length text.now }
-    ensures { result ≡ number_of limit (slice_range text.now start end) }
+    ensures { result ≡ number_spelled limit (slice_range text.now start end) }
 {
     match end - start {
         1 => one_digit(text[start], limit),
@@ -22,7 +22,7 @@ pub fn few_digits_between(text: &[u8], start: usize, end: usize, limit: u64) -> 
 /// The number up to a limit that one byte spells, if it spells one.
 #[inline(always)]
 fn one_digit(byte: u8, limit: u64) -> Option<u64>
-    ensures { result ≡ number_of limit (byte ∷ []) }
+    ensures { result ≡ number_spelled limit (byte ∷ []) }
 {
     let value = digit(byte)?;
     if value > limit {
@@ -34,7 +34,7 @@ fn one_digit(byte: u8, limit: u64) -> Option<u64>
 /// The same of two bytes.
 #[inline(always)]
 fn two_digits(first: u8, second: u8, limit: u64) -> Option<u64>
-    ensures { result ≡ number_of limit (first ∷ second ∷ []) }
+    ensures { result ≡ number_spelled limit (first ∷ second ∷ []) }
 {
     let value = 10 * digit(first)? + digit(second)?;
     if value > limit {
@@ -48,7 +48,7 @@ fn two_digits(first: u8, second: u8, limit: u64) -> Option<u64>
 fn other_number(text: &[u8], start: usize, end: usize, limit: u64) -> Option<u64>
     requires order { start ≤ end }
     requires within { end ≤ length text.now }
-    ensures { result ≡ number_of limit (slice_range text.now start end) }
+    ensures { result ≡ number_spelled limit (slice_range text.now start end) }
 {
     number_between(text, start, end, limit)
 }

@@ -2,7 +2,7 @@
 ghost use Rattle.std.specs.Prelude.{◌≡◌, ◌≤◌, ◌+◌, ◌*◌, ◌/◌, ◌%◌, ◌^◌, ◌<◌, ℕ, List, length, max, true, slice_range};
 ghost use Rattle.std.specs.Int.{bit_at};
 ghost use Rattle.std.specs.Slice.Scan.{little_endian};
-ghost use Rattle.batch_loader.specs.Numbers.{value_of};
+ghost use Rattle.batch_loader.specs.Numbers.{digits_value};
 ghost use Rattle.batch_loader.specs.ShortNumbers.{AreDigits, IsSpread, decimal_of, raised};
 
 /// How far after a number's lower half the upper one lies.
@@ -46,7 +46,7 @@ pub fn short_value(text: &[u8], start: usize, count: usize) -> u64
     requires few { count ≤ 8 }
     requires room { start + 8 ≤ length text.now }
     requires digits { AreDigits text.now start count }
-    ensures { result ≡ value_of (slice_range text.now start (start + count)) }
+    ensures { result ≡ digits_value (slice_range text.now start (start + count)) }
 {
     let digits = word_at(text, start).wrapping_sub(ZEROS) << (64 - 8 * count);
     value_of_eight(digits)

@@ -2,7 +2,7 @@
 ghost use Rattle.std.specs.Prelude.{◌≡◌, ◌⊎◌, ◌↔◌, ℕ, List, All, IsTrue, IfErr, IfOk};
 ghost use Rattle.cube_model.specs.declared.fault.Fault.{Fault};
 ghost use Rattle.object_store.specs.declared.catalogue.entry.Entry.{Entry};
-ghost use Rattle.object_store.specs.Catalogue.{AreAscending, IsCatalogue, IsProperEntry};
+ghost use Rattle.object_store.specs.Catalogue.{IdsAscend, IsCatalogue, IsProperEntry};
 
 use crate::catalogue::reading::{read_entries, read_header};
 use crate::catalogue::{Catalogue, Entry};
@@ -38,7 +38,7 @@ fn are_proper(entries: &[Entry]) -> bool
 
 // Whether each id is below the next.
 fn ascend(entries: &[Entry]) -> bool
-    ensures { IsTrue result ↔ AreAscending entries.now }
+    ensures { IsTrue result ↔ IdsAscend entries.now }
 {
     entries.is_sorted_by(|one, other| one.id < other.id)
 }

@@ -2,7 +2,7 @@
 ghost use Rattle.std.specs.Prelude.{◌≡◌, ◌+◌, ◌*◌, ◌^◌, ◌<◌, ◌++◌, length, IfErr, IfOk, OnOk};
 ghost use Rattle.std.specs.List.{flat_map};
 ghost use Rattle.cube_model.specs.declared.fault.Fault.{Fault};
-ghost use Rattle.object_store.specs.Catalogue.{catalogue_of, entry_of, header_of};
+ghost use Rattle.object_store.specs.Catalogue.{catalogue_of, entry_of, catalogue_header};
 
 use crate::catalogue::Entry;
 use cube_model::Fault;
@@ -37,7 +37,7 @@ fn push_entries(out: &mut Vec<u8>, entries: &[Entry]) -> Result<(), Fault>
 }
 
 fn header(entries: u32, root: u32) -> [u8; 12]
-    ensures { result ≡ header_of entries root }
+    ensures { result ≡ catalogue_header entries root }
 {
     let mut bytes = [0; 12];
     write_bytes(&mut bytes, 0, NAME);

@@ -2,8 +2,8 @@
 ghost use Rattle.std.specs.Prelude.{◌≡◌, ◌≢◌, ◌*◌, ◌^◌, ◌≤◌, ◌<◌, ◌++◌, ℕ, List, length, IfErr, IfOk, IsErr};
 ghost use Rattle.std.specs.Prelude.{IsOkUnless, IsTrue, ◌↔◌};
 ghost use Rattle.cube_model.specs.declared.fault.Fault.{Fault};
-ghost use Rattle.object_store.specs.Catalogue.{header_of};
-ghost use Rattle.object_store.specs.CatalogueReading.{ReadsEntries, ReadsEntry, ReadsHeader};
+ghost use Rattle.object_store.specs.Catalogue.{catalogue_header};
+ghost use Rattle.object_store.specs.CatalogueReading.{ReadsEntries, ReadsEntry, ReadsCatalogueHeader};
 
 use crate::catalogue::Entry;
 use cube_model::Fault;
@@ -19,11 +19,11 @@ pub(crate) struct Header {
 }
 
 impl Header {
-    ghost use Rattle.object_store.specs.CatalogueReading.{IsHeaderOf};
+    ghost use Rattle.object_store.specs.CatalogueReading.{IsCatalogueHeader};
 
     // Whether it keeps the limits, and a catalogue with it has so many bytes.
     pub(crate) fn is_of(&self, bytes: usize) -> bool
-        ensures { IsTrue result ↔ IsHeaderOf bytes self.now.entries self.now.root }
+        ensures { IsTrue result ↔ IsCatalogueHeader bytes self.now.entries self.now.root }
     {
         let (entries, root) = (self.entries as usize, self.root as usize);
         entries <= MOST_OBJECTS && root <= MOST_ROOT_BYTES && bytes == 12 + 16 * entries + root
@@ -32,10 +32,10 @@ impl Header {
 
 // The header at the front of bytes.
 pub(crate) fn read_header(cursor: &mut Cursor<'_>) -> Result<Header, Fault>
-    ensures ok { IfOk result (λ header. ReadsHeader cursor.old cursor.new header.entries header.root) }
+    ensures ok { IfOk result (λ header. ReadsCatalogueHeader cursor.old cursor.new header.entries header.root) }
     ensures fault { IsOkUnless result Fault.BadLayout }
     ensures none { IsErr result
-        → (entries root : ℕ) (rest : List ℕ) → cursor.old ≢ header_of entries root ++ rest }
+        → (entries root : ℕ) (rest : List ℕ) → cursor.old ≢ catalogue_header entries root ++ rest }
 {
     if cursor.bytes(4)? != b"CAT1".as_slice() {
         return Err(Fault::BadLayout);

@@ -1,10 +1,10 @@
 use Rattle.std.proofs.Common.{◌≡◌, ◌++◌}
 use Rattle.answer_merge.specs.Merges.{merged_lines}
-use Rattle.answer_merge.specs.Wide.{Rise, lines_of}
+use Rattle.answer_merge.specs.Wide.{Rise, narrow_lines}
 use Rattle.answer_merge.proofs.merging.merge.Given as goal
 
 abbrev pub invariant-loop : goal.invariant-loop
 invariant-loop l =
-    (merged_lines l.aggs (lines_of l.fn.ones.items) (lines_of l.fn.others.items) ≡ lines_of l.lines.items
-    ++ merged_lines l.aggs (lines_of l.left.items) (lines_of l.right.items))
+    (merged_lines l.aggs (narrow_lines l.fn.ones.items) (narrow_lines l.fn.others.items) ≡ narrow_lines l.lines.items
+    ++ merged_lines l.aggs (narrow_lines l.left.items) (narrow_lines l.right.items))
     × Rise l.left.items × Rise l.right.items

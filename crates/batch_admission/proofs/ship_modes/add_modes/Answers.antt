@@ -1,7 +1,7 @@
 use Rattle.std.proofs.Common.{◌∙◌, ◌<◌, ◌+◌, ℕ, List, Option, Some, None, not, true, length, set, sym, ap, subst, arith}
-use Rattle.dictionary.specs.Columns.{text_at}
+use Rattle.dictionary.specs.Columns.{text_of_code}
 use Rattle.dictionary.specs.Dictionary.{Adds}
-use Rattle.batch_admission.specs.ShipModes.{row_at}
+use Rattle.batch_admission.specs.ShipModes.{row_number_at}
 use Rattle.batch_admission.proofs.ModeLaws.{Adding, adding_again, adding_more, adding_none, code_below}
 use Rattle.batch_admission.proofs.ModeLaws.{mark_is, no_text, some_text}
 use Rattle.batch_admission.proofs.ship_modes.add_modes.Goals as goal
@@ -34,9 +34,10 @@ returns-then-is_none-clause-crowded c = λ earlier are.
     let texts = c.args.modes.now.texts in
     let none = no_text c.in_ok-add.field-0 (c.is_none.ensures ∙ ap not c.if-is_none.true) in
     let adds = subst (λ (t : List ℕ). Adds known t None c.add.new.self)
-    (c.text_of.ensures ∙ ap (text_at texts) c.from_le_bytes-code.ensures)
+    (c.text_of.ensures ∙ ap (text_of_code texts) c.from_le_bytes-code.ensures)
     (subst (λ (code : Option ℕ). Adds known c.text_of.result.now code c.add.new.self) none c.in_ok-add.ensures.ok) in
-    sym (ap row_at (adding_none c.args.known.now known texts c.args.codes.now c.loop-place.met.items c.loop-place.place
+    sym (ap row_number_at
+    (adding_none c.args.known.now known texts c.args.codes.now c.loop-place.met.items c.loop-place.place
     c.loop-place.invariant c.loop-place-test.true c.add.new.self adds earlier are))
 
 pub index_mut-requires : goal.index_mut-requires
@@ -51,7 +52,7 @@ loop-place-preserved c =
     let texts = c.args.modes.now.texts in
     let code = some_text c.in_ok-add.field-0 (c.is_none.ensures ∙ ap not c.if-is_none.false) in
     let adds = subst (λ (t : List ℕ). Adds known t (Some code.0) c.add.new.self)
-    (c.text_of.ensures ∙ ap (text_at texts) c.from_le_bytes-code.ensures)
+    (c.text_of.ensures ∙ ap (text_of_code texts) c.from_le_bytes-code.ensures)
     (subst (λ (found : Option ℕ). Adds known c.text_of.result.now found c.add.new.self) code.1
     c.in_ok-add.ensures.ok) in
     subst (λ (n : ℕ). Adding c.args.known.now c.add.new.self texts c.args.codes.now

@@ -1,6 +1,6 @@
 use Rattle.std.proofs.Common.{refl, arith}
 use Rattle.std.proofs.lemmas.List.{length-replicate}
-use Rattle.batch_loader.specs.LineFields.{texts_of}
+use Rattle.batch_loader.specs.LineFields.{field_texts}
 use Rattle.batch_loader.proofs.ColumnByColumn.{IsRead-numbers, length-parts_at}
 use Rattle.batch_loader.proofs.columns.numbers_of.Goals as goal
 
@@ -15,5 +15,5 @@ loop-place-init g c = record {
 
 pub returns-clause-numbers : goal.returns-clause-numbers
 returns-clause-numbers g c =
-    IsRead-numbers c.args.line g.row.N c.args.columns.now (texts_of c.args.fields.now) c.loop-place.numbers
+    IsRead-numbers c.args.line g.row.N c.args.columns.now (field_texts c.args.fields.now) c.loop-place.numbers
     c.loop-place.place (omega (arith, c.loop-place-test.false)) c.loop-place.invariant

@@ -1,5 +1,5 @@
 use Rattle.std.proofs.Common.{rules, w64, ℤ, FitsSigned, to_z, of_z, to_z-of_z, inr, ◌≡◌, ◌∙◌, refl, subst}
-use Rattle.c_library.specs.Reports.{Refuses}
+use Rattle.c_library.specs.Reports.{RefusesReport}
 use Rattle.report_words.specs.Words.{cube_words}
 use Rattle.c_library.proofs.reports.ssbcube_cube.Goals as goal
 
@@ -9,7 +9,7 @@ returns-in-Err c =
     let exact : to_z w64 (of_z w64 c.args.as_of) ≡ c.args.as_of = to_z-of_z c.ranges.as_of in
     inr (
       c.in-Err.fault,
-      subst (λ (z : ℤ). Refuses c.args.image.now
+      subst (λ (z : ℤ). RefusesReport c.args.image.now
           (cube_words c.args.set.now c.args.by.now c.args.agg.now c.args.conditions.now) c.args.format.now z
           c.in-Err.fault) exact c.in-Err.ensures.refused,
       record {

@@ -4,14 +4,14 @@ use Rattle.std.proofs.lemmas.List.{length-drop, get_or-drop}
 use Rattle.std.proofs.lemmas.Int.{to_z-of_z}
 use Rattle.std.specs.Int.{bit_at, w128}
 use Rattle.column_kernels.specs.declared.extremes.Extremes.{Extremes}
-use Rattle.column_kernels.specs.Extremes.{kept_of, kept_with}
+use Rattle.column_kernels.specs.Extremes.{kept_extremes, kept_with}
 use Rattle.column_kernels.specs.Masks.{bits_of}
 use Rattle.column_kernels.proofs.Keeping.{kept_row}
 use Rattle.column_kernels.proofs.extremes.kept_of_word.Goals as goal
 
 pub loop-i-init : goal.loop-i-init
 unfolding bits_of
-loop-i-init g c = λ before is. is ∙ ap kept_of (sym (append-nil before))
+loop-i-init g c = λ before is. is ∙ ap kept_extremes (sym (append-nil before))
 
 pub loop-i-preserved : goal.loop-i-preserved
 loop-i-preserved g c = λ before is.

@@ -1,7 +1,7 @@
 use Rattle.std.proofs.Common.{◌≡◌, ℕ, Bool, List, length, map, ap, ◌∙◌, arith, rules}
 use Rattle.std.proofs.lemmas.List.{length-map}
 use Rattle.std.specs.List.{sum}
-use Rattle.column_kernels.specs.Masks.{bits_of, selected}
+use Rattle.column_kernels.specs.Masks.{bits_of, selected_by}
 use Rattle.column_kernels.specs.Sums.{low, high}
 use Rattle.column_kernels.proofs.Halves.{halves_sum}
 use Rattle.column_kernels.proofs.Selecting.{sum_by_halves}
@@ -25,10 +25,10 @@ pub returns-clause-value : goal.returns-clause-value
 returns-clause-value c =
     let marks : List Bool = bits_of 32 c.args.word in
     let lanes : List ℕ = c.loaded-lanes.result in
-    let lows : c.chosen_sum-low.result ≡ sum (selected marks (map low lanes))
-    = c.chosen_sum-low.ensures ∙ ap (λ (l : List ℕ). sum (selected marks l)) c.low_halves.ensures.value in
-    let highs : c.chosen_sum-high.result ≡ sum (selected marks (map high lanes))
-    = c.chosen_sum-high.ensures ∙ ap (λ (l : List ℕ). sum (selected marks l)) c.high_halves.ensures.value in
-    let whole : c.joined.result ≡ sum (selected marks lanes) =
+    let lows : c.chosen_sum-low.result ≡ sum (selected_by marks (map low lanes))
+    = c.chosen_sum-low.ensures ∙ ap (λ (l : List ℕ). sum (selected_by marks l)) c.low_halves.ensures.value in
+    let highs : c.chosen_sum-high.result ≡ sum (selected_by marks (map high lanes))
+    = c.chosen_sum-high.ensures ∙ ap (λ (l : List ℕ). sum (selected_by marks l)) c.high_halves.ensures.value in
+    let whole : c.joined.result ≡ sum (selected_by marks lanes) =
     omega (arith, c.joined.ensures.value, lows, highs, sum_by_halves marks lanes) in
-    whole ∙ ap (λ (l : List ℕ). sum (selected marks l)) c.loaded-lanes.ensures
+    whole ∙ ap (λ (l : List ℕ). sum (selected_by marks l)) c.loaded-lanes.ensures

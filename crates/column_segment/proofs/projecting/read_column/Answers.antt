@@ -1,5 +1,5 @@
 use Rattle.std.proofs.Common.{◌≡◌, ◌+◌, ◌*◌, ◌<◌, ℕ, List, slice_index, sym, subst, ◌∙◌, true≢false}
-use Rattle.column_segment.specs.Projected.{StaysOutside, place_of, width_of}
+use Rattle.column_segment.specs.Projected.{StaysOutside, fact_place, width_of}
 use Rattle.column_segment.proofs.OneColumn.{fits_shared, shares, still_shares}
 use Rattle.column_segment.proofs.projecting.read_column.Goals as goal
 
@@ -10,14 +10,14 @@ returns-clause-found g c keeps text at enough =
     let rows : ℕ = c.args.rows in
     let column = c.args.column in
     let room = c.requires.holds.room in
-    let outside : StaysOutside (12 + place_of column * rows) (width_of column * rows) old new =
-    subst (λ (width : ℕ). StaysOutside (12 + place_of column * rows) (width * rows) old new) c.width_of.ensures
+    let outside : StaysOutside (12 + fact_place column * rows) (width_of column * rows) old new =
+    subst (λ (width : ℕ). StaysOutside (12 + fact_place column * rows) (width * rows) old new) c.width_of.ensures
     (subst (λ (place : ℕ). StaysOutside (12 + place * rows) (c.width_of.result * rows) old new) c.place_of.ensures.value
     c.read_over.ensures.outside) in
-    let inside : (place : ℕ) → place < width_of column * rows → slice_index new (12 + place_of column * rows + place)
-    ≡ slice_index text (12 + place_of column * rows + place) =
-    subst (λ (width : ℕ). (place : ℕ) → place < width * rows → slice_index new (12 + place_of column * rows + place)
-    ≡ slice_index text (12 + place_of column * rows + place)) c.width_of.ensures
+    let inside : (place : ℕ) → place < width_of column * rows → slice_index new (12 + fact_place column * rows + place)
+    ≡ slice_index text (12 + fact_place column * rows + place) =
+    subst (λ (width : ℕ). (place : ℕ) → place < width * rows → slice_index new (12 + fact_place column * rows + place)
+    ≡ slice_index text (12 + fact_place column * rows + place)) c.width_of.ensures
     (subst (λ (start : ℕ). (place : ℕ) → place < c.width_of.result * rows
     → slice_index new (12 + start * rows + place) ≡ slice_index text (12 + start * rows + place))
     c.place_of.ensures.value
@@ -34,14 +34,14 @@ returns-then-not-fits_column-clause-refused g c = λ err keeps text at has.
     let new : List ℕ = c.read_over.new.bytes in
     let rows : ℕ = c.args.rows in
     let column = c.args.column in
-    let outside : StaysOutside (12 + place_of column * rows) (width_of column * rows) old new =
-    subst (λ (width : ℕ). StaysOutside (12 + place_of column * rows) (width * rows) old new) c.width_of.ensures
+    let outside : StaysOutside (12 + fact_place column * rows) (width_of column * rows) old new =
+    subst (λ (width : ℕ). StaysOutside (12 + fact_place column * rows) (width * rows) old new) c.width_of.ensures
     (subst (λ (place : ℕ). StaysOutside (12 + place * rows) (c.width_of.result * rows) old new) c.place_of.ensures.value
     c.read_over.ensures.outside) in
-    let inside : (place : ℕ) → place < width_of column * rows → slice_index new (12 + place_of column * rows + place)
-    ≡ slice_index text (12 + place_of column * rows + place) =
-    subst (λ (width : ℕ). (place : ℕ) → place < width * rows → slice_index new (12 + place_of column * rows + place)
-    ≡ slice_index text (12 + place_of column * rows + place)) c.width_of.ensures
+    let inside : (place : ℕ) → place < width_of column * rows → slice_index new (12 + fact_place column * rows + place)
+    ≡ slice_index text (12 + fact_place column * rows + place) =
+    subst (λ (width : ℕ). (place : ℕ) → place < width * rows → slice_index new (12 + fact_place column * rows + place)
+    ≡ slice_index text (12 + fact_place column * rows + place)) c.width_of.ensures
     (subst (λ (start : ℕ). (place : ℕ) → place < c.width_of.result * rows
     → slice_index new (12 + start * rows + place) ≡ slice_index text (12 + start * rows + place))
     c.place_of.ensures.value

@@ -1,5 +1,5 @@
 use Rattle.std.proofs.Common.{◌≡◌, ◌<◌, ℕ, List, [], length, get_or, arith, sym, ap, ◌∙◌}
-use Rattle.dictionary.specs.Columns.{text_at}
+use Rattle.dictionary.specs.Columns.{text_of_code}
 use Rattle.column_segment.specs.Decoded.{codes_in}
 use Rattle.column_segment.proofs.Parts.{at-map, code_at, is_text, length_codes, no_text}
 use Rattle.column_segment.proofs.rows.text_at.Goals as goal
@@ -30,4 +30,4 @@ returns-clause-ok c =
     let below = c.requires.codes.below c.args.row 0 there in
     c.in_ok-from_slice-in-Some.ensures.ok
     ∙ is_text texts c.from.result c.in-Some.text.now (omega (arith, c.from.ensures, code, below)) c.in-Some.ensures.text
-    ∙ ap (text_at texts) (c.from.ensures ∙ code) ∙ sym (at-map (text_at texts) codes c.args.row 0 [] there)
+    ∙ ap (text_of_code texts) (c.from.ensures ∙ code) ∙ sym (at-map (text_of_code texts) codes c.args.row 0 [] there)

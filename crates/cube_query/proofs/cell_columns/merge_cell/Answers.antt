@@ -6,7 +6,7 @@ use Rattle.std.specs.declared.vec.Vec.{Vec}
 use Rattle.cube_model.specs.declared.fault.Fault.TheVariants.{BadLayout}
 use Rattle.cube_model.specs.declared.measure.Agg.{Agg}
 use Rattle.cube_model.specs.declared.measure.Agg.TheVariants.{Count}
-use Rattle.cube_query.specs.CellTallies.{HasRoomFor, MergesCells}
+use Rattle.cube_query.specs.CellTallies.{HasRoomForCells, MergesCells}
 use Rattle.cube_query.specs.Columns.{tally_at}
 use Rattle.cube_query.specs.declared.tally.Tally.{Tally}
 use Rattle.cube_query.proofs.CellMerges.{AreMergedBelow-set, all_columns_merged, room_in}
@@ -24,7 +24,7 @@ returns-in_err-merge_in_column-clause-refused c =
     let here = room_in c.args.slot cells aggs c.args.columns.now c.requires room i c.loop-i-test.true Count column in
     let is : c.in_err-merge_in_column.field-0.0 ≡ BadLayout = cc bad in
     c.in_err-merge_in_column.ensures.refused (ap (λ fault. Err fault) is)
-    (subst (λ (own : Vec Tally Global). HasRoomFor (get_or aggs i Count) cells (tally_at own.items c.args.slot))
+    (subst (λ (own : Vec Tally Global). HasRoomForCells (get_or aggs i Count) cells (tally_at own.items c.args.slot))
     (sym (c.loop-i.invariant.below.kept i (omega arith) column)) here))
 
 pub loop-i-preserved : goal.loop-i-preserved

@@ -9,7 +9,7 @@ use Rattle.cube_query.proofs.Columnwise.{as_many_columns}
 use Rattle.cube_query.proofs.Passes.{Apart-sorted, can_merge, may_merge, passed, room_to_merge, part_of}
 use Rattle.cube_query.proofs.Seen.{each_number, All-numbers}
 use Rattle.cube_query.proofs.Targets.{AreTargets-length}
-use Rattle.group_plan.specs.Numbers.{group_count, key_at}
+use Rattle.group_plan.specs.Numbers.{group_count, group_key_at}
 use Rattle.cube_query.proofs.coarser.coarsen.Goals as goal
 
 pub targets_of-requires-clause-below : goal.targets_of-requires-clause-below
@@ -25,7 +25,8 @@ targets_of-requires-clause-below c =
     let sources : c.in_ok-sources.sources.items ≡ sources_of d q i (tallies_at columns) old =
     c.in_ok-sources.ensures ∙ ap (λ cs. sources_of d q i (tallies_at cs) old) c.as_slice.ensures.value in
     subst (All (λ (entry : ℕ × ℕ). entry.0 < bound)) (sym (c.as_slice-2.ensures.value ∙ sources))
-    (All-filter (λ (entry : ℕ × ℕ). is_seen (tallies_at columns entry.1) && leads q.kind i (key_at d q.columns entry.0))
+    (All-filter
+    (λ (entry : ℕ × ℕ). is_seen (tallies_at columns entry.1) && leads q.kind i (group_key_at d q.columns entry.0))
     (λ (entry : ℕ × ℕ). entry.0 < bound) old (All-numbers (λ n. n < bound) old below))
 
 pub merge-requires-clause-targets : goal.merge-requires-clause-targets

@@ -2,7 +2,7 @@ use Rattle.std.proofs.Common.{◌≡◌, ◌∙◌, ℕ, List, ◌+◌, ap, sym,
 use Rattle.std.proofs.lemmas.List.{take_all}
 use Rattle.cube_model.specs.declared.measure.Agg.{Agg}
 use Rattle.cube_model.specs.declared.rows.LineOrder.{LineOrder}
-use Rattle.cube_query.specs.Coarser.{gathered, AddsIn, CanMerge, HasMergeRoom, LieWithin}
+use Rattle.cube_query.specs.Coarser.{gathered, AddsIn, CanMergeTallies, HasMergeRoom, LieWithin}
 use Rattle.cube_query.proofs.Merging.{source_in, target_in_column, count_room, sum_room, added-next}
 use Rattle.cube_query.proofs.Refusals.{on_err}
 use Rattle.cube_query.proofs.columns.merge_in.Goals as goal
@@ -45,7 +45,7 @@ returns-clause-ok c = λ agg part can.
 pub returns-in_err-merge_one-clause-err : goal.returns-in_err-merge_one-clause-err
 returns-in_err-merge_one-clause-err c =
     let refused : (agg : Agg) (part : ℕ × ℕ → List LineOrder)
-    → CanMerge agg c.args.column.now c.args.sources.now c.args.targets.now part
+    → CanMergeTallies agg c.args.column.now c.args.sources.now c.args.targets.now part
     → HasMergeRoom agg c.args.column.now c.args.sources.now c.args.targets.now part → ⊥ = λ agg part can room.
     let so_far = c.loop-place.invariant.1 agg part can in
     c.in_err-merge_one.ensures.err

@@ -4,7 +4,7 @@ use Rattle.std.specs.declared.alloc.Global.{Global}
 use Rattle.std.specs.declared.vec.Vec.{Vec}
 use Rattle.std.proofs.lemmas.List.{get_or_default, with_items_is}
 use Rattle.cube_model.specs.declared.measure.Agg.TheVariants.{Count}
-use Rattle.cube_query.specs.Coarser.{gathered, AddsIn, CanMerge, FitMerged, HasMergeRoom, LieWithin}
+use Rattle.cube_query.specs.Coarser.{gathered, AddsIn, CanMergeTallies, FitMerged, HasMergeRoom, LieWithin}
 use Rattle.cube_query.specs.declared.tally.Tally.{Tally}
 use Rattle.cube_query.proofs.Columnwise.{AreAddedBelow-set, AddIn-whole, All-at, All-set}
 use Rattle.cube_query.proofs.Merging.{CanMerge-at, HasMergeRoom-at}
@@ -31,7 +31,8 @@ loop-i-preserved c =
           let in_columns : i < length c.loop-i.columns = omega (arith, c.loop-i-test.true) in
           let below = c.loop-i.invariant.1 aggs part can in
           let added = λ (slot : ℕ). gathered slot part c.args.sources.now c.args.targets.now in
-          let may : CanMerge (get_or aggs i Count) c.as_mut_slice.result.now c.args.sources.now c.args.targets.now
+          let may : CanMergeTallies (get_or aggs i Count) c.as_mut_slice.result.now c.args.sources.now
+          c.args.targets.now
           part =
           rw c.as_mut_slice.ensures.value
           (CanMerge-at aggs c.args.sources.now c.args.targets.now part c.args.columns.now c.loop-i.columns i within
@@ -72,7 +73,8 @@ returns-in_err-merge_in-clause-err c =
     let i = c.loop-i.i in
     let within : i < length aggs = omega (arith, c.loop-i-test.true, c.loop-i.invariant.0, fit.2.0.count) in
     let below = c.loop-i.invariant.1 aggs part fit.2.0 in
-    let can : CanMerge (get_or aggs i Count) c.as_mut_slice.result.now c.args.sources.now c.args.targets.now part =
+    let can : CanMergeTallies (get_or aggs i Count) c.as_mut_slice.result.now c.args.sources.now c.args.targets.now
+    part =
     rw c.as_mut_slice.ensures.value
     (CanMerge-at aggs c.args.sources.now c.args.targets.now part c.args.columns.now c.loop-i.columns i within
     fit.2.0 below Count c.index-columns-i.result) in

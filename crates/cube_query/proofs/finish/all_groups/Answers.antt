@@ -9,7 +9,7 @@ use Rattle.cube_query.specs.Slots.{entries_of}
 use Rattle.cube_query.specs.FoldInvariant.{AreTallied}
 use Rattle.cube_query.proofs.Ends.{all_groups}
 use Rattle.cube_query.proofs.Seen.{seen_are}
-use Rattle.group_plan.specs.Numbers.{key_at}
+use Rattle.group_plan.specs.Numbers.{group_key_at}
 use Rattle.cube_query.proofs.finish.all_groups.Goals as goal
 
 pub ordered_groups-requires-clause-columns : goal.ordered_groups-requires-clause-columns
@@ -38,7 +38,7 @@ returns-clause-lines c = λ rows given.
     all_groups d q new all rows (c.in_ok-coarsen_all.ensures.tallied rows begun) in
     ap (λ cs. lines_by d q cs c.in_ok-groups.groups.items) (sym c.as_slice.ensures.value)
     ∙ c.in_ok-groups.ensures.lines rows
-    (subst (λ cs. seen_groups (key_at d q.columns) (tallies_at cs) new ≡ groups_of d q rows)
+    (subst (λ cs. seen_groups (group_key_at d q.columns) (tallies_at cs) new ≡ groups_of d q rows)
     (sym c.as_slice.ensures.value)
     (seen_are d q new all rows can.proper.some_aggregate can.rising can.numbers ended))
 

@@ -6,7 +6,7 @@ use Rattle.cube_query.specs.Groups.{finest, groups_of}
 use Rattle.cube_query.specs.Slots.{entries_of}
 use Rattle.cube_query.proofs.Ends.{plain_groups, start}
 use Rattle.cube_query.proofs.Seen.{seen_are}
-use Rattle.group_plan.specs.Numbers.{key_at}
+use Rattle.group_plan.specs.Numbers.{group_key_at}
 use Rattle.cube_query.proofs.finish.groups_of_kind.Goals as goal
 
 pub ordered_groups-requires-clause-columns : goal.ordered_groups-requires-clause-columns
@@ -29,7 +29,7 @@ returns-in_ok-groups-in-Plain-clause-lines c = λ rows tallied.
     let plain = ap (λ query. query.kind) (sym c.requires.query) ∙ c.in-Plain.is in
     ap (λ cs. lines_by d q cs c.in_ok-groups-in-Plain.groups.items) (sym c.as_slice.ensures.value)
     ∙ c.in_ok-groups-in-Plain.ensures.lines rows
-    (subst (λ cs. seen_groups (key_at d q.columns) (tallies_at cs) entries ≡ groups_of d q rows)
+    (subst (λ cs. seen_groups (group_key_at d q.columns) (tallies_at cs) entries ≡ groups_of d q rows)
     (sym c.as_slice.ensures.value)
     (seen_are d (finest q) entries columns rows fold.proper.some_aggregate fold.rising fold.numbers tallied
     ∙ plain_groups d q plain rows))

@@ -1,5 +1,5 @@
 use Rattle.std.proofs.Common.{subst}
-use Rattle.group_plan.specs.Numbers.{group_count, IsNumber}
+use Rattle.group_plan.specs.Numbers.{group_count, IsGroupNumber}
 use Rattle.group_plan.specs.Rows.{row_at}
 use Rattle.cube_query.specs.Slots.{entries_of}
 use Rattle.cube_query.proofs.Placing.{Grow-place}
@@ -17,6 +17,6 @@ pub returns-in_ok-slot-in-Ok-Some-clause-grow : goal.returns-in_ok-slot-in-Ok-So
 returns-in_ok-slot-in-Ok-Some-clause-grow g c = λ first grown.
     Grow-place (group_count c.args.plan.now.dimensions c.args.plan.now.query.columns) first
     (entries_of c.args.slots.now) c.in-Ok-Some.number c.in_ok-slot-in-Ok-Some.slot (entries_of c.place.new.self)
-    (subst (IsNumber c.args.plan.now.dimensions c.args.plan.now.query
+    (subst (IsGroupNumber c.args.plan.now.dimensions c.args.plan.now.query
     (row_at (g.F.FactRows.rows c.args.rows.now) c.args.place)) c.in-Ok-Some.field-0-is c.in-Ok-Some.ensures.ok).1
     c.in_ok-slot-in-Ok-Some.ensures.ok grown

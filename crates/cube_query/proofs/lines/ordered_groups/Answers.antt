@@ -12,7 +12,7 @@ use Rattle.cube_query.specs.GroupLines.{HasLine, HaveLines, lines_by}
 use Rattle.cube_query.specs.Slots.{entries_of}
 use Rattle.cube_query.proofs.Answered.{lines_are, unordered_lines}
 use Rattle.cube_query.proofs.LineLaws.{fit_order, seen_apart, seen_below, seen_have_lines, seen_lines, sorted_answer}
-use Rattle.group_plan.specs.Numbers.{group_count, key_at}
+use Rattle.group_plan.specs.Numbers.{group_count, group_key_at}
 use Rattle.cube_query.proofs.lines.ordered_groups.Goals as goal
 
 pub returns-in-None-clause-groups : goal.returns-in-None-clause-groups
@@ -34,7 +34,7 @@ returns-in-None-clause-lines c = λ rows represents.
     let entries = entries_of c.args.slots.now in
     let seen : c.in_ok-groups.groups.items ≡ seen_entries (tallies_at columns) entries = c.in_ok-groups.ensures in
     ap (lines_by dims query columns) seen
-    ∙ seen_lines (key_at dims query.columns) aggs columns entries
+    ∙ seen_lines (group_key_at dims query.columns) aggs columns entries
     ∙ ap (map (line_with aggs)) represents
     ∙ lines_are dims query rows (ap (λ q. q.order) (sym c.requires.query) ∙ c.in-None.is)
 
@@ -66,7 +66,7 @@ returns-in_ok-sorted-in-Some-clause-lines c = λ rows represents.
     let same : IsPermutation (seen_entries (tallies_at columns) entries) c.in_ok-sorted-in-Some.sorted.items =
     subst (λ all. IsPermutation all c.in_ok-sorted-in-Some.sorted.items) (c.as_slice.ensures.value ∙ seen)
     c.in_ok-sorted-in-Some.ensures.same in
-    let key = key_at dims query.columns in
+    let key = group_key_at dims query.columns in
     let order = c.in-Some.order in
     let sorted = c.in_ok-sorted-in-Some.sorted.items in
     let rising : IsAscending (line_cmp order) (map (entry_line key aggs columns) sorted) =

@@ -12,7 +12,7 @@ use Rattle.cube_query.specs.Columns.{entry_line}
 use Rattle.cube_query.specs.Ranks.{Rank, IsRank}
 use Rattle.cube_query.proofs.LineLaws.{map-map}
 use Rattle.cube_query.proofs.Ordered.{sorted_lines}
-use Rattle.group_plan.specs.Numbers.{key_at}
+use Rattle.group_plan.specs.Numbers.{group_key_at}
 use Rattle.group_plan.proofs.Numbers.{keys_rise}
 use Rattle.cube_query.proofs.order.in_order.Goals as goal
 
@@ -33,7 +33,7 @@ returns-clause-rising c =
     let dims = c.args.plan.now.dimensions in
     let attrs = c.args.plan.now.query.columns in
     let order = c.args.order in
-    let line = entry_line (key_at dims attrs) c.args.aggregates.now c.args.columns.now in
+    let line = entry_line (group_key_at dims attrs) c.args.aggregates.now c.args.columns.now in
     let first = c.in_ok-ranked.ranked.items in
     let ranks = c.sort_unstable.new.self.items in
     let are : All (IsRank dims attrs order line) ranks =
@@ -48,7 +48,7 @@ returns-clause-rising c =
     (IsPermutation-map (λ (r : Rank). r.2.0) first ranks c.sort_unstable.ensures.permutation)
     (subst (IsDistinct (eq_by_cmp nat_cmp)) (sym numbers) c.requires.apart) in
     let rising : IsAscending (line_cmp order) (map line (map (λ (r : Rank). r.2) ranks)) =
-    sorted_lines dims attrs (keys_rise dims attrs) order line (λ e i. key_at dims attrs e.0) ranks are
+    sorted_lines dims attrs (keys_rise dims attrs) order line (λ e i. group_key_at dims attrs e.0) ranks are
     c.sort_unstable.ensures.sorted apart in
     IfOk-weaker c.unranked.result _ _
     (λ sorted is. subst (λ all. IsAscending (line_cmp order) (map line all))

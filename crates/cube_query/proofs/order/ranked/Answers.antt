@@ -8,7 +8,7 @@ use Rattle.cube_query.specs.Columns.{entry_line, tally_at}
 use Rattle.cube_query.specs.Ranks.{Rank, IsRank}
 use Rattle.cube_query.specs.Tallies.{value_of}
 use Rattle.cube_query.proofs.LineLaws.{values_of-at, all_push}
-use Rattle.group_plan.specs.Numbers.{key_at}
+use Rattle.group_plan.specs.Numbers.{group_key_at}
 use Rattle.cube_query.proofs.order.ranked.Goals as goal
 
 pub loop-i-preserved : goal.loop-i-preserved
@@ -21,7 +21,7 @@ loop-i-preserved c =
     let groups = c.args.groups.now in
     let i = c.loop-i.i in
     let group = get_or groups i (0, 0) in
-    let line = entry_line (key_at dims attrs) aggs columns in
+    let line = entry_line (group_key_at dims attrs) aggs columns in
     let column = c.index-columns-order.result in
     let tally : c.tally_at.result ≡ tally_at (get_or columns order.aggregate column).items group.1 =
     c.tally_at.ensures

@@ -3,7 +3,7 @@ use Rattle.std.proofs.lemmas.List.{length-map}
 use Rattle.std.specs.Int.{w128}
 use Rattle.cube_model.specs.Measures.{measure_of}
 use Rattle.cube_model.specs.declared.rows.LineOrder.{LineOrder}
-use Rattle.column_kernels.specs.Masks.{selected}
+use Rattle.column_kernels.specs.Masks.{selected_by}
 use Rattle.column_kernels.proofs.CallerLemmas.{count_selected}
 use Rattle.cube_query.specs.Tallies.{tally_of}
 use Rattle.cube_query.proofs.BatchTallies.{err_from, greatest_fits, least_fits, ok_same, sum_fits, tally_none}
@@ -12,13 +12,13 @@ use Rattle.cube_query.proofs.whole_batch.measure_tally.Goals as goal
 
 pub returns-in-None-clause-ok : goal.returns-in-None-clause-ok
 returns-in-None-clause-ok c =
-    let rows : List LineOrder = selected c.args.mask.now c.args.batch.now in
+    let rows : List LineOrder = selected_by c.args.mask.now c.args.batch.now in
     c.none.ensures ∙ tally_none (map (measure_of c.args.measure) rows) c.in-None.ensures
 
 pub returns-in-Some-clause-ok : goal.returns-in-Some-clause-ok
 returns-in-Some-clause-ok c =
     let measure = c.args.measure in
-    let rows : List LineOrder = selected c.args.mask.now c.args.batch.now in
+    let rows : List LineOrder = selected_by c.args.mask.now c.args.batch.now in
     let numbers : List ℤ = map (measure_of measure) rows in
     let ends = c.in-Some.ends in
     let sum : to_z w128 (of_z w128 c.selected_sum-sum.result) ≡ c.selected_sum-sum.result = search rules in
@@ -34,7 +34,7 @@ returns-in-Some-clause-ok c =
 pub returns-in-Some-clause-err : goal.returns-in-Some-clause-err
 returns-in-Some-clause-err c =
     let measure = c.args.measure in
-    let rows : List LineOrder = selected c.args.mask.now c.args.batch.now in
+    let rows : List LineOrder = selected_by c.args.mask.now c.args.batch.now in
     let ends = c.in-Some.ends in
     let sum : to_z w128 (of_z w128 c.selected_sum-sum.result) ≡ c.selected_sum-sum.result = search rules in
     let low : to_z w128 (of_z w128 ends.0) ≡ ends.0 = search rules in

@@ -4,9 +4,9 @@ use Rattle.std.proofs.lemmas.List.{with_items_is}
 use Rattle.std.specs.declared.alloc.Global.{Global}
 use Rattle.std.specs.declared.vec.Vec.{Vec}
 use Rattle.cube_model.specs.declared.measure.Agg.TheVariants.{Count}
-use Rattle.column_kernels.specs.Masks.{selected}
-use Rattle.cube_query.specs.Columns.{can_add, size_of, tallies_at, tally_at}
-use Rattle.cube_query.specs.Tallies.{merged, number_of, tally_of}
+use Rattle.column_kernels.specs.Masks.{selected_by}
+use Rattle.cube_query.specs.Columns.{can_add, aggregate_size, tallies_at, tally_at}
+use Rattle.cube_query.specs.Tallies.{merged_tally, aggregated, tally_of}
 use Rattle.cube_query.specs.WholeBatch.{HaveRoomAt}
 use Rattle.cube_query.specs.declared.tally.Tally.{Tally}
 use Rattle.cube_query.proofs.Columnwise.{All-at}
@@ -29,12 +29,12 @@ pub loop-place-preserved : goal.loop-place-preserved
 loop-place-preserved c = λ other.
     let i = c.loop-place.place in
     let aggs = c.args.aggs.now in
-    let rows = selected c.args.mask.now c.args.batch.now in
+    let rows = selected_by c.args.mask.now c.args.batch.now in
     let slot = c.args.slot in
     let column = get_or c.args.columns.now i c.index-columns-place.result in
     let new = c.merge_batch.new.column in
     let made = with_items c.in_ok-column.column new in
-    let tally = tally_of (map (number_of (get_or aggs i Count)) rows) in
+    let tally = tally_of (map (aggregated (get_or aggs i Count)) rows) in
     let len : length new ≡ c.in_ok-column.column.len = c.in-Ok.ensures.length ∙ c.as_mut_slice.ensures.len in
     let old : c.as_mut_slice.result.now ≡ column.items =
     c.as_mut_slice.ensures.value ∙ c.in_ok-column.ensures.items ∙ c.as_slice.ensures.value
@@ -42,11 +42,11 @@ loop-place-preserved c = λ other.
     let within : slot < length column.items =
     All-at (λ (column : Vec Tally Global). slot < length column.items) c.args.columns.now c.requires.within i
     c.loop-place-test.true c.index-columns-place.result in
-    let is : tally_at made.items other ≡ cond (slot == other) (merged (tally_at column.items other) tally)
+    let is : tally_at made.items other ≡ cond (slot == other) (merged_tally (tally_at column.items other) tally)
     (tally_at column.items other) =
     ap (λ items. tally_at items other) (with_items_is c.in_ok-column.column new len ∙ c.in-Ok.ensures.ok)
     ∙ set_at c.as_mut_slice.result.now slot other tally (omega (arith, within, ap length old))
-    ∙ ap (λ items. cond (slot == other) (merged (tally_at items other) tally) (tally_at items other)) old in
+    ∙ ap (λ items. cond (slot == other) (merged_tally (tally_at items other) tally) (tally_at items other)) old in
     ap (λ columns. tallies_at columns other) c.in_ok-push.ensures.items
     ∙ one_column rows slot other aggs c.args.columns.now c.loop-place.merged.items i Count c.index-columns-place.result
     made c.requires.columns c.loop-place-test.true (c.loop-place.invariant other) is
@@ -55,7 +55,7 @@ pub returns-in-Err-clause-refused : goal.returns-in-Err-clause-refused
 returns-in-Err-clause-refused c =
     let i = c.loop-place.place in
     let aggs = c.args.aggs.now in
-    let rows = selected c.args.mask.now c.args.batch.now in
+    let rows = selected_by c.args.mask.now c.args.batch.now in
     let column = get_or c.args.columns.now i c.index-columns-place.result in
     let old : c.as_mut_slice.result.now ≡ column.items =
     c.as_mut_slice.ensures.value ∙ c.in_ok-column.ensures.items ∙ c.as_slice.ensures.value
@@ -63,6 +63,6 @@ returns-in-Err-clause-refused c =
     let within : i < length aggs = omega (arith, c.loop-place-test.true, c.requires.columns) in
     let refused : HaveRoomAt aggs c.args.columns.now c.args.slot rows → ⊥ = λ room.
     c.in-Err.ensures.err
-    (ap (λ items. can_add (tally_at items c.args.slot) (length rows) (size_of (get_or aggs i Count) rows)) old
+    (ap (λ items. can_add (tally_at items c.args.slot) (length rows) (aggregate_size (get_or aggs i Count) rows)) old
     ∙ room i within Count c.index-columns-place.result) in
     inr (refl, refused)

@@ -6,7 +6,7 @@ use Rattle.lattice.specs.Views.{index_of}
 use Rattle.object_store.specs.Store.{IsStill, content_of, room_of}
 use Rattle.warehouse_root.specs.Root.{PlainRoot}
 use Rattle.cuboid_commits.specs.Keeping.{StoreAt}
-use Rattle.cuboid_commits.specs.Nexts.{RefusesNext}
+use Rattle.cuboid_commits.specs.Nexts.{RefusesToBringOn}
 use Rattle.cuboid_commits.proofs.Brought.{far_enough}
 use Rattle.warehouse_objects.specs.Loaded.{IsLoaded}
 use Rattle.warehouse_objects.proofs.Folded.{err_fault}
@@ -77,7 +77,7 @@ returns-in-Err-put_next-clause-reason g c no_device no_memory k w at rows =
     let still : IsStill g.D.Sectors c.args.store.now c.next_of.new.store = c.in-Ok.ensures.reads.stays (λ is. cc) in
     let next = c.in-Ok.next in
     let fault : Fault = c.in-Err-put_next.fault in
-    ⊎_elim {C = (refused : RefusesNext g.D.Sectors c.put_next.new.store w fault)
+    ⊎_elim {C = (refused : RefusesToBringOn g.D.Sectors c.put_next.new.store w fault)
     × (slice_get w.cuboids c.args.place ≡ Some refused.old)}
     (λ (bad : fault ≡ BadLayout). absurd
     (c.in-Err-put_next.ensures.readable (ap (λ (f : Fault). Err f) bad) k w

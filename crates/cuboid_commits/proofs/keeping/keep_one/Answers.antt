@@ -3,7 +3,7 @@ use Rattle.cube_model.specs.declared.fault.Fault.{Fault}
 use Rattle.wire.specs.Limits.{most_root_bytes}
 use Rattle.object_store.specs.Content.{Content}
 use Rattle.object_store.specs.Store as stores
-use Rattle.warehouse_root.specs.Layouts.{number_of}
+use Rattle.warehouse_root.specs.Layouts.{layout_number}
 use Rattle.warehouse_root.proofs.CallerLemmas.{root_is_short}
 use Rattle.warehouse_objects.specs.Represents.{Represents}
 use Rattle.warehouse_objects.specs.Warehouse.{kept}
@@ -27,7 +27,7 @@ returns-in-Ok-clause-leaves g c w root old new run at brings =
     next_leaves (stores.content_of g.D.Sectors c.args.store.now) w old new run c.args.next.now c.as_slice.result.now
     c.as_slice-2.result.now c.as_slice-3.result.now c.number.result
     c.as_slice.ensures.value c.as_slice-2.ensures.value c.as_slice-3.ensures.value
-    (c.number.ensures ∙ ap number_of c.layout.ensures.value)
+    (c.number.ensures ∙ ap layout_number c.layout.ensures.value)
     (stores.disk_of g.D.Sectors c.args.store.now) (stores.disk_of g.D.Sectors c.commit.new.self) at.represents brings
     (c.commit.ensures.leaves at.fine)
 
@@ -36,7 +36,7 @@ returns-in-Err-clause-leaves g c w root old new run at brings =
     next_leaves (stores.content_of g.D.Sectors c.args.store.now) w old new run c.args.next.now c.as_slice.result.now
     c.as_slice-2.result.now c.as_slice-3.result.now c.number.result
     c.as_slice.ensures.value c.as_slice-2.ensures.value c.as_slice-3.ensures.value
-    (c.number.ensures ∙ ap number_of c.layout.ensures.value)
+    (c.number.ensures ∙ ap layout_number c.layout.ensures.value)
     (stores.disk_of g.D.Sectors c.args.store.now) (stores.disk_of g.D.Sectors c.commit.new.self) at.represents brings
     (c.commit.ensures.leaves at.fine)
 
@@ -48,7 +48,7 @@ returns-in-Ok-clause-ok g c w root old new run at brings =
           (after (stores.content_of g.D.Sectors c.args.store.now) w old new run c.args.next.now c.as_slice.result.now
           c.as_slice-2.result.now c.as_slice-3.result.now c.number.result
           c.as_slice.ensures.value c.as_slice-2.ensures.value c.as_slice-3.ensures.value
-          (c.number.ensures ∙ ap number_of c.layout.ensures.value)
+          (c.number.ensures ∙ ap layout_number c.layout.ensures.value)
           (at.represents (word k)) brings);
       root_is = λ k. sym brings.root;
     }
@@ -61,7 +61,7 @@ returns-in-Ok-clause-loaded g c k rows modes root is same =
     (loaded_next (stores.content_of g.D.Sectors c.args.store.now) next.id c.as_slice.result.now c.as_slice-2.result.now
     c.as_slice-3.result.now c.number.result
     (subst (λ (d : List ℕ). All (λ i. first_run ≤ i) (next.id ∷ d)) (sym drops_are) c.requires.runs)
-    next.root (c.number.ensures ∙ ap number_of c.layout.ensures.value)
+    next.root (c.number.ensures ∙ ap layout_number c.layout.ensures.value)
     (c.as_slice-3.ensures.value ∙ c.requires.root.spelled) rows modes root same is)
 
 pub returns-in-Err-clause-causes : goal.returns-in-Err-clause-causes

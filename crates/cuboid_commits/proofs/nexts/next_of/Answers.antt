@@ -17,7 +17,7 @@ use Rattle.warehouse_objects.specs.Warehouse.{ship_modes_of}
 use Rattle.warehouse_objects.specs.Represents.{AreItsMembers, Represents, rows_in}
 use Rattle.warehouse_objects.proofs.CallerLemmas.{laid_of}
 use Rattle.warehouse_objects.proofs.OneMoreRead.{then_reads}
-use Rattle.cuboid_commits.specs.Nexts.{IsNext}
+use Rattle.cuboid_commits.specs.Nexts.{IsNextStep}
 use Rattle.cuboid_commits.proofs.Made.{next_weaker}
 use Rattle.cuboid_commits.proofs.Tails.{own_layout, whole_too_large}
 use Rattle.cuboid_commits.proofs.nexts.next_of.Goals as goal
@@ -35,7 +35,7 @@ returns-in-Ok-clause-ok g c =
     let content : Content = content_of g.D.Sectors c.args.store.now in
     IfOk-weaker c.next_run.result _ _
     (λ next is.
-    subst (λ (mark : ℕ). IsNext (λ w. g.D.Sectors.keeps_word (device_of c.next_run.new.store) × Represents content w
+    subst (λ (mark : ℕ). IsNextStep (λ w. g.D.Sectors.keeps_word (device_of c.next_run.new.store) × Represents content w
     × AreItsMembers w c.args.dims.now c.args.modes.now) c.args.root.now c.args.cuboid mark next) c.target.ensures
     (next_weaker _ (λ w. g.D.Sectors.keeps_word (device_of c.next_run.new.store) × Represents content w
     × AreItsMembers w c.args.dims.now c.args.modes.now) c.args.root.now c.args.cuboid c.target.result next

@@ -2,7 +2,7 @@ use Rattle.std.proofs.Common.{◌≤◌, List, ℕ, length, sym, ◌∙◌, subs
 use Rattle.wire.specs.Limits.{most_root_bytes}
 use Rattle.object_store.specs.Content.{Content}
 use Rattle.object_store.specs.Store as stores
-use Rattle.warehouse_root.specs.Layouts.{number_of}
+use Rattle.warehouse_root.specs.Layouts.{layout_number}
 use Rattle.warehouse_root.proofs.CallerLemmas.{root_is_short}
 use Rattle.warehouse_objects.specs.Loaded.{IsLoaded}
 use Rattle.cuboid_commits.proofs.Replaced.{few_replaced, loaded_replaced, replaced_by}
@@ -25,7 +25,7 @@ returns-in-Ok-commit-clause-loaded g c k rows modes is =
     let after = c.in-Ok-commit.ensures.ok k
     ∙ replaced_by before c.args.drops.now c.as_slice.result.now c.number-layout.result c.args.next
     (c.as_slice.ensures.value ∙ c.in-Ok.ensures.ok.spelled)
-    (c.number-layout.ensures ∙ ap number_of c.layout.ensures.value) in
+    (c.number-layout.ensures ∙ ap layout_number c.layout.ensures.value) in
     subst (λ (x : Content). IsLoaded x rows modes c.args.next) (sym after)
     (loaded_replaced before c.args.drops.now c.args.next c.requires.runs rows modes c.args.root.now c.requires.layout
     is)

@@ -48,9 +48,9 @@ returns-in-Err-clause-refused g c cause w at own =
       (c.in-Err.ensures.refused cause w at).0,
       λ k. inr (inl
           (subst (λ (x : Content). stores.Refuses x (stores.room_of c.aim.new.store) [] []
-          (roots.root_of (root_of (aimed w))) c.in-Err.fault) (sym same.content)
+          (roots.root_spelling (root_of (aimed w))) c.in-Err.fault) (sym same.content)
           (subst (λ (room : Room). stores.Refuses (stores.content_of g.D.Sectors c.args.store.now) room [] []
-          (roots.root_of (root_of (aimed w))) c.in-Err.fault) (sym same.room)
+          (roots.root_spelling (root_of (aimed w))) c.in-Err.fault) (sym same.room)
           (c.in-Err.ensures.causes cause w at k)))),
     )
 

@@ -3,7 +3,7 @@ use Rattle.std.specs.List.{IsDistinct, position_or_len}
 use Rattle.std.proofs.lemmas.List.{length-map}
 use Rattle.cube_model.specs.declared.fault.Fault.{Fault}
 use Rattle.cuboid_cells.specs.declared.cell.Cell.{Cell}
-use Rattle.cuboid_cells.specs.Cells.{number_of}
+use Rattle.cuboid_cells.specs.Cells.{key_as_number}
 use Rattle.cuboid_upkeep.specs.Steps.{AreKeyed, MergesAt, Overflows, OverflowsAt, TakesIn}
 use Rattle.cuboid_upkeep.proofs.Added.{err_through, ok_through}
 use Rattle.cuboid_upkeep.proofs.Taken.{keys_stay, merge_overflows, merged_keyed, merged_taken, taken_after}
@@ -27,7 +27,7 @@ returns-clause-keyed c =
       c.if-place-len.false,
       c.len.ensures,
       ap length c.requires.keys_are,
-      length-map cells (λ (cell : Cell). number_of cell.key),
+      length-map cells (λ (cell : Cell). key_as_number cell.key),
     ) in
     let once : IsDistinct nat_eq c.insert_full.new.self.keys = search rules in
     ok_through c.merge_at.result (MergesAt cells c.in-Ok.place c.args.cell new)

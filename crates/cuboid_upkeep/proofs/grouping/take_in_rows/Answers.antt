@@ -1,7 +1,7 @@
 use Rattle.std.proofs.Common.{◌<◌, ◌≤◌, ◌∙◌, [], inl, inr, sym, ap, subst, length, map, nat_eq, arith}
 use Rattle.std.specs.List.{IsDistinct}
 use Rattle.std.proofs.lemmas.Result.{err_from_is_err_and}
-use Rattle.cuboid_cells.specs.Cells.{number_of}
+use Rattle.cuboid_cells.specs.Cells.{key_as_number}
 use Rattle.cuboid_upkeep.proofs.Grouped.{are_grouped, none_yet, one_more, row_overflows}
 use Rattle.cuboid_upkeep.proofs.Rows.{none_fits}
 use Rattle.cuboid_upkeep.proofs.Tables.{own_key_in}
@@ -14,7 +14,7 @@ loop-place-init g c =
     let cells = c.args.cells.now.items in
     let once : IsDistinct nat_eq keys = subst (IsDistinct nat_eq) (sym c.requires.no_number) tt in (
       record {
-        keys_are = c.requires.no_number ∙ ap (map (λ cell. number_of cell.key)) (sym c.requires.no_cell);
+        keys_are = c.requires.no_number ∙ ap (map (λ cell. key_as_number cell.key)) (sym c.requires.no_cell);
         once = once;
       },
       λ dims modes view members are. none_yet dims modes view keys c.requires.no_number once cells c.requires.no_cell,

@@ -1,6 +1,6 @@
 use Rattle.std.proofs.Common.{◌∙◌, sym, ap, subst, Option, ℕ, List, map, All}
 use Rattle.cube_model.specs.declared.rows.DimRows.{DimRows}
-use Rattle.cuboid_upkeep.specs.MemberParts.{IsOfRow, part_by}
+use Rattle.cuboid_upkeep.specs.MemberParts.{IsOfRow, member_part_by}
 use Rattle.cuboid_upkeep.proofs.Represented.{every_known, keys_known, parts_after}
 use Rattle.cuboid_upkeep.proofs.member_parts.parts_of_members.Goals as goal
 
@@ -24,6 +24,7 @@ returns c =
     parts_after dims query c.args.axis c.args.grouped c.in_ok-keys.keys
     (record { every = c.part_of.result; members = c.in_ok-members.members }) c.in_ok-keys.ensures.sound
     c.in_ok-keys.ensures.whole
-    (c.part_of.ensures ∙ ap (λ (d : DimRows). part_by d query c.args.axis c.in_ok-keys.keys.every) c.requires)
-    (c.in_ok-members.ensures ∙ ap (map (part_by c.args.plan.now.dimensions query c.args.axis)) c.as_slice.ensures.value
-    ∙ ap (λ (d : DimRows). map (part_by d query c.args.axis) c.in_ok-keys.keys.members.items) c.requires)
+    (c.part_of.ensures ∙ ap (λ (d : DimRows). member_part_by d query c.args.axis c.in_ok-keys.keys.every) c.requires)
+    (c.in_ok-members.ensures
+    ∙ ap (map (member_part_by c.args.plan.now.dimensions query c.args.axis)) c.as_slice.ensures.value
+    ∙ ap (λ (d : DimRows). map (member_part_by d query c.args.axis) c.in_ok-keys.keys.members.items) c.requires)

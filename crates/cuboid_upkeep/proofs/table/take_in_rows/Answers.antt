@@ -1,7 +1,7 @@
 use Rattle.std.proofs.Common.{◌≡◌, ◌<◌, ◌∙◌, [], sym, ap, subst, ℕ, length, length-set, slice_index, arith}
 use Rattle.std.proofs.lemmas.Result.{err_from_is_err_and}
 use Rattle.group_plan.specs.Rows.{row_at}
-use Rattle.cuboid_upkeep.specs.Numbers.{place_of}
+use Rattle.cuboid_upkeep.specs.Numbers.{key_place}
 use Rattle.cuboid_upkeep.specs.Slots.{IsTaken, PassesAt, TakesAt, taken}
 use Rattle.cuboid_upkeep.proofs.Rows.{none_fits}
 use Rattle.cuboid_upkeep.proofs.Slots.{own_slot}
@@ -31,17 +31,17 @@ loop-place-preserved g c =
     let cell = c.in_ok-cell.cell in
     let within : c.loop-place.place < length rows = omega (arith, c.loop-place-test.true, c.count-place-end.ensures) in
     let fact = c.requires.numbers.each c.loop-place.place within (omega (arith, within, c.requires.numbers.many)) in
-    let is : place_of members key ≡ slice_index c.args.numbers.now c.loop-place.place =
+    let is : key_place members key ≡ slice_index c.args.numbers.now c.loop-place.place =
     number_of_key c.args.dims.now c.args.view members (row_at rows c.loop-place.place) key
     (slice_index c.args.numbers.now c.loop-place.place) c.key_for-key.ensures fact in
-    let low : place_of members key < length now =
+    let low : key_place members key < length now =
     omega (arith, is, fact.below, c.requires.size, c.loop-place.invariant.size) in
-    let takes : TakesAt now (place_of members key) cell next =
+    let takes : TakesAt now (key_place members key) cell next =
     subst (λ (n : ℕ). TakesAt now n cell next) (sym is) c.in_ok-take_in.ensures.ok in
     one_taken c.args.dims.now c.args.view members c.requires.no_modes rows c.loop-place.place within key cell
     c.key_for-key.ensures c.in_ok-cell.ensures.ok
     c.args.slots.now.items now c.loop-place.invariant low next
-    (ap length takes.is ∙ length-set now (place_of members key) (taken takes.slot cell)) takes
+    (ap length takes.is ∙ length-set now (key_place members key) (taken takes.slot cell)) takes
 
 pub returns-in_err-cell-clause-refused : goal.returns-in_err-cell-clause-refused
 returns-in_err-cell-clause-refused g c =
@@ -64,12 +64,12 @@ returns-in_err-take_in-clause-refused g c =
     let cell = c.in_ok-cell.cell in
     let within : c.loop-place.place < length rows = omega (arith, c.loop-place-test.true, c.count-place-end.ensures) in
     let fact = c.requires.numbers.each c.loop-place.place within (omega (arith, within, c.requires.numbers.many)) in
-    let is : place_of members key ≡ slice_index c.args.numbers.now c.loop-place.place =
+    let is : key_place members key ≡ slice_index c.args.numbers.now c.loop-place.place =
     number_of_key c.args.dims.now c.args.view members (row_at rows c.loop-place.place) key
     (slice_index c.args.numbers.now c.loop-place.place) c.key_for-key.ensures fact in
-    let low : place_of members key < length now =
+    let low : key_place members key < length now =
     omega (arith, is, fact.below, c.requires.size, c.loop-place.invariant.size) in
-    let past : PassesAt now (place_of members key) cell =
+    let past : PassesAt now (key_place members key) cell =
     subst (λ (n : ℕ). PassesAt now n cell) (sym is) c.in_err-take_in.ensures.refused.1 in
     rw (p.1, p.2) (
       c.in_err-take_in.ensures.refused.0,

@@ -1,6 +1,6 @@
 use Rattle.std.proofs.Common.{subst, ℕ, List}
 use Rattle.std.proofs.lemmas.Result.{err_from_is_err_and}
-use Rattle.dimension_objects.specs.Columns.{BeginsWithNoCodes, BeginsWithNoTexts, ReadsColumns, ReadsTexts}
+use Rattle.dimension_objects.specs.Columns.{BeginsWithNoCodes, BeginsWithNoTexts, ReadsColumns, ReadsColumnTexts}
 use Rattle.dimension_objects.proofs.Refused.{refused_so}
 use Rattle.dimension_objects.proofs.Stages.{none_end, none_keys, none_linked, none_rows, none_texts, whole}
 use Rattle.dimension_objects.proofs.decoding.read_parts.Goals as goal
@@ -18,7 +18,7 @@ returns-in_err-read_columns-clause-refused c =
     let p = err_from_is_err_and c.from_residual-in_err-read_columns.result
     c.from_residual-in_err-read_columns.ensures.1 in
     let texts =
-    subst (λ (order : List ℕ). ReadsTexts order c.args.cursor.now c.read_texts.new.cursor c.args.columns.now.items
+    subst (λ (order : List ℕ). ReadsColumnTexts order c.args.cursor.now c.read_texts.new.cursor c.args.columns.now.items
     c.read_texts.new.columns.items) c.stored_columns.ensures c.in_ok-read_texts.ensures.ok in
     rw (p.1, p.2) (refused_so c.in_err-read_columns.field-0.0
     (λ none bytes header. none_linked c.args.axis bytes c.args.cursor.now c.args.rows header c.read_texts.new.cursor
@@ -31,7 +31,7 @@ pub returns-in_err-keys-clause-refused : goal.returns-in_err-keys-clause-refused
 returns-in_err-keys-clause-refused c =
     let p = err_from_is_err_and c.from_residual-in_err-keys.result c.from_residual-in_err-keys.ensures.1 in
     let texts =
-    subst (λ (order : List ℕ). ReadsTexts order c.args.cursor.now c.read_texts.new.cursor c.args.columns.now.items
+    subst (λ (order : List ℕ). ReadsColumnTexts order c.args.cursor.now c.read_texts.new.cursor c.args.columns.now.items
     c.read_texts.new.columns.items) c.stored_columns.ensures c.in_ok-read_texts.ensures.ok in
     let linked =
     subst (λ (order : List ℕ). ReadsColumns c.args.axis c.args.rows order c.read_texts.new.cursor
@@ -48,7 +48,7 @@ returns-in_err-read_columns-2-clause-refused c =
     let p = err_from_is_err_and c.from_residual-in_err-read_columns-2.result
     c.from_residual-in_err-read_columns-2.ensures.1 in
     let texts =
-    subst (λ (order : List ℕ). ReadsTexts order c.args.cursor.now c.read_texts.new.cursor c.args.columns.now.items
+    subst (λ (order : List ℕ). ReadsColumnTexts order c.args.cursor.now c.read_texts.new.cursor c.args.columns.now.items
     c.read_texts.new.columns.items) c.stored_columns.ensures c.in_ok-read_texts.ensures.ok in
     let linked =
     subst (λ (order : List ℕ). ReadsColumns c.args.axis c.args.rows order c.read_texts.new.cursor
@@ -66,7 +66,7 @@ returns-in_err-read_columns-2-clause-refused c =
 pub returns-clause-ok : goal.returns-clause-ok
 returns-clause-ok c =
     let texts =
-    subst (λ (order : List ℕ). ReadsTexts order c.args.cursor.now c.read_texts.new.cursor c.args.columns.now.items
+    subst (λ (order : List ℕ). ReadsColumnTexts order c.args.cursor.now c.read_texts.new.cursor c.args.columns.now.items
     c.read_texts.new.columns.items) c.stored_columns.ensures c.in_ok-read_texts.ensures.ok in
     let linked =
     subst (λ (order : List ℕ). ReadsColumns c.args.axis c.args.rows order c.read_texts.new.cursor
@@ -84,7 +84,7 @@ returns-clause-ok c =
 pub returns-clause-after : goal.returns-clause-after
 returns-clause-after c =
     let texts =
-    subst (λ (order : List ℕ). ReadsTexts order c.args.cursor.now c.read_texts.new.cursor c.args.columns.now.items
+    subst (λ (order : List ℕ). ReadsColumnTexts order c.args.cursor.now c.read_texts.new.cursor c.args.columns.now.items
     c.read_texts.new.columns.items) c.stored_columns.ensures c.in_ok-read_texts.ensures.ok in
     let linked =
     subst (λ (order : List ℕ). ReadsColumns c.args.axis c.args.rows order c.read_texts.new.cursor

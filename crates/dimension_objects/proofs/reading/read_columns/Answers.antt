@@ -4,7 +4,7 @@ use Rattle.std.proofs.lemmas.Result.{err_from_is_err_and}
 use Rattle.dimensions.specs.declared.coded.CodedColumn.{CodedColumn}
 use Rattle.dimensions.specs.Coded.{no_coded}
 use Rattle.dimensions.specs.Shapes.{lower_of}
-use Rattle.dimension_objects.specs.Columns.{AreColumns, ReadsCodes, places_of}
+use Rattle.dimension_objects.specs.Columns.{IsOrderOfColumns, ReadsCodes, places_of}
 use Rattle.dimension_objects.proofs.Refused.{refused_so}
 use Rattle.dimension_objects.proofs.Steps.{codes_none, codes_step, next_lt}
 use Rattle.dimension_objects.proofs.reading.read_columns.Goals as goal
@@ -12,7 +12,7 @@ use Rattle.dimension_objects.proofs.reading.read_columns.Goals as goal
 pub returns-in_err-codes-clause-refused : goal.returns-in_err-codes-clause-refused
 returns-in_err-codes-clause-refused c =
     let p = err_from_is_err_and c.from_residual.result c.from_residual.ensures.1 in
-    let are = subst (λ (n : ℕ). AreColumns n c.args.order.now) (sym c.requires.count) c.requires.order in
+    let are = subst (λ (n : ℕ). IsOrderOfColumns n c.args.order.now) (sym c.requires.count) c.requires.order in
     let places : c.place_count-places.result ≡ places_of c.args.rows c.loop-column.columns.items
     (lower_of c.args.axis (get_or c.args.order.now c.loop-column.column-index 0)) =
     c.place_count-places.ensures
@@ -27,7 +27,7 @@ returns-in_err-codes-clause-refused c =
 
 pub loop-column-preserved : goal.loop-column-preserved
 loop-column-preserved c =
-    let are = subst (λ (n : ℕ). AreColumns n c.args.order.now) (sym c.requires.count) c.requires.order in
+    let are = subst (λ (n : ℕ). IsOrderOfColumns n c.args.order.now) (sym c.requires.count) c.requires.order in
     let column : ℕ = get_or c.args.order.now c.loop-column.column-index 0 in
     let places : c.place_count-places.result ≡ places_of c.args.rows c.loop-column.columns.items
     (lower_of c.args.axis (get_or c.args.order.now c.loop-column.column-index 0)) =

@@ -1,7 +1,7 @@
 use Rattle.std.proofs.Common.{◌≡◌, take, length}
-use Rattle.dimensions.specs.Ranked.{AreCodes, texts_of_ranks}
+use Rattle.dimensions.specs.Ranked.{AreCodesBelow, texts_of_ranks}
 use Rattle.dimensions.proofs.ranks.ranks_among.Given as goal
 
 abbrev pub invariant-loop-text : goal.invariant-loop-text
 invariant-loop-text l = (texts_of_ranks l.members l.ranks.items ≡ take l.text-index l.texts)
-    × AreCodes (length l.members) l.ranks.items
+    × AreCodesBelow (length l.members) l.ranks.items

@@ -1,7 +1,7 @@
 use Rattle.std.proofs.Common.{⊎_elim, inl, inr, None, ◌++◌, ◌∙◌, ap, List, ℕ}
 use Rattle.report_formats.specs.Fields.{formatted}
 use Rattle.warehouse.specs.Session.{device_of}
-use Rattle.warehouse_jobs.specs.Reporting.{answered_by_modes, asked_for}
+use Rattle.warehouse_jobs.specs.Reporting.{answered_by_modes, batches_asked}
 use Rattle.image_jobs.proofs.Found.{same_facts}
 use Rattle.image_jobs.proofs.answering.answer_on.Goals as goal
 
@@ -20,7 +20,7 @@ returns-in-Ok-report_formatted-clause-answers g c keeps facts shows =
       is_asked = ends.1;
       text_is = ends.2
           ∙ ap (λ (xs : List ℕ). xs ++ answered_by_modes (formatted c.args.asked.now) found.0
-          (asked_for found.0 c.args.as_of) c.args.asked.now.query) c.new-text.ensures.items;
+          (batches_asked found.0 c.args.as_of) c.args.asked.now.query) c.new-text.ensures.items;
     }
 
 pub returns-clause-refused : goal.returns-clause-refused

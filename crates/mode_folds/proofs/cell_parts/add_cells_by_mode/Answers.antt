@@ -7,7 +7,7 @@ use Rattle.std.proofs.lemmas.Option.{get_or_from_slice_get}
 use Rattle.std.proofs.lemmas.Result.{err_from_is_err_and}
 use Rattle.std.specs.Str.{bytes_eq}
 use Rattle.cube_model.specs.declared.rows.LineOrder.{LineOrder}
-use Rattle.cuboid_cells.specs.Cells.{AreProper}
+use Rattle.cuboid_cells.specs.Cells.{AreProperCells}
 use Rattle.cuboid_cells.specs.Steps.{cells_of}
 use Rattle.dimensions.proofs.Keys.{place_of_some}
 use Rattle.mode_folds.specs.Celling.{AreCellParts, cells_at}
@@ -35,8 +35,8 @@ of-part-requires c =
     part_at c.len.result cells.cells parts divided code c.in-Some.part
     (omega (arith, turn.0, c.loop-part.invariant.count))
     (turn.1 ∙ ap (λ n. get_or parts n c.in-Some.part) (sym c.loop-part.invariant.count)) in
-    subst (λ l. AreProper (cells_of c.view-view.result l)) (sym part_is)
-    (subst (λ view. AreProper (cells_of view (cells_at code cells.cells))) (sym c.view-view.ensures.value)
+    subst (λ l. AreProperCells (cells_of c.view-view.result l)) (sym part_is)
+    (subst (λ view. AreProperCells (cells_of view (cells_at code cells.cells))) (sym c.view-view.ensures.value)
     (kept_proper cells.view (λ other. other == code) cells.cells c.view-view.ensures.proper))
 
 pub returns-in_err-add_cells_of_mode-clause-refused :

@@ -1,6 +1,6 @@
 use Rattle.std.proofs.Common.{◌≡◌, ◌∙◌, sym, ap, subst, get_or, false}
 use Rattle.std.specs.List.{filter}
-use Rattle.cuboid_cells.specs.Cells.{AreProper}
+use Rattle.cuboid_cells.specs.Cells.{AreProperCells}
 use Rattle.cuboid_cells.specs.Steps.{cells_of}
 use Rattle.cuboid_upkeep.specs.Grouping.{RepresentRows}
 use Rattle.mode_folds.specs.Celling.{passes_at}
@@ -16,8 +16,8 @@ of-requires c =
     c.in_ok-own.ensures
     ∙ (λ i. filter (λ cell. get_or ((c.as_slice.ensures.value ∙ c.in_ok-choice.ensures) i) cell.key.ship_mode false)
     (c.as_slice-2.ensures i)) in
-    subst (λ list. AreProper (cells_of c.view.result list)) (sym own_are)
-    (subst (λ view. AreProper (cells_of view (kept (passes_at c.args.conditions.now texts) cells.cells)))
+    subst (λ list. AreProperCells (cells_of c.view.result list)) (sym own_are)
+    (subst (λ view. AreProperCells (cells_of view (kept (passes_at c.args.conditions.now texts) cells.cells)))
     (sym c.view.ensures.value)
     (kept_proper cells.view (passes_at c.args.conditions.now texts) cells.cells c.view.ensures.proper))
 

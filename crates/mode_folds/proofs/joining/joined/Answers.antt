@@ -8,7 +8,7 @@ use Rattle.mode_folds.specs.States.{rows_together}
 use Rattle.cube_query.specs.Limits.{AreFoldable}
 use Rattle.cube_model.specs.declared.fault.Fault.TheVariants.{BadLayout}
 use Rattle.mode_folds.proofs.Counted.{same_error}
-use Rattle.mode_folds.specs.Joining.{Holds}
+use Rattle.mode_folds.specs.Joining.{HasValues}
 use Rattle.mode_folds.proofs.Finish.{gathered, known_of, parts_of, passing_foldable, together-all, values_of}
 use Rattle.mode_folds.proofs.Finish.{with_all, without_all}
 use Rattle.mode_queries.proofs.CallerLemmas.{answers_join}
@@ -53,12 +53,12 @@ returns-clause-answer c = λ rows represents.
     represents in
     let join = answers_join dims asked c.args.place rows modes c.requires.proper c.requires.place known in
     let value = values_of dims asked rows in
-    let modes_hold : Holds value (keys_by_mode dims asked.query c.args.place some modes) c.join_modes.new.lines =
+    let modes_hold : HasValues value (keys_by_mode dims asked.query c.args.place some modes) c.join_modes.new.lines =
     c.in_ok-join_modes.ensures.ok asked.query some value [] (ap (λ q. q.kind) c.query.ensures)
     (parts_of dims asked c.args.place c.args.together.now modes c.args.folds.now rows c.requires.place
     c.requires.queries represents) join.by_mode
     (λ key. ap (lookup (is_at (key_cmp key))) c.new-lines.ensures.empty) in
-    let holds : Holds value (keys_by_mode dims asked.query c.args.place some modes
+    let holds : HasValues value (keys_by_mode dims asked.query c.args.place some modes
     ++ keys_of_all (has_coarser asked.query.kind) dims asked.query c.args.place some) c.if-has_coarser.lines =
     elim c.if-has_coarser.branch [
       | then-has_coarser+in_ok-found+in_ok-join w ↦
@@ -67,7 +67,7 @@ returns-clause-answer c = λ rows represents.
           let whole : w.in_ok-found.found ≡ answer asked.query dims some =
           w.in_ok-found.ensures.answer (rows_together asked rows) represents.together
           ∙ (λ i. answer (c.requires.query i) dims (together-all asked rows coarser i)) in
-          subst (λ l. Holds value (keys_by_mode dims asked.query c.args.place some modes
+          subst (λ l. HasValues value (keys_by_mode dims asked.query c.args.place some modes
           ++ keys_of_all (has_coarser asked.query.kind) dims asked.query c.args.place some) l) (sym w.lines-is)
           (with_all dims asked.query c.args.place some value (keys_by_mode dims asked.query c.args.place some modes)
           c.join_modes.new.lines w.join.new.lines c.query.result.now.kind w.in_ok-found.found
@@ -76,7 +76,7 @@ returns-clause-answer c = λ rows represents.
       | else-has_coarser w ↦
           let none : has_coarser asked.query.kind ≡ false =
           ap (λ q. has_coarser q.kind) (sym c.query.ensures) ∙ sym c.has_coarser.ensures ∙ w.if-has_coarser.false in
-          subst (λ l. Holds value (keys_by_mode dims asked.query c.args.place some modes
+          subst (λ l. HasValues value (keys_by_mode dims asked.query c.args.place some modes
           ++ keys_of_all (has_coarser asked.query.kind) dims asked.query c.args.place some) l) (sym w.lines-is)
           (without_all dims asked.query c.args.place some value (keys_by_mode dims asked.query c.args.place some modes)
           c.join_modes.new.lines none modes_hold)

@@ -1,7 +1,7 @@
 use Rattle.std.proofs.Common.{inr, ℕ, [], subst}
 use Rattle.sector_device.specs.Moments.{leaves_also}
 use Rattle.object_store.specs.Commit.{puts_of}
-use Rattle.object_store.specs.Publish.{IsPlan}
+use Rattle.object_store.specs.Publish.{IsPlanForPuts}
 use Rattle.object_store.proofs.Creating.{few_first, ready_created, content_created, either_shows}
 use Rattle.object_store.proofs.create.publish_first.Goals as goal
 
@@ -11,7 +11,7 @@ first_plan-requires-clause-few g c = few_first (puts_of c.args.puts.now) c.args.
 pub returns-in-Ok-clause-ready : goal.returns-in-Ok-clause-ready
 returns-in-Ok-clause-ready g c w =
     let planned =
-    subst (λ (n : ℕ). IsPlan n [] [] (puts_of c.args.puts.now) c.args.root.now 1 c.args.layout c.in_ok-plan.plan)
+    subst (λ (n : ℕ). IsPlanForPuts n [] [] (puts_of c.args.puts.now) c.args.root.now 1 c.args.layout c.in_ok-plan.plan)
     c.count.ensures c.in_ok-plan.ensures.ok in
     ready_created (puts_of c.args.puts.now) c.args.root.now c.args.layout (g.D.Sectors.state c.args.device.now)
     (c.requires.none (c.publish.ensures.word w)) c.in_ok-plan.plan planned
@@ -21,7 +21,7 @@ returns-in-Ok-clause-ready g c w =
 pub returns-in-Ok-clause-content : goal.returns-in-Ok-clause-content
 returns-in-Ok-clause-content g c w =
     let planned =
-    subst (λ (n : ℕ). IsPlan n [] [] (puts_of c.args.puts.now) c.args.root.now 1 c.args.layout c.in_ok-plan.plan)
+    subst (λ (n : ℕ). IsPlanForPuts n [] [] (puts_of c.args.puts.now) c.args.root.now 1 c.args.layout c.in_ok-plan.plan)
     c.count.ensures c.in_ok-plan.ensures.ok in
     content_created (puts_of c.args.puts.now) c.args.root.now c.args.layout (g.D.Sectors.state c.args.device.now)
     (c.requires.none (c.publish.ensures.word w)) c.in_ok-plan.plan planned
@@ -31,7 +31,7 @@ returns-in-Ok-clause-content g c w =
 pub returns-in-Ok-clause-moments : goal.returns-in-Ok-clause-moments
 returns-in-Ok-clause-moments g c = inr (λ w.
     let planned =
-    subst (λ (n : ℕ). IsPlan n [] [] (puts_of c.args.puts.now) c.args.root.now 1 c.args.layout c.in_ok-plan.plan)
+    subst (λ (n : ℕ). IsPlanForPuts n [] [] (puts_of c.args.puts.now) c.args.root.now 1 c.args.layout c.in_ok-plan.plan)
     c.count.ensures c.in_ok-plan.ensures.ok in
     let s1 = g.D.Sectors.state c.args.device.now in
     leaves_also s1 (g.D.Sectors.state c.publish.new.device) _ _
@@ -41,7 +41,7 @@ returns-in-Ok-clause-moments g c = inr (λ w.
 pub returns-in-Err-clause-moments : goal.returns-in-Err-clause-moments
 returns-in-Err-clause-moments g c = inr (λ w.
     let planned =
-    subst (λ (n : ℕ). IsPlan n [] [] (puts_of c.args.puts.now) c.args.root.now 1 c.args.layout c.in_ok-plan.plan)
+    subst (λ (n : ℕ). IsPlanForPuts n [] [] (puts_of c.args.puts.now) c.args.root.now 1 c.args.layout c.in_ok-plan.plan)
     c.count.ensures c.in_ok-plan.ensures.ok in
     let s1 = g.D.Sectors.state c.args.device.now in
     leaves_also s1 (g.D.Sectors.state c.publish.new.device) _ _

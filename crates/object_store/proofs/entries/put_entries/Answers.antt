@@ -1,7 +1,7 @@
 use Rattle.std.proofs.Common.{◌+◌, List, drop, sym, subst, ap, ◌∙◌}
 use Rattle.std.proofs.lemmas.List.{drop_more}
 use Rattle.object_store.specs.declared.catalogue.entry.Entry.{Entry}
-use Rattle.object_store.specs.Catalogue.{AreAscending}
+use Rattle.object_store.specs.Catalogue.{IdsAscend}
 use Rattle.object_store.specs.Commit.{put_each}
 use Rattle.object_store.proofs.Lists.{ascending-put_by}
 use Rattle.object_store.proofs.entries.put_entries.Goals as goal
@@ -16,7 +16,7 @@ loop-k-preserved c =
     let put = c.in_ok-put_entry.ensures.ok in
     let placed = c.args.placed.now in
     let old = c.loop-k.entries.items in record {
-      ascending = subst AreAscending (sym put) (ascending-put_by (λ (e : Entry). e.id) _ old so_far.ascending);
+      ascending = subst IdsAscend (sym put) (ascending-put_by (λ (e : Entry). e.id) _ old so_far.ascending);
       rest =
           ap (λ (l : List Entry). put_each (λ e. e.id) (drop (c.loop-k.k + 1) placed) l) put
           ∙ ap (λ (l : List Entry). put_each (λ e. e.id) l old)

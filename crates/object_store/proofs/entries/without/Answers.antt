@@ -1,7 +1,7 @@
 use Rattle.std.proofs.Common.{◌+◌, ◌<◌, ℕ, List, drop, sym, subst, ap, ◌∙◌}
 use Rattle.std.proofs.lemmas.List.{drop_more}
 use Rattle.object_store.specs.declared.catalogue.entry.Entry.{Entry}
-use Rattle.object_store.specs.Catalogue.{AreAscending}
+use Rattle.object_store.specs.Catalogue.{IdsAscend}
 use Rattle.object_store.specs.Commit.{drop_each}
 use Rattle.object_store.proofs.Lists.{AllPairs-drop_by}
 use Rattle.object_store.proofs.entries.without.Goals as goal
@@ -13,7 +13,7 @@ loop-k-preserved c =
     let drops = c.args.drops.now in
     let old = c.loop-k.kept.items in record {
       ascending =
-          subst AreAscending (sym dropped)
+          subst IdsAscend (sym dropped)
           (AllPairs-drop_by (λ (a : Entry) (b : Entry). a.id < b.id) (λ (e : Entry). e.id) _ old so_far.ascending);
       rest =
           ap (λ (l : List Entry). drop_each (λ e. e.id) (drop (c.loop-k.k + 1) drops) l) dropped

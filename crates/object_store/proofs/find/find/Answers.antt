@@ -2,7 +2,7 @@ use Rattle.std.proofs.Common.{◌≡◌, ⊎_elim, ℕ, List, sym, ◌∙◌, ap
 use Rattle.std.proofs.lemmas.Bool.{false≢true}
 use Rattle.std.proofs.lemmas.Result.{err_from_is_err_and}
 use Rattle.cube_model.specs.declared.fault.Fault.{Fault}
-use Rattle.object_store.specs.Found.{Explains, SpellNone, is_of_layout}
+use Rattle.object_store.specs.Found.{ExplainsRefusal, SpellNoCatalogue, is_of_layout}
 use Rattle.object_store.specs.Reading.{IsNewest}
 use Rattle.object_store.specs.Frames.{bytes_same}
 use Rattle.object_store.proofs.Looking.{newest_same, nothing_sized, nothing_spelled}
@@ -34,7 +34,7 @@ returns-in_err-catalogue-clause-nothing g c =
     ⊎_elim (λ memory. absurd (false≢true (sym (ap (λ (f : Fault). is_of_layout f) memory) ∙ layout)))
     (λ other. ⊎_elim (λ device. absurd (false≢true (sym (ap (λ (f : Fault). is_of_layout f) device) ∙ layout)))
     (λ bad. nothing_spelled s0.size s0.reads super newest sized
-    (subst (λ (l : List ℕ). SpellNone super l)
+    (subst (λ (l : List ℕ). SpellNoCatalogue super l)
     (bytes_same s1.reads s0.reads super.catalogue super.bytes (λ i held. same i)) (bad.1 w))) other)
     c.in_err-catalogue.ensures.refused)
 
@@ -63,7 +63,7 @@ returns-in_err-catalogue-clause-explained g c =
     newest_same s1.reads s0.reads (λ slot lt. (c.newest.ensures.only w1).others slot (λ none. none)) super
     (found w1) in
     let sized : super.sectors ≡ s0.size = c.if-superblock-count.false ∙ c.count.ensures ∙ c.newest.ensures.size in
-    ⊎_elim (λ memory. subst (λ (f : Fault). Explains f s0.size s0.reads) (sym memory) tt)
-    (λ other. ⊎_elim (λ device. subst (λ (f : Fault). Explains f s0.size s0.reads) (sym device) tt)
-    (λ bad. subst (λ (f : Fault). Explains f s0.size s0.reads) (sym bad.0) (super, newest, sized)) other)
+    ⊎_elim (λ memory. subst (λ (f : Fault). ExplainsRefusal f s0.size s0.reads) (sym memory) tt)
+    (λ other. ⊎_elim (λ device. subst (λ (f : Fault). ExplainsRefusal f s0.size s0.reads) (sym device) tt)
+    (λ bad. subst (λ (f : Fault). ExplainsRefusal f s0.size s0.reads) (sym bad.0) (super, newest, sized)) other)
     c.in_err-catalogue.ensures.refused)

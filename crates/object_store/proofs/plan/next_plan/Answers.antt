@@ -3,7 +3,7 @@ use Rattle.std.specs.List.{All}
 use Rattle.extents.specs.declared.extent.Extent.{Extent}
 use Rattle.extents.specs.Extents.{SomeHolds, AreLaidOut}
 use Rattle.object_store.specs.declared.catalogue.entry.Entry.{Entry}
-use Rattle.object_store.specs.Catalogue.{FitsFields, IsProperEntry, AreAscending}
+use Rattle.object_store.specs.Catalogue.{FitsFields, IsProperEntry, IdsAscend}
 use Rattle.object_store.specs.Places.{extent_of, extents_of}
 use Rattle.object_store.proofs.Lists.{All-drop_each, AllPairs-drop_each}
 use Rattle.object_store.proofs.Extents.{held_drop_each, laid_out_drop_each, laid_out_tail}
@@ -35,6 +35,6 @@ prepare-requires-clause-proper c =
 
 pub prepare-requires-clause-ascending : goal.prepare-requires-clause-ascending
 prepare-requires-clause-ascending c =
-    subst AreAscending (sym c.in_ok-kept.ensures.ok)
+    subst IdsAscend (sym c.in_ok-kept.ensures.ok)
     (AllPairs-drop_each (λ (a : Entry) (b : Entry). a.id < b.id) (λ (e : Entry). e.id) c.args.drops.now
     c.args.entries.now c.requires.ascending)

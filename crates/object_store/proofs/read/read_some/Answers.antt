@@ -1,5 +1,5 @@
 use Rattle.std.proofs.Common.{◌∙◌, ℕ, List, ◌++◌, ◌+◌, ◌-◌, ◌%◌, ◌/◌, ◌<◌, ◌≡◌, length, take, drop, min, sym, ap, arith}
-use Rattle.object_store.specs.Places.{bytes_at, run_bytes}
+use Rattle.object_store.specs.Places.{bytes_at, sectors_bytes}
 use Rattle.object_store.proofs.Pieces.{IfOk-both, piece_is, run_within}
 use Rattle.object_store.proofs.read.read_some.Goals as goal
 
@@ -13,7 +13,7 @@ returns-then-to-ge512-clause-bytes g c =
     IfOk-both c.read_whole.result _ _ _ (λ n many bytes w total enough.
     let w0 = c.read_whole.ensures.word w in
     let piece : take n (drop place (bytes_at reads first total))
-    ≡ run_bytes reads (first + place / 512) (length to / 512) =
+    ≡ sectors_bytes reads (first + place / 512) (length to / 512) =
     ap (λ (k : ℕ). take k (drop place (bytes_at reads first total))) many
     ∙ run_within reads first place (length to / 512) total c.if-place-eq0.true (omega (arith, enough))
     (λ k lt. g.met.D.Sectors.whole device (first + k) (reads (first + k)) w0

@@ -4,14 +4,14 @@ use Rattle.std.specs.List.{join_with_byte}
 use Rattle.std.proofs.lemmas.Result.{err_from_is_err_and}
 use Rattle.cube_model.specs.declared.answer.Line.{Line}
 use Rattle.answer_merge.proofs.CallerLemmas.{line_lf}
-use Rattle.partial_reports.specs.Reading.{IsNextLine, fields_of}
+use Rattle.partial_reports.specs.Reading.{IsNextLine, line_fields}
 use Rattle.partial_reports.proofs.LinesLeft.{count_front, count_lacks, line_front}
 use Rattle.partial_reports.proofs.WordLines.{not_empty, not_full}
 use Rattle.partial_reports.proofs.reading.read_line.Goals as goal
 
 pub returns-in_default-clause-next : goal.returns-in_default-clause-next
 returns-in_default-clause-next c = λ next left is.
-    absurd (c.in_default.ensures.found (join_with_byte 124 (fields_of next)) left
+    absurd (c.in_default.ensures.found (join_with_byte 124 (line_fields next)) left
     (line_lf c.args.query.now next is.readable) (is.spelled ∙ line_front next left))
 
 pub returns-in_default-clause-end : goal.returns-in_default-clause-end
@@ -23,21 +23,21 @@ returns-in_default-clause-end c = λ few spelled.
 pub returns-in_err-check_count-clause-next : goal.returns-in_err-check_count-clause-next
 returns-in_err-check_count-clause-next c = λ next left is.
     let halves =
-    c.in-Some.ensures.found (join_with_byte 124 (fields_of next)) left (line_lf c.args.query.now next is.readable)
+    c.in-Some.ensures.found (join_with_byte 124 (line_fields next)) left (line_lf c.args.query.now next is.readable)
     (is.spelled ∙ line_front next left) in
     absurd (not_empty c.in-Some.back.now left c.is_empty.result halves.1 is.more c.is_empty.ensures c.if-is_empty.true)
 
 pub returns-then-is_empty-clause-next : goal.returns-then-is_empty-clause-next
 returns-then-is_empty-clause-next c = λ next left is.
     let halves =
-    c.in-Some.ensures.found (join_with_byte 124 (fields_of next)) left (line_lf c.args.query.now next is.readable)
+    c.in-Some.ensures.found (join_with_byte 124 (line_fields next)) left (line_lf c.args.query.now next is.readable)
     (is.spelled ∙ line_front next left) in
     absurd (not_empty c.in-Some.back.now left c.is_empty.result halves.1 is.more c.is_empty.ensures c.if-is_empty.true)
 
 pub returns-in_err-line-clause-next : goal.returns-in_err-line-clause-next
 returns-in_err-line-clause-next c = λ next left is.
     let halves =
-    c.in-Some.ensures.found (join_with_byte 124 (fields_of next)) left (line_lf c.args.query.now next is.readable)
+    c.in-Some.ensures.found (join_with_byte 124 (line_fields next)) left (line_lf c.args.query.now next is.readable)
     (is.spelled ∙ line_front next left) in
     let p = err_from_is_err_and c.from_residual-in_err-line.result c.from_residual-in_err-line.ensures.1 in
     rw (p.1, p.2) (c.in_err-line.ensures next is.readable halves.0)
@@ -52,7 +52,7 @@ returns-in_err-line-clause-end c = λ few spelled.
 pub returns-in_err-left-clause-next : goal.returns-in_err-left-clause-next
 returns-in_err-left-clause-next c = λ next left is.
     let halves =
-    c.in-Some.ensures.found (join_with_byte 124 (fields_of next)) left (line_lf c.args.query.now next is.readable)
+    c.in-Some.ensures.found (join_with_byte 124 (line_fields next)) left (line_lf c.args.query.now next is.readable)
     (is.spelled ∙ line_front next left) in
     let same : c.in_ok-line.line ≡ next = c.in_ok-line.ensures next is.readable halves.0 in
     let p = err_from_is_err_and c.from_residual-in_err-left.result c.from_residual-in_err-left.ensures.1 in
@@ -80,7 +80,7 @@ returns-clause-line c = record {
 pub returns-clause-next : goal.returns-clause-next
 returns-clause-next c = λ next left is.
     let halves =
-    c.in-Some.ensures.found (join_with_byte 124 (fields_of next)) left (line_lf c.args.query.now next is.readable)
+    c.in-Some.ensures.found (join_with_byte 124 (line_fields next)) left (line_lf c.args.query.now next is.readable)
     (is.spelled ∙ line_front next left) in
     let same : c.in_ok-line.line ≡ next = c.in_ok-line.ensures next is.readable halves.0 in
     let found : IsNextLine c.args.query.now c.as_slice.result.now c.in_ok-line.line c.args.text.now left =

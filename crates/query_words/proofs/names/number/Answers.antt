@@ -1,11 +1,11 @@
 use Rattle.std.proofs.Common.{◌≡◌, sym, arith}
 use Rattle.ssb_reports.specs.declared.number.QNumber.TheVariants.{Q11, Q12, Q13, Q21, Q22, Q23, Q31, Q32, Q33, Q34, Q41}
 use Rattle.ssb_reports.specs.declared.number.QNumber.TheVariants.{Q42, Q43}
-use Rattle.ssb_reports.specs.Benchmark.{number_text}
+use Rattle.ssb_reports.specs.Benchmark.{query_number_text}
 use Rattle.query_words.proofs.names.number.Goals as goal
 
 pub returns : goal.returns
-returns c = λ value. elim value as (λ one. c.args.name.now ≡ number_text one → ⊥) [
+returns c = λ value. elim value as (λ one. c.args.name.now ≡ query_number_text one → ⊥) [
   | Q11 ↦ λ e. c.loop-number.invariant 0 (omega arith) (sym e)
   | Q12 ↦ λ e. c.loop-number.invariant 1 (omega arith) (sym e)
   | Q13 ↦ λ e. c.loop-number.invariant 2 (omega arith) (sym e)

@@ -1,7 +1,7 @@
 use Rattle.std.proofs.Common.{◌≡◌, map}
-use Rattle.answer_merge.specs.Wide.{lines_of}
+use Rattle.answer_merge.specs.Wide.{narrow_lines}
 use Rattle.report_merge.specs.Finishing.{recounted_line}
 use Rattle.report_merge.proofs.finishing.recounted.Given as goal
 
 abbrev pub invariant-loop-line : goal.invariant-loop-line
-invariant-loop-line l = lines_of l.found.items ≡ map recounted_line (lines_of l.yielded)
+invariant-loop-line l = narrow_lines l.found.items ≡ map recounted_line (narrow_lines l.yielded)

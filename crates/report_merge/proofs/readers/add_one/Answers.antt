@@ -1,13 +1,13 @@
 use Rattle.std.proofs.Common.{◌∙◌, sym, subst, List, ℕ}
 use Rattle.std.proofs.lemmas.Result.{IfOk-weaker, MatchResult-weaker, err_from_is_err_and}
-use Rattle.report_merge.specs.Merging.{Adds, IsPartialReport}
+use Rattle.report_merge.specs.Merging.{AddsPart, IsPartialReport}
 use Rattle.report_merge.proofs.Remaining.{outside, outside_input}
 use Rattle.report_merge.proofs.readers.add_one.Goals as goal
 
 pub returns-clause-ok : goal.returns-clause-ok
 returns-clause-ok g c =
     IfOk-weaker c.add.result _ _
-    (λ next adds text e. subst (λ one. Adds c.args.merge one next)
+    (λ next adds text e. subst (λ one. AddsPart c.args.merge one next)
     (c.as_slice.ensures.value ∙ c.in_ok-text.ensures.ok text e) adds)
     c.add.ensures.ok
 

@@ -1,7 +1,7 @@
 use Rattle.std.proofs.Common.{◌∙◌, Err, subst}
 use Rattle.std.proofs.lemmas.Result.{err_from_is_err_and}
 use Rattle.cube_query.proofs.CallerLemmas.{memory_alone}
-use Rattle.dimension_tables.specs.Texts.{Gives}
+use Rattle.dimension_tables.specs.Texts.{GivesUnlessFailed}
 use Rattle.mode_folds.specs.States.{IsFoldableByModes}
 use Rattle.mode_queries.specs.References.{asked_by}
 use Rattle.ssb_eval.specs.Evaluation.{moded_answer_of}
@@ -15,7 +15,7 @@ returns-in_err-fold_lines-clause-answer g c = λ text known.
     let fault = c.in_err-fold_lines.field-0.0 in
     gives-nothing (asked_by c.args.asked) dims text fault _
     (err_from_is_err_and _ c.from_residual-in_err-fold_lines.ensures.1)
-    (subst (λ q. Gives (moded_answer_of q dims text) (Err fault)) c.in_ok-fold.ensures.ok.query_is
+    (subst (λ q. GivesUnlessFailed (moded_answer_of q dims text) (Err fault)) c.in_ok-fold.ensures.ok.query_is
     (c.in_err-fold_lines.ensures.facts text known))
 
 pub into_answered-requires : goal.into_answered-requires

@@ -4,7 +4,7 @@ use Rattle.cube_model.specs.declared.fault.Fault.TheVariants.{TooManyCells}
 use Rattle.cuboid_upkeep.specs.Steps.{HaveTooMany}
 use Rattle.lattice.specs.declared.view.View.{View}
 use Rattle.lattice.specs.Views.{index_of}
-use Rattle.warehouse_root.specs.Layouts.{views_of}
+use Rattle.warehouse_root.specs.Layouts.{view_count}
 use Rattle.warehouse_objects.specs.Warehouse.{ship_modes_of}
 use Rattle.stored_cuboids.proofs.Auditing.{is_grouping, not_too_many, which_large}
 use Rattle.stored_cuboids.proofs.audit.are_grouping.Goals as goal
@@ -23,8 +23,8 @@ returns-in-Err-TooManyCells-clause-answer g c = λ k w laid rooted same within.
     let bad : c.cells_of_batches.result ≡ Err (TooManyCells c.in-Err-TooManyCells.field-0-0) = cc in
     let is = which_large c.cells_of_batches.result c.in-Err-TooManyCells.field-0-0 (index_of c.view.result) bad
     c.cells_of_batches.ensures.causes in
-    let own : index_of c.view.result < views_of w.layout =
-    subst (λ (v : View). index_of v < views_of w.layout) (sym c.view.ensures.value) within in
+    let own : index_of c.view.result < view_count w.layout =
+    subst (λ (v : View). index_of v < view_count w.layout) (sym c.view.ensures.value) within in
     let many : HaveTooMany w.rows (ship_modes_of w) c.args.cells.now.view (all_rows (take c.args.mark w.batches)) =
     subst (λ (v : View). HaveTooMany w.rows (ship_modes_of w) v (all_rows (take c.args.mark w.batches)))
     c.view.ensures.value (c.cells_of_batches.ensures.large is k w laid rooted same own) in (

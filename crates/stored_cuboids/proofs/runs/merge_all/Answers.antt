@@ -9,7 +9,7 @@ use Rattle.warehouse_root.specs.declared.cuboid.StoredCuboid.{StoredCuboid}
 use Rattle.warehouse_objects.proofs.Batches.{get_within}
 use Rattle.warehouse_objects.proofs.Folded.{err_fault}
 use Rattle.warehouse_objects.proofs.OneMoreRead.{reads_more, same_error, still_then, then_reads}
-use Rattle.stored_cuboids.specs.Steps.{AreMerged, TakesRun}
+use Rattle.stored_cuboids.specs.Steps.{RunsAreMerged, MergesRun}
 use Rattle.stored_cuboids.proofs.StoredRuns.{at_mark, can_merge, has_merge, merged_with, none_left, none_merged}
 use Rattle.stored_cuboids.proofs.runs.merge_all.Goals as goal
 
@@ -50,14 +50,14 @@ loop-run-preserved g c =
           omega (arith, c.loop-run-test.true, ap (λ (s : StoredCuboid). s.runs) said) in
           let run = get_within stored.runs r within in
           let takes =
-          subst (λ (n : ℕ). TakesRun content n c.loop-run.cells c.loop-run.at c.merge_run.new.cells c.in_ok-at.at)
+          subst (λ (n : ℕ). MergesRun content n c.loop-run.cells c.loop-run.at c.merge_run.new.cells c.in_ok-at.at)
           c.run_id.ensures
-          (subst (λ (x : Content). TakesRun x c.run_id.result c.loop-run.cells c.loop-run.at c.merge_run.new.cells
+          (subst (λ (x : Content). MergesRun x c.run_id.result c.loop-run.cells c.loop-run.at c.merge_run.new.cells
           c.in_ok-at.at) (so_far.still.content (still.word k)) (c.in_ok-at.ensures.ok k)) in
           let more = merged_with content w c.args.cuboid.view stored laid found r run.0 run.1 c.loop-run.cells
           c.loop-run.at (so_far.own (still.word k) w stored laid found said) c.merge_run.new.cells c.in_ok-at.at
           takes in
-          subst (λ (n : ℕ). AreMerged stored n c.merge_run.new.cells c.in_ok-at.at) (sym (add-one r)) more;
+          subst (λ (n : ℕ). RunsAreMerged stored n c.merge_run.new.cells c.in_ok-at.at) (sym (add-one r)) more;
     }
 
 pub returns-in_err-at-clause-unsound : goal.returns-in_err-at-clause-unsound
@@ -72,9 +72,9 @@ returns-in_err-at-clause-unsound g c =
     let run = get_within stored.runs r within in
     let can = can_merge content w c.args.cuboid.view stored laid found r run.0 run.1 c.loop-run.cells c.loop-run.at
     (so_far.own word w stored laid found said) sound.cells sound.merge in
-    let takes = subst (λ (x : Content). TakesRun x c.run_id.result c.loop-run.cells c.loop-run.at can.0 can.1)
+    let takes = subst (λ (x : Content). MergesRun x c.run_id.result c.loop-run.cells c.loop-run.at can.0 can.1)
     (sym (so_far.still.content word))
-    (subst (λ (n : ℕ). TakesRun content n c.loop-run.cells c.loop-run.at can.0 can.1) (sym c.run_id.ensures) can.2) in
+    (subst (λ (n : ℕ). MergesRun content n c.loop-run.cells c.loop-run.at can.0 can.1) (sym c.run_id.ensures) can.2) in
     c.in_err-at.ensures.refused (ap (λ (f : Fault). Err f) (err_fault c.in_err-at.field-0.0 BadLayout is)) k can.0 can.1
     takes)
 

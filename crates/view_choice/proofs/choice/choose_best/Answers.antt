@@ -6,7 +6,8 @@ use Rattle.lattice.specs.declared.view.View.{View}
 use Rattle.view_choice.specs.declared.costs.Candidate.{Candidate}
 use Rattle.view_choice.specs.declared.costs.Costed.{Costed}
 use Rattle.view_choice.specs.Choice.{IsBest, Lattice}
-use Rattle.view_choice.specs.Costs.{candidates, costed, gain_among, costs_in_all, lowered, sized, IsFirstGreatestAt}
+use Rattle.view_choice.specs.Costs.{view_candidates, costed, gain_among, costs_in_all, lowered, sized}
+use Rattle.view_choice.specs.Costs.{IsFirstGreatestAt}
 use Rattle.view_choice.specs.Cuboids.{cuboids_by}
 use Rattle.view_choice.proofs.Kept.{none_gains, is_best, costs_fit, lowered_costs}
 use Rattle.view_choice.proofs.Steps.{whole_slice, best_more}
@@ -23,7 +24,7 @@ first_greatest-requires c =
 pub returns-in_default-clause-ok : goal.returns-in_default-clause-ok
 returns-in_default-clause-ok c =
     let lattice : Lattice View = cuboids_by c.args.ties c.args.rows c.args.counts.now c.args.demanded.now in
-    let listed : c.in_ok-candidates.candidates.items ≡ candidates lattice
+    let listed : c.in_ok-candidates.candidates.items ≡ view_candidates lattice
     = c.in_ok-candidates.ensures
     ∙ ap (map (sized (size_of c.args.rows c.args.counts.now))) (c.as_slice.ensures.value ∙ c.in_ok-views.ensures) in
     record {
@@ -48,15 +49,15 @@ loop-preserved c =
     let lattice : Lattice View = cuboids_by ties rows counts demanded in
     let chosen = c.loop.chosen.items in
     let best = c.index-best.result.now in
-    let listed : c.in_ok-candidates.candidates.items ≡ candidates lattice
+    let listed : c.in_ok-candidates.candidates.items ≡ view_candidates lattice
     = c.in_ok-candidates.ensures
     ∙ ap (map (sized (size_of rows counts))) (c.as_slice.ensures.value ∙ c.in_ok-views.ensures) in
-    let first : IsFirstGreatestAt (gain_among (costed lattice chosen)) (candidates lattice) c.in-Some.place
+    let first : IsFirstGreatestAt (gain_among (costed lattice chosen)) (view_candidates lattice) c.in-Some.place
     = subst (λ (found : List Candidate). IsFirstGreatestAt (gain_among (costed lattice chosen)) found c.in-Some.place)
     (c.as_slice-in-loop-2.ensures.value ∙ listed)
     (subst (λ (all : List Costed). IsFirstGreatestAt (gain_among all) c.as_slice-in-loop-2.result.now c.in-Some.place)
     (c.as_slice-in-loop.ensures.value ∙ c.loop.invariant.kept) c.in-Some.ensures) in
-    let read : best ≡ get_or (candidates lattice) c.in-Some.place best
+    let read : best ≡ get_or (view_candidates lattice) c.in-Some.place best
     = c.index-best.ensures ∙ ap (λ (found : List Candidate). get_or found c.in-Some.place best) listed in
     let has_size : best.size ≡ size_of rows counts best.view =
     (is_best ties rows counts demanded chosen c.in-Some.place best read first).0 in

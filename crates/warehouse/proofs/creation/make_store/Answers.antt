@@ -41,7 +41,7 @@ create-requires-clause-few g c =
     (c.as_slice.ensures.value ∙ is.customers) (c.as_slice-2.ensures.value ∙ is.suppliers)
     (c.as_slice-3.ensures.value ∙ is.parts) (c.as_slice-4.ensures.value ∙ is.dates)
     (c.as_slice-5.ensures.value ∙ is.modes) in
-    let bytes_are : bytes ≡ roots.root_of b.root = c.as_slice-6.ensures.value ∙ is.spelled.spelled in
+    let bytes_are : bytes ≡ roots.root_spelling b.root = c.as_slice-6.ensures.value ∙ is.spelled.spelled in
     few_at_first c.args.layout c.args.dims.now.value puts bytes c.number.result b.root
     c.kept_is_represented.ensures.dims are
     is.root_is bytes_are c.number.ensures
@@ -60,7 +60,7 @@ returns-clause-ok g c =
     (c.as_slice.ensures.value ∙ is.customers) (c.as_slice-2.ensures.value ∙ is.suppliers)
     (c.as_slice-3.ensures.value ∙ is.parts) (c.as_slice-4.ensures.value ∙ is.dates)
     (c.as_slice-5.ensures.value ∙ is.modes) in
-    let bytes_are : bytes ≡ roots.root_of b.root = c.as_slice-6.ensures.value ∙ is.spelled.spelled in
+    let bytes_are : bytes ≡ roots.root_spelling b.root = c.as_slice-6.ensures.value ∙ is.spelled.spelled in
     makes_store c.args.layout c.args.dims.now.value puts bytes c.number.result b.root c.kept_is_represented.ensures.dims
     are
     is.root_is bytes_are c.number.ensures g.D.Sectors c.args.device c.create.result
@@ -80,7 +80,7 @@ returns-clause-refused g c =
     (c.as_slice.ensures.value ∙ is.customers) (c.as_slice-2.ensures.value ∙ is.suppliers)
     (c.as_slice-3.ensures.value ∙ is.parts) (c.as_slice-4.ensures.value ∙ is.dates)
     (c.as_slice-5.ensures.value ∙ is.modes) in
-    let bytes_are : bytes ≡ roots.root_of b.root = c.as_slice-6.ensures.value ∙ is.spelled.spelled in
+    let bytes_are : bytes ≡ roots.root_spelling b.root = c.as_slice-6.ensures.value ∙ is.spelled.spelled in
     refuses_to_make c.args.layout c.args.dims.now.value puts bytes c.number.result b.root
     c.kept_is_represented.ensures.dims are
     is.root_is bytes_are c.number.ensures g.D.Sectors c.args.device c.create.result

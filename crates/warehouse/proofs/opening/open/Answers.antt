@@ -1,7 +1,7 @@
 use Rattle.std.proofs.Common.{⊎_elim, inl, inr, Err, ◌+◌, ◌-◌, ◌^◌, ◌%◌, ℕ, min, sym, ◌∙◌, ap, subst, arith}
 use Rattle.cube_model.specs.declared.fault.Fault.{Fault}
 use Rattle.object_store.specs.Disk.{disk, Leaves}
-use Rattle.object_store.specs.Found.{Explains, is_of_layout}
+use Rattle.object_store.specs.Found.{ExplainsRefusal, is_of_layout}
 use Rattle.warehouse.specs.Found.{MayRepresentSince}
 use Rattle.warehouse.specs.Session.{content_of, disk_of}
 use Rattle.warehouse.proofs.Caught.{finish_leaves, found_caught, since_caught}
@@ -58,8 +58,9 @@ returns-in-Err-finish-clause-unformatted g c is k =
 pub returns-in-Err-finish-clause-explained : goal.returns-in-Err-finish-clause-explained
 returns-in-Err-finish-clause-explained g c other k =
     let s = g.D.Sectors.state c.args.device in
-    ⊎_elim (λ memory. subst (λ (f : Fault). Explains f s.size s.reads) (sym memory) tt)
-    (⊎_elim (λ failed. subst (λ (f : Fault). Explains f s.size s.reads) (sym failed) tt) (λ bad. absurd (other bad)))
+    ⊎_elim (λ memory. subst (λ (f : Fault). ExplainsRefusal f s.size s.reads) (sym memory) tt)
+    (⊎_elim (λ failed. subst (λ (f : Fault). ExplainsRefusal f s.size s.reads) (sym failed) tt)
+    (λ bad. absurd (other bad)))
     c.in-Err-finish.ensures.causes
 
 pub returns-in-Err-finish-clause-blank : goal.returns-in-Err-finish-clause-blank

@@ -2,7 +2,7 @@ use Rattle.std.proofs.Common.{⊎_elim, inl, inr, sym, ◌∙◌, subst, arith, 
 use Rattle.cube_model.specs.declared.fault.Fault.{Fault}
 use Rattle.object_store.specs.Content.{Content}
 use Rattle.object_store.specs.Disk.{disk, IsShown}
-use Rattle.object_store.specs.Found.{Explains}
+use Rattle.object_store.specs.Found.{ExplainsRefusal}
 use Rattle.object_store.specs.Store as stores
 use Rattle.warehouse.specs.Found.{MayRepresent}
 use Rattle.warehouse.specs.Session.{disk_of}
@@ -46,7 +46,7 @@ returns-in-Err-load-clause-never g c facts last all k =
 pub returns-in-Err-clause-unformatted : goal.returns-in-Err-clause-unformatted
 returns-in-Err-clause-unformatted g c is k =
     let s = g.D.Sectors.state c.args.device in
-    subst (λ (f : Fault). Explains f s.size s.reads) is (c.in-Err.ensures.explained k)
+    subst (λ (f : Fault). ExplainsRefusal f s.size s.reads) is (c.in-Err.ensures.explained k)
 
 pub returns-in-Err-clause-leaves_err : goal.returns-in-Err-clause-leaves_err
 returns-in-Err-clause-leaves_err g c facts last all =
@@ -55,14 +55,15 @@ returns-in-Err-clause-leaves_err g c facts last all =
 pub returns-in-Err-load-clause-explained : goal.returns-in-Err-load-clause-explained
 returns-in-Err-load-clause-explained g c other k =
     let s = g.D.Sectors.state c.args.device in
-    ⊎_elim (λ memory. subst (λ (f : Fault). Explains f s.size s.reads) (sym memory) tt)
-    (⊎_elim (λ failed. subst (λ (f : Fault). Explains f s.size s.reads) (sym failed) tt) (λ bad. absurd (other bad)))
+    ⊎_elim (λ memory. subst (λ (f : Fault). ExplainsRefusal f s.size s.reads) (sym memory) tt)
+    (⊎_elim (λ failed. subst (λ (f : Fault). ExplainsRefusal f s.size s.reads) (sym failed) tt)
+    (λ bad. absurd (other bad)))
     c.in-Err-load.ensures.causes
 
 pub returns-in-Err-clause-blank : goal.returns-in-Err-clause-blank
 returns-in-Err-clause-blank g c is k blank none =
     let s = g.D.Sectors.state c.args.device in
-    let newest = subst (λ (f : Fault). Explains f s.size s.reads) is (c.in-Err.ensures.explained k) in
+    let newest = subst (λ (f : Fault). ExplainsRefusal f s.size s.reads) is (c.in-Err.ensures.explained k) in
     none (newest.0.generation % 2) (omega arith) newest.0 newest.1.in_slot
 
 pub returns-in-Err-load-clause-blank : goal.returns-in-Err-load-clause-blank

@@ -1,7 +1,7 @@
 use Rattle.std.proofs.Common.{◌≤◌, ◌<◌, arith, ap, subst, Err, inl, inr, refl}
 use Rattle.std.proofs.lemmas.Result.{err_from_is_err_and}
 use Rattle.cube_model.specs.declared.rows.DimRows.{DimRows}
-use Rattle.added_rows.specs.Among.{HasRows}
+use Rattle.added_rows.specs.Among.{ContainsRows}
 use Rattle.warehouse_jobs.proofs.Additions.{only-looked, refuses-rows, takes-added, takes-skipped}
 use Rattle.warehouse_jobs.proofs.Turns.{still}
 use Rattle.warehouse_jobs.proofs.adding.take_rows.Goals as goal
@@ -35,7 +35,7 @@ returns-then-not-has_rows-clause-refused g c w at k =
       inl (
         refl,
         there,
-        subst (λ (rows : DimRows). HasRows rows c.args.rows.now → ⊥) (c.dims.ensures w at k)
+        subst (λ (rows : DimRows). ContainsRows rows c.args.rows.now → ⊥) (c.dims.ensures w at k)
             c.if-not-has_rows.ensures.no,
       ),
       at,
@@ -49,5 +49,6 @@ returns-clause-taken g c w at k =
     let there : c.args.number ≤ w.additions = omega (arith, c.if-branch.false, status.additions) in
     let session = c.args.session.now in
     takes-skipped g.D.Sectors w c.args.number c.args.rows.now session session there
-    (subst (λ (rows : DimRows). HasRows rows c.args.rows.now) (c.dims.ensures w at k) c.if-not-has_rows.ensures.yes) at
+    (subst (λ (rows : DimRows). ContainsRows rows c.args.rows.now) (c.dims.ensures w at k)
+    c.if-not-has_rows.ensures.yes) at
     (still g.D.Sectors session w g.met.D.Sectors.only_now at)

@@ -1,12 +1,13 @@
 use Rattle.std.proofs.Common.{◌∙◌, ap, get_or, slice_range, arith}
-use Rattle.batch_loader.specs.Numbers.{number_of}
+use Rattle.batch_loader.specs.Numbers.{number_spelled}
 use Rattle.batch_loader.proofs.Parts.{part-at}
 use Rattle.batch_loader.proofs.line_fields.FieldsInPlace.few_digits.Goals as goal
 
 pub returns : goal.returns
 returns g c =
     c.few_digits_between.ensures
-    ∙ ap (λ start. number_of c.args.limit
+    ∙ ap (λ start. number_spelled c.args.limit
     (slice_range c.args.self.now.line.now start (get_or c.args.self.now.ends.now c.args.place 0)))
     c.start.ensures.start
-    ∙ ap (number_of c.args.limit) (part-at c.args.self.now.line.now c.args.self.now.ends.now c.args.place (omega arith))
+    ∙ ap (number_spelled c.args.limit)
+    (part-at c.args.self.now.line.now c.args.self.now.ends.now c.args.place (omega arith))

@@ -1,6 +1,6 @@
 use Rattle.std.proofs.Common.{◌∙◌, sym, ap, inl, inr, Ok, Err}
 use Rattle.std.proofs.lemmas.Result.{err_from_is_err_and}
-use Rattle.batch_loader.specs.LineFields.{texts_of}
+use Rattle.batch_loader.specs.LineFields.{field_texts}
 use Rattle.batch_loader.specs.Tables.{part_columns, part_of_fields}
 use Rattle.batch_loader.proofs.RowLaws.{no_fields, no_row, is_row}
 use Rattle.batch_loader.proofs.rows.PartRowTableRow.read.Goals as goal
@@ -17,7 +17,7 @@ returns-in_err-numbers c =
     let p = err_from_is_err_and c.from_residual-in_err-numbers.result c.from_residual-in_err-numbers.ensures.1 in
     rw (p.1, p.2)
     (inr (no_row part_columns part_of_fields c.args.number c.args.line.now c.requires
-    (texts_of c.in_ok-fields.fields) c.in_ok-fields.ensures c.in_err-numbers.field-0.0
+    (field_texts c.in_ok-fields.fields) c.in_ok-fields.ensures c.in_err-numbers.field-0.0
     c.in_err-numbers.ensures.refused))
 
 pub returns-in_err-brand1 : goal.returns-in_err-brand1
@@ -28,7 +28,7 @@ returns-in_err-brand1 c =
 pub returns : goal.returns
 returns c =
     let texts = c.in_ok-brand1.ensures.ok in
-    is_row part_columns part_of_fields c.args.number c.args.line.now c.requires (texts_of c.in_ok-fields.fields)
+    is_row part_columns part_of_fields c.args.number c.args.line.now c.requires (field_texts c.in_ok-fields.fields)
     c.in_ok-fields.ensures c.in_ok-numbers.ensures.fits
     ∙ (λ i. Ok (record {
       key = sym c.in_ok-numbers.ensures.numbers.0.0 i;

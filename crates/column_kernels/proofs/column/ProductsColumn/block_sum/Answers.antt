@@ -3,7 +3,7 @@ use Rattle.std.proofs.lemmas.List.{length-map}
 use Rattle.std.specs.Int.{from_le_bytes, w64}
 use Rattle.std.specs.List.{sum}
 use Rattle.std.specs.Simd.Lanes.{chunk}
-use Rattle.column_kernels.specs.Masks.{bits_of, selected}
+use Rattle.column_kernels.specs.Masks.{bits_of, selected_by}
 use Rattle.column_kernels.specs.Sums.{numbers_of, products}
 use Rattle.column_kernels.proofs.Chunks.{chunk_at, chunk-map, chunk-zip2, zip2_left, zip2_right}
 use Rattle.column_kernels.proofs.column.ProductsColumn.block_sum.Goals as goal
@@ -60,7 +60,7 @@ returns-clause-value c =
     omega (arith, in_numbers column factors (32 * block + 32) c.requires.within) in
     let other : block < length factors / 32 =
     omega (arith, in_factors column factors (32 * block + 32) c.requires.within) in
-    let rows : List ℕ → ℕ = λ l. sum (selected (bits_of 32 c.args.word) l) in
+    let rows : List ℕ → ℕ = λ l. sum (selected_by (bits_of 32 c.args.word) l) in
     let ones : get_or c.as_chunks.result.0.now block [] ≡ chunk (32 * block) 32 column
     = ap (λ (ls : List (List (List ℕ))). get_or ls block []) c.as_chunks.ensures.front
     ∙ chunk_at 32 (length column / 32) block column lt in

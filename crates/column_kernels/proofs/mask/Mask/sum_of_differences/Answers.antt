@@ -3,7 +3,7 @@ use Rattle.std.proofs.lemmas.List.{length-map}
 use Rattle.std.proofs.lemmas.Int.{to_z-of_z}
 use Rattle.std.specs.Int.{from_le_bytes, w64, w128}
 use Rattle.std.specs.List.{sum}
-use Rattle.column_kernels.specs.Masks.{selected}
+use Rattle.column_kernels.specs.Masks.{selected_by}
 use Rattle.column_kernels.specs.Sums.{numbers_of}
 use Rattle.column_kernels.proofs.Selecting.{difference_of_sums, fits_difference}
 use Rattle.column_kernels.proofs.mask.Mask.sum_of_differences.Goals as goal
@@ -25,5 +25,5 @@ returns c =
     (fits_difference c.sum-sum.result c.sum-other.result c.sum-sum.ensures.small c.sum-other.ensures.small) in
     to_z-of_z w128 c.difference.result fits ∙ c.difference.ensures
     ∙ ap (λ (n : ℕ). pos n -ℤ pos c.sum-other.result) c.sum-sum.ensures.value
-    ∙ ap (λ (n : ℕ). pos (sum (selected c.args.self.now xs)) -ℤ pos n) c.sum-other.ensures.value
+    ∙ ap (λ (n : ℕ). pos (sum (selected_by c.args.self.now xs)) -ℤ pos n) c.sum-other.ensures.value
     ∙ difference_of_sums c.args.self.now xs ys long

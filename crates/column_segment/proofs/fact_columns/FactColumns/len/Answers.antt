@@ -1,6 +1,6 @@
 use Rattle.std.proofs.Common.{◌≤◌, length, sym, ap, subst, ◌∙◌}
 use Rattle.cube_model.specs.Limits.{most_batch_rows}
-use Rattle.column_segment.specs.Projected.{HaveFigures}
+use Rattle.column_segment.specs.Projected.{BytesHaveFigures}
 use Rattle.column_segment.proofs.Values.{rows_many}
 use Rattle.column_segment.proofs.fact_columns.FactColumns.len.Goals as goal
 
@@ -13,4 +13,4 @@ returns-clause-few c =
     ∙ ap length c.self.view_is) c.self.invariant.few
 
 pub returns-clause-figures : goal.returns-clause-figures
-returns-clause-figures c = subst HaveFigures c.self.view_is c.figures_are_bytes.ensures
+returns-clause-figures c = subst BytesHaveFigures c.self.view_is c.figures_are_bytes.ensures

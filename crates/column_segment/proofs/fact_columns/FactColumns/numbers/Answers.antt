@@ -1,7 +1,7 @@
 use Rattle.std.proofs.Common.{List, map, sym, ap, ◌∙◌}
 use Rattle.std.specs.Int.{from_le_bytes, w32}
 use Rattle.cube_model.specs.declared.rows.LineOrder.{LineOrder}
-use Rattle.column_segment.specs.Columns.{number_of}
+use Rattle.column_segment.specs.Columns.{column_number}
 use Rattle.column_segment.proofs.Values.{number_values}
 use Rattle.column_segment.proofs.fact_columns.FactColumns.numbers.Goals as goal
 
@@ -9,4 +9,4 @@ pub returns : goal.returns
 returns c =
     ap (map (from_le_bytes w32)) c.number_chunks.ensures.value
     ∙ sym (number_values c.self.inside.bytes.now c.self.inside.layout.now c.args.column)
-    ∙ ap (λ (rows : List LineOrder). map (number_of c.args.column) rows) c.self.view_is
+    ∙ ap (λ (rows : List LineOrder). map (column_number c.args.column) rows) c.self.view_is

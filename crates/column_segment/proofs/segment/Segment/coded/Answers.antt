@@ -1,5 +1,5 @@
 use Rattle.std.proofs.Common.{map, sym, ap, ◌∙◌}
-use Rattle.dictionary.specs.Columns.{text_at}
+use Rattle.dictionary.specs.Columns.{text_of_code}
 use Rattle.column_segment.specs.Batch.{Batch}
 use Rattle.column_segment.specs.Columns.{text_of}
 use Rattle.column_segment.specs.Decoded.{codes_in}
@@ -9,8 +9,8 @@ use Rattle.column_segment.proofs.segment.Segment.coded.Goals as goal
 pub returns-clause-texts : goal.returns-clause-texts
 returns-clause-texts c =
     let layout = c.self.inside.layout in
-    ap (map (text_at c.column-coded.result.now.texts.texts)) c.code_chunks.ensures
-    ∙ (λ i. map (text_at (c.column-coded.ensures i).texts.texts)
+    ap (map (text_of_code c.column-coded.result.now.texts.texts)) c.code_chunks.ensures
+    ∙ (λ i. map (text_of_code (c.column-coded.ensures i).texts.texts)
     (codes_in (c.deref.ensures.value i) layout.rows (c.column-coded.ensures i).at))
     ∙ sym (text_values c.self.inside.bytes.items layout c.args.column)
     ∙ ap (λ (batch : Batch). map (text_of c.args.column) batch.rows) c.self.view_is

@@ -1,6 +1,6 @@
 use Rattle.std.proofs.Common.{List, ℕ, sym, ap, subst, ◌∙◌}
 use Rattle.column_segment.specs.Batch.{Batch}
-use Rattle.column_segment.specs.Decoded.{HoldsColumns, rows_in}
+use Rattle.column_segment.specs.Decoded.{HoldsColumns, decoded_rows}
 use Rattle.column_segment.proofs.segment.Segment.columns.Goals as goal
 
 pub of-requires : goal.of-requires
@@ -10,5 +10,5 @@ of-requires c =
     (record { few = readable.few; room = readable.room })
 
 pub returns : goal.returns
-returns c = c.of.ensures ∙ ap (λ (l : List ℕ). rows_in l c.self.inside.layout) c.deref.ensures.value
+returns c = c.of.ensures ∙ ap (λ (l : List ℕ). decoded_rows l c.self.inside.layout) c.deref.ensures.value
     ∙ ap (λ (batch : Batch). batch.rows) c.self.view_is

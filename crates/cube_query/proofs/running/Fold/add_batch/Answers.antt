@@ -1,6 +1,6 @@
 use Rattle.std.proofs.Common.{◌≡◌, ◌∙◌, List, sym, ap, subst}
 use Rattle.cube_model.specs.declared.rows.LineOrder.{LineOrder}
-use Rattle.column_kernels.specs.Masks.{selected}
+use Rattle.column_kernels.specs.Masks.{selected_by}
 use Rattle.group_plan.specs.Plans.{query_of}
 use Rattle.cube_query.specs.Asked.{AreSame, is_asked}
 use Rattle.cube_query.specs.Groups.{FoldState}
@@ -30,7 +30,7 @@ returns-clause-refused c = λ err others same can.
     c.over.ensures own c.in_ok-rows.ensures.ok in
     let asks = is_asked c.args.self.now.query in
     let marks = keep.part.0 in
-    c.add-2.ensures.refused err (selected marks others)
-    (subst (λ (rows : List LineOrder). AreSame asks rows (selected marks others)) (sym keep.part.1)
+    c.add-2.ensures.refused err (selected_by marks others)
+    (subst (λ (rows : List LineOrder). AreSame asks rows (selected_by marks others)) (sym keep.part.1)
     (masked_same asks marks c.args.batch others same))
     (can_take_marked c.args.dims.now c.args.self.now marks others can)

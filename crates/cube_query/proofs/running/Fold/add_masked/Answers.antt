@@ -7,13 +7,13 @@ use Rattle.std.proofs.lemmas.Result.{err_from_is_err_and}
 use Rattle.cube_model.specs.Selection.{is_selected}
 use Rattle.cube_model.specs.declared.fault.Fault.TheVariants.{BadLayout}
 use Rattle.cube_model.specs.declared.measure.Agg.{Agg}
-use Rattle.column_kernels.specs.Masks.{selected}
+use Rattle.column_kernels.specs.Masks.{selected_by}
 use Rattle.group_plan.specs.Plans.{query_of}
 use Rattle.cube_query.specs.Asked.{AreSame, is_asked}
 use Rattle.cube_query.specs.Columns.{tallies_at}
 use Rattle.cube_query.specs.Groups.{CanTake, FoldState, IsOver, RepresentsRows, Takes}
 use Rattle.cube_query.specs.Slots.{entries_of}
-use Rattle.cube_query.specs.WholeBatch.{HaveRoomAt, has_one_group, with_rows}
+use Rattle.cube_query.specs.WholeBatch.{HaveRoomAt, has_one_group, tallies_with_rows}
 use Rattle.cube_query.specs.declared.tally.Tally.{Tally}
 use Rattle.cube_query.proofs.AskedRefusals.{marks_same, masked_same, room_at_same}
 use Rattle.cube_query.proofs.BatchFolds.{kept_batch, kept_one, place_first, room_one, shown_one, slot_within}
@@ -32,7 +32,7 @@ returns-then-count-eq0-clause-ok c =
     let none = none_selected mask rows
     (ap length c.requires.mask ∙ length-map rows (is_selected dims old.query.conditions))
     (sym c.count.ensures ∙ c.if-count-eq0.true) in
-    takes_all (Ok (tt {0})) dims old (selected mask rows) rows old
+    takes_all (Ok (tt {0})) dims old (selected_by mask rows) rows old
     (mask_keeps dims old.query.conditions mask rows c.requires.mask)
     (subst (λ some. Takes dims old some old) (sym none) (takes_none dims old))
 
@@ -102,7 +102,7 @@ invariant_of-self-2 c =
     let marks = c.requires.mask ∙ ap (λ (state : FoldState). map (is_selected dims state.query.conditions) rows)
     (sym c.self.view_is) in
     let is = λ (other : ℕ). c.in_ok-merged.ensures.ok other
-    ∙ (λ i. with_rows (aggregates i) (selected c.args.mask.now rows) c.in_ok-slot.slot other
+    ∙ (λ i. tallies_with_rows (aggregates i) (selected_by c.args.mask.now rows) c.in_ok-slot.slot other
     (tallies_at (c.as_slice.ensures.value i) other)) in
     kept_batch dims inside.plan over inside.slots inside.columns.items c.self.invariant one c.ready_for_one.new.slots
     c.ready_for_one.new.columns.items found.cover found.grow found.same
@@ -125,9 +125,9 @@ returns-clause-ok c =
     (sym c.self.view_is) in
     let own = c.requires.mask in
     let is = λ (other : ℕ). c.in_ok-merged.ensures.ok other
-    ∙ (λ i. with_rows (aggregates i) (selected mask rows) c.in_ok-slot.slot other
+    ∙ (λ i. tallies_with_rows (aggregates i) (selected_by mask rows) c.in_ok-slot.slot other
     (tallies_at (c.as_slice.ensures.value i) other)) in
-    takes_all (Ok (tt {0})) dims old (selected mask rows) rows _ (mask_keeps dims old.query.conditions mask rows own)
+    takes_all (Ok (tt {0})) dims old (selected_by mask rows) rows _ (mask_keeps dims old.query.conditions mask rows own)
     (record {
       query = ap (λ state. state.query) c.self.view_is;
       represents = λ so_far represents.
@@ -167,23 +167,23 @@ returns-in_err-merged-clause-refused c =
     c.as_slice-aggregates.ensures ∙ ap (λ q. q.aggregates) c.query.ensures in
     let marks = c.requires.mask ∙ ap (λ (state : FoldState). map (is_selected dims state.query.conditions) rows)
     (sym c.self.view_is) ∙ marks_same dims (query_of inside.plan) rows others alike in
-    let given = subst (λ (state : FoldState). CanTake dims state (selected mask others)) (sym c.self.view_is)
+    let given = subst (λ (state : FoldState). CanTake dims state (selected_by mask others)) (sym c.self.view_is)
     (can_take_marked dims old mask others can) in
     let long = ap length marks ∙ length-map others (is_selected dims (query_of inside.plan).conditions) in
     let any = some_selected mask others long (λ none. c.if-count-eq0.false (c.count.ensures ∙ none)) in
     let room = room_at_same (query_of inside.plan) c.ready_for_one.new.columns.items c.in_ok-slot.slot
-    (selected mask rows) (selected mask others)
+    (selected_by mask rows) (selected_by mask others)
     (masked_same (is_asked (query_of inside.plan)) mask rows others alike)
     (room_one dims inside.plan over inside.slots inside.columns.items c.self.invariant one c.ready_for_one.new.slots
     c.ready_for_one.new.columns.items found.cover found.grow found.same
     c.in_ok-slot.slot c.in_ok-slot.ensures.slot mask others marks given.0 given.1.0 given.1.1 c.in_ok-slot.ensures.long
     any) in
     let there : HaveRoomAt c.as_slice-aggregates.result.now c.as_slice.result.now c.in_ok-slot.slot
-    (selected mask rows) =
-    subst (λ (aggs : List Agg). HaveRoomAt aggs c.as_slice.result.now c.in_ok-slot.slot (selected mask rows))
+    (selected_by mask rows) =
+    subst (λ (aggs : List Agg). HaveRoomAt aggs c.as_slice.result.now c.in_ok-slot.slot (selected_by mask rows))
     (sym aggregates)
     (subst (λ (columns : List (Vec Tally Global)). HaveRoomAt (query_of inside.plan).aggregates columns
-    c.in_ok-slot.slot (selected mask rows)) (sym c.as_slice.ensures.value) room) in
+    c.in_ok-slot.slot (selected_by mask rows)) (sym c.as_slice.ensures.value) room) in
     let is : c.in_err-merged.field-0.0 ≡ BadLayout = cc bad in
     elim c.in_err-merged.ensures.refused [
       | inl memory ↦ absurd (cc (is, memory))

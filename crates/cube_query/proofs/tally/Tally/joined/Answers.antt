@@ -2,7 +2,7 @@ use Rattle.std.proofs.Common.{◌≡◌, ◌≢◌, ◌∙◌, ◌+◌, ◌+ℤ�
 use Rattle.std.specs.Prelude.{◌==◌}
 use Rattle.std.specs.Int.{int_min, int_max}
 use Rattle.std.proofs.lemmas.Bool.Decides.{nat_tests}
-use Rattle.cube_query.specs.Tallies.{merged}
+use Rattle.cube_query.specs.Tallies.{merged_tally}
 use Rattle.cube_query.specs.declared.tally.Tally.{Tally}
 use Rattle.cube_query.proofs.tally.Tally.joined.Goals as goal
 
@@ -22,7 +22,7 @@ returns c =
     let some_right : (right.count == 0) ≡ false =
     (let apart : right.count ≢ 0 = λ e. c.if-get-eq0-2.false (c.get-2.ensures.value ∙ e) in
     grind (arith, nat_tests)) in
-    let whole : merged left right ≡ all = ap (λ b. cond b right (cond (right.count == 0) left all)) some_left
+    let whole : merged_tally left right ≡ all = ap (λ b. cond b right (cond (right.count == 0) left all)) some_left
     ∙ ap (λ b. cond b left all) some_right in
     let same : _ ≡ all = search rules in
     same ∙ sym whole

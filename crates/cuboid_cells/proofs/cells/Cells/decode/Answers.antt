@@ -1,6 +1,6 @@
 use Rattle.std.proofs.Common.{ℕ, ◌<◌, List, length, IsTrue, inr, refl, ap, subst, arith}
 use Rattle.std.proofs.lemmas.Result.{err_from_is_err_and}
-use Rattle.cuboid_cells.specs.Reading.{ReadsHeader}
+use Rattle.cuboid_cells.specs.Reading.{ReadsRunHeader}
 use Rattle.cuboid_cells.proofs.Decoded.{header_is_of, is_run, kept, they_keep, too_short}
 use Rattle.cuboid_cells.proofs.cells.Cells.decode.Goals as goal
 
@@ -18,7 +18,7 @@ pub returns-in_default-clause-refused : goal.returns-in_default-clause-refused
 returns-in_default-clause-refused c = inr (
   refl,
   λ span plain is.
-      let reads = subst (λ (bytes : List ℕ). ReadsHeader bytes c.read_header.new.cursor c.in_ok-header.header)
+      let reads = subst (λ (bytes : List ℕ). ReadsRunHeader bytes c.read_header.new.cursor c.in_ok-header.header)
       c.new-cursor.ensures c.in_ok-header.ensures.ok in
       c.in_default.ensures.none plain.view
       (header_is_of c.args.bytes.now c.read_header.new.cursor c.in_ok-header.header reads span plain is),
@@ -29,7 +29,7 @@ pub returns-then-not-fine-clause-refused : goal.returns-then-not-fine-clause-ref
 returns-then-not-fine-clause-refused c = inr (
   refl,
   λ span plain is.
-      let reads = subst (λ (bytes : List ℕ). ReadsHeader bytes c.read_header.new.cursor c.in_ok-header.header)
+      let reads = subst (λ (bytes : List ℕ). ReadsRunHeader bytes c.read_header.new.cursor c.in_ok-header.header)
       c.new-cursor.ensures c.in_ok-header.ensures.ok in
       let keep = they_keep c.args.bytes.now c.read_header.new.cursor c.in_ok-header.header reads c.read_cells.new.cursor
       c.in-Some.view c.in_ok-cells.cells.items
@@ -40,7 +40,7 @@ returns-then-not-fine-clause-refused c = inr (
 
 pub returns-clause-ok : goal.returns-clause-ok
 returns-clause-ok c =
-    let reads = subst (λ (bytes : List ℕ). ReadsHeader bytes c.read_header.new.cursor c.in_ok-header.header)
+    let reads = subst (λ (bytes : List ℕ). ReadsRunHeader bytes c.read_header.new.cursor c.in_ok-header.header)
     c.new-cursor.ensures c.in_ok-header.ensures.ok in
     let rules = kept c.in-Some.view c.in_ok-header.header.cells c.read_header.new.cursor c.read_cells.new.cursor
     c.in_ok-cells.cells.items c.in_ok-cells.ensures.ok

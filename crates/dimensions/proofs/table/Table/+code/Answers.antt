@@ -3,7 +3,7 @@ use Rattle.std.specs.Option.{option_map}
 use Rattle.std.proofs.lemmas.List.{get_or_read}
 use Rattle.dimensions.specs.TextRows.{column_of}
 use Rattle.dimensions.specs.Shapes.{lower_of}
-use Rattle.dimensions.specs.Columns.{place_of}
+use Rattle.dimensions.specs.Columns.{code_place}
 use Rattle.dimensions.specs.Tables.{column_at, no_column, lower_texts}
 use Rattle.dimensions.proofs.TableReads.{code_within, place_within, column_lt}
 use Rattle.dimensions.proofs.table.Table.+code.Goals as goal
@@ -24,12 +24,12 @@ code-requires-2 n c =
     sym (is.lowers c.args.column
     (column_lt axis rows c.args.self.now is c.args.column lt c.args.row c.requires.row))
     ∙ ap (λ t. t.lower) (sym first) ∙ sym c.lower.ensures in
-    let place : c.match-lower.place ≡ place_of (lower_texts axis c.args.column rows) c.args.row =
+    let place : c.match-lower.place ≡ code_place (lower_texts axis c.args.column rows) c.args.row =
     elim c.match-lower.branch [
       | in-None w ↦ w.place-is
-          ∙ ap (λ o. place_of (option_map (λ j. column_of j rows) o) c.args.row) (sym (lower ∙ w.in-None.is))
+          ∙ ap (λ o. code_place (option_map (λ j. column_of j rows) o) c.args.row) (sym (lower ∙ w.in-None.is))
       | in-Some w ↦ w.place-is ∙ w.from-place.ensures ∙ w.code.ensures axis rows is
-          ∙ ap (λ o. place_of (option_map (λ j. column_of j rows) o) c.args.row) (sym (lower ∙ w.in-Some.is))
+          ∙ ap (λ o. code_place (option_map (λ j. column_of j rows) o) c.args.row) (sym (lower ∙ w.in-Some.is))
     ] in
     let within = place_within axis rows c.args.self.now is c.args.column lt c.args.row c.requires.row in
     omega (arith, within, place, ap (λ t. length t.codes) second)
@@ -46,12 +46,12 @@ returns n c = λ axis rows is.
     sym (is.lowers c.args.column
     (column_lt axis rows c.args.self.now is c.args.column lt c.args.row c.requires.row))
     ∙ ap (λ t. t.lower) (sym first) ∙ sym c.lower.ensures in
-    let place : c.match-lower.place ≡ place_of (lower_texts axis c.args.column rows) c.args.row =
+    let place : c.match-lower.place ≡ code_place (lower_texts axis c.args.column rows) c.args.row =
     elim c.match-lower.branch [
       | in-None w ↦ w.place-is
-          ∙ ap (λ o. place_of (option_map (λ j. column_of j rows) o) c.args.row) (sym (lower ∙ w.in-None.is))
+          ∙ ap (λ o. code_place (option_map (λ j. column_of j rows) o) c.args.row) (sym (lower ∙ w.in-None.is))
       | in-Some w ↦ w.place-is ∙ w.from-place.ensures ∙ w.code.ensures axis rows is
-          ∙ ap (λ o. place_of (option_map (λ j. column_of j rows) o) c.args.row) (sym (lower ∙ w.in-Some.is))
+          ∙ ap (λ o. code_place (option_map (λ j. column_of j rows) o) c.args.row) (sym (lower ∙ w.in-Some.is))
     ] in
     c.code-2.ensures ∙ ap (λ t. get_or t.codes c.match-lower.place 0) second
     ∙ ap (λ n. get_or (column_at c.args.self.now c.args.column).codes n 0) place

@@ -1,5 +1,5 @@
 use Rattle.std.proofs.Common.{◌≡◌, ◌∙◌, sym, ap, refl, subst, inr, true≢false, ℕ, List, Option, Some, None, MatchOption}
-use Rattle.dimensions.specs.Coded.{AreDistinct}
+use Rattle.dimensions.specs.Coded.{KeysAreDistinct}
 use Rattle.dimensions.specs.Tables.{columns_from}
 use Rattle.dimensions.proofs.MadeLaws.{made, refused_columns, refused_keys}
 use Rattle.dimensions.proofs.table.Table.of_coded.Goals as goal
@@ -23,21 +23,22 @@ returns-then-not-has_proper_columns c =
 
 pub returns-in_default : goal.returns-in_default
 returns-in_default c =
-    let bad = absent (AreDistinct c.into_vec.result.items → ⊥)
-    (λ keys. (keys ≡ c.into_vec.result.items) × AreDistinct c.into_vec.result.items) c.in_ok-keys.field-0
+    let bad = absent (KeysAreDistinct c.into_vec.result.items → ⊥)
+    (λ keys. (keys ≡ c.into_vec.result.items) × KeysAreDistinct c.into_vec.result.items) c.in_ok-keys.field-0
     c.in_default.is c.in_ok-keys.ensures.ok in
     inr (
       refl,
       refused_keys c.args.axis c.args.coded
-          (λ distinct. bad (subst AreDistinct (sym (c.into_vec.ensures ∙ c.into_parts-keys.ensures.keys)) distinct)),
+          (λ distinct. bad
+          (subst KeysAreDistinct (sym (c.into_vec.ensures ∙ c.into_parts-keys.ensures.keys)) distinct)),
     )
 
 pub returns : goal.returns
 returns c =
-    let found = present _ (λ keys. (keys ≡ c.into_vec.result.items) × AreDistinct c.into_vec.result.items)
+    let found = present _ (λ keys. (keys ≡ c.into_vec.result.items) × KeysAreDistinct c.into_vec.result.items)
     c.in_ok-keys.field-0 c.in-Some.keys c.in-Some.is c.in_ok-keys.ensures.ok in
     made c.args.axis c.args.coded c.requires (c.has_proper_columns.ensures.0 c.if-not-has_proper_columns.false)
-    (subst AreDistinct (c.into_vec.ensures ∙ c.into_parts-keys.ensures.keys) found.1)
+    (subst KeysAreDistinct (c.into_vec.ensures ∙ c.into_parts-keys.ensures.keys) found.1)
     (record { keys = c.in-Some.keys; columns = c.in_ok-columns.columns })
     (found.0 ∙ c.into_vec.ensures ∙ c.into_parts-keys.ensures.keys)
     (c.in_ok-columns.ensures.ok

@@ -1,5 +1,5 @@
 use Rattle.std.proofs.Common.{sym, subst, ◌<◌, length}
-use Rattle.group_plan.specs.Columns.{IsColumn}
+use Rattle.group_plan.specs.Columns.{IsColumnAt}
 use Rattle.group_plan.specs.Numbers.{group_count}
 use Rattle.group_plan.proofs.EachDigit.{column_weight, column_digit}
 use Rattle.group_plan.proofs.over.GroupPlanOver.digit.Goals as goal
@@ -11,8 +11,8 @@ digit-requires-clause-weight c =
     let i = c.args.column in
     let column = c.index.result.now in
     let within : i < length columns = rw (← c.self.view_is) at c.requires.column in
-    let is : IsColumn dims columns i column =
-    subst (IsColumn dims columns i) (sym c.index.ensures) (c.self.invariant.columns.each i within column) in
+    let is : IsColumnAt dims columns i column =
+    subst (IsColumnAt dims columns i) (sym c.index.ensures) (c.self.invariant.columns.each i within column) in
     column_weight dims columns i column within is
 
 pub returns-clause-member : goal.returns-clause-member
@@ -22,7 +22,7 @@ returns-clause-member c =
     let i = c.args.column in
     let column = c.index.result.now in
     let within : i < length columns = rw (← c.self.view_is) at c.requires.column in
-    let is : IsColumn dims columns i column =
-    subst (IsColumn dims columns i) (sym c.index.ensures) (c.self.invariant.columns.each i within column) in
+    let is : IsColumnAt dims columns i column =
+    subst (IsColumnAt dims columns i) (sym c.index.ensures) (c.self.invariant.columns.each i within column) in
     let below : c.args.number < group_count dims columns = rw (← c.self.view_is) at c.requires.below in
     rw (← c.self.view_is, c.digit.ensures.value) (column_digit dims columns i column within is c.args.number below)

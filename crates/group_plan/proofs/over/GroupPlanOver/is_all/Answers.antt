@@ -3,8 +3,8 @@ use Rattle.std.specs.Prelude.{nat_le}
 use Rattle.std.proofs.lemmas.Bool.Decides.{nat_tests}
 use Rattle.std.proofs.lemmas.List.{get_or_past}
 use Rattle.cube_model.specs.declared.answer.Member.TheVariants.{All}
-use Rattle.group_plan.specs.Columns.{IsColumn, is_all}
-use Rattle.group_plan.specs.Numbers.{group_count, key_at}
+use Rattle.group_plan.specs.Columns.{IsColumnAt, is_all}
+use Rattle.group_plan.specs.Numbers.{group_count, group_key_at}
 use Rattle.group_plan.proofs.EachDigit.{column_weight, column_is_all, key_length}
 use Rattle.group_plan.proofs.over.GroupPlanOver.is_all.Goals as goal
 
@@ -16,8 +16,8 @@ is_all-requires-clause-weight c =
     let column = c.index.result.now in
     let within : i < length columns =
     omega (arith, c.if-column-len.false, c.len.ensures, c.self.invariant.columns.counted) in
-    let is : IsColumn dims columns i column =
-    subst (IsColumn dims columns i) (sym c.index.ensures) (c.self.invariant.columns.each i within column) in
+    let is : IsColumnAt dims columns i column =
+    subst (IsColumnAt dims columns i) (sym c.index.ensures) (c.self.invariant.columns.each i within column) in
     column_weight dims columns i column within is
 
 pub returns-else-column-len : goal.returns-else-column-len
@@ -28,8 +28,8 @@ returns-else-column-len c =
     let column = c.index.result.now in
     let within : i < length columns =
     omega (arith, c.if-column-len.false, c.len.ensures, c.self.invariant.columns.counted) in
-    let is : IsColumn dims columns i column =
-    subst (IsColumn dims columns i) (sym c.index.ensures) (c.self.invariant.columns.each i within column) in
+    let is : IsColumnAt dims columns i column =
+    subst (IsColumnAt dims columns i) (sym c.index.ensures) (c.self.invariant.columns.each i within column) in
     let below : c.args.number < group_count dims columns = rw (← c.self.view_is) at c.requires in
     rw (← c.self.view_is, c.is_all.ensures) (column_is_all dims columns i column within is c.args.number below)
 
@@ -37,7 +37,7 @@ pub returns-then-column-len : goal.returns-then-column-len
 returns-then-column-len c =
     let dims = c.self.inside.dims.now in
     let columns = c.self.inside.plan.now.query.columns in
-    let key = key_at dims columns c.args.number in
+    let key = group_key_at dims columns c.args.number in
     let past : get_or key c.args.column All ≡ All =
     get_or_past key c.args.column All
     (omega (

@@ -1,7 +1,7 @@
 use Rattle.std.proofs.Common.{◌≡◌, ◌∙◌, sym, ap, subst, arith, ◌<◌, true}
 use Rattle.std.specs.List.{list_all}
 use Rattle.cube_model.specs.declared.attr.Axis.TheVariants.{Customer, Supplier, Part, Date}
-use Rattle.group_plan.specs.Numbers.{group_count, key_at}
+use Rattle.group_plan.specs.Numbers.{group_count, group_key_at}
 use Rattle.group_plan.specs.Parts.{IsKnownFor, holds_in}
 use Rattle.group_plan.specs.Rows.{row_at}
 use Rattle.group_plan.proofs.Numbers.{known_in_columns, number_is}
@@ -98,5 +98,9 @@ returns-clause-ok g c =
     let found = numbered dims query row c.in-Ok-Some.customer c.in-Ok-Some-given.supplier c.in-Ok-Some-given-2.part
     c.in-Ok-Some-given-3.date inside customer supplier part date in
     let is = number_is dims row query.columns (known_in_columns dims query row known) in
-    let sum = c.sum_of.ensures ∙ found.1 in
-    (found.0, subst (λ n. n < group_count dims query.columns) (sym sum) is.0, ap (key_at dims query.columns) sum ∙ is.1)
+    let sum = c.sum_of.ensures ∙ found.1 in (
+      found.0,
+      subst (λ n. n < group_count dims query.columns) (sym sum) is.0,
+      ap (group_key_at dims query.columns) sum
+          ∙ is.1,
+    )

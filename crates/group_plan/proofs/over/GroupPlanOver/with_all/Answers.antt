@@ -1,5 +1,5 @@
 use Rattle.std.proofs.Common.{sym, subst, arith, ◌<◌, length}
-use Rattle.group_plan.specs.Columns.{IsColumn}
+use Rattle.group_plan.specs.Columns.{IsColumnAt}
 use Rattle.group_plan.specs.Numbers.{group_count}
 use Rattle.group_plan.proofs.EachDigit.{column_weight, column_whole, column_all_below, column_all}
 use Rattle.group_plan.proofs.over.GroupPlanOver.with_all.Goals as goal
@@ -11,8 +11,8 @@ with_all-requires-clause-weight c =
     let i = c.args.column in
     let column = c.index.result.now in
     let within : i < length columns = rw (← c.self.view_is) at c.requires.column in
-    let is : IsColumn dims columns i column =
-    subst (IsColumn dims columns i) (sym c.index.ensures) (c.self.invariant.columns.each i within column) in
+    let is : IsColumnAt dims columns i column =
+    subst (IsColumnAt dims columns i) (sym c.index.ensures) (c.self.invariant.columns.each i within column) in
     column_weight dims columns i column within is
 
 pub with_all-requires-clause-whole : goal.with_all-requires-clause-whole
@@ -22,8 +22,8 @@ with_all-requires-clause-whole c =
     let i = c.args.column in
     let column = c.index.result.now in
     let within : i < length columns = rw (← c.self.view_is) at c.requires.column in
-    let is : IsColumn dims columns i column =
-    subst (IsColumn dims columns i) (sym c.index.ensures) (c.self.invariant.columns.each i within column) in
+    let is : IsColumnAt dims columns i column =
+    subst (IsColumnAt dims columns i) (sym c.index.ensures) (c.self.invariant.columns.each i within column) in
     omega (arith, column_whole dims columns i column within is, c.self.invariant.counted, c.self.invariant.fits)
 
 pub with_all-requires-clause-fits : goal.with_all-requires-clause-fits
@@ -33,8 +33,8 @@ with_all-requires-clause-fits c =
     let i = c.args.column in
     let column = c.index.result.now in
     let within : i < length columns = rw (← c.self.view_is) at c.requires.column in
-    let is : IsColumn dims columns i column =
-    subst (IsColumn dims columns i) (sym c.index.ensures) (c.self.invariant.columns.each i within column) in
+    let is : IsColumnAt dims columns i column =
+    subst (IsColumnAt dims columns i) (sym c.index.ensures) (c.self.invariant.columns.each i within column) in
     let below : c.args.number < group_count dims columns = rw (← c.self.view_is) at c.requires.below in
     omega (
       arith,
@@ -50,8 +50,8 @@ returns-clause-below c =
     let i = c.args.column in
     let column = c.index.result.now in
     let within : i < length columns = rw (← c.self.view_is) at c.requires.column in
-    let is : IsColumn dims columns i column =
-    subst (IsColumn dims columns i) (sym c.index.ensures) (c.self.invariant.columns.each i within column) in
+    let is : IsColumnAt dims columns i column =
+    subst (IsColumnAt dims columns i) (sym c.index.ensures) (c.self.invariant.columns.each i within column) in
     let below : c.args.number < group_count dims columns = rw (← c.self.view_is) at c.requires.below in
     rw (← c.self.view_is, c.with_all.ensures) (column_all_below dims columns i column within is c.args.number below)
 
@@ -62,7 +62,7 @@ returns-clause-key c =
     let i = c.args.column in
     let column = c.index.result.now in
     let within : i < length columns = rw (← c.self.view_is) at c.requires.column in
-    let is : IsColumn dims columns i column =
-    subst (IsColumn dims columns i) (sym c.index.ensures) (c.self.invariant.columns.each i within column) in
+    let is : IsColumnAt dims columns i column =
+    subst (IsColumnAt dims columns i) (sym c.index.ensures) (c.self.invariant.columns.each i within column) in
     let below : c.args.number < group_count dims columns = rw (← c.self.view_is) at c.requires.below in
     rw (← c.self.view_is, c.with_all.ensures) (column_all dims columns i column within is c.args.number below)

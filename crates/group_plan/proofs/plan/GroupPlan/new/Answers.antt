@@ -1,7 +1,7 @@
 use Rattle.std.proofs.Common.{◌∙◌, ◌<◌, ◌^◌, sym, ap, subst, rules}
 use Rattle.cube_model.specs.declared.query.Query.{Query}
 use Rattle.group_plan.specs.Numbers.{group_count}
-use Rattle.group_plan.specs.Plans.{AreBounds, IsPlanOf}
+use Rattle.group_plan.specs.Plans.{AreBounds, IsGroupPlanOf}
 use Rattle.group_plan.proofs.Extending.{plan_over}
 use Rattle.group_plan.proofs.Numbers.{keys_rise}
 use Rattle.group_plan.proofs.plan.GroupPlan.new.Goals as goal
@@ -11,7 +11,7 @@ returns-clause-over c =
     let dims = c.args.dims.now in
     let query = c.args.query.now in
     let fits : c.group_count-count.result < 2 ^ 128 = search rules in
-    plan_over dims _ (subst (λ (copy : Query). IsPlanOf dims (record {
+    plan_over dims _ (subst (λ (copy : Query). IsGroupPlanOf dims (record {
       query = copy;
       bounds = c.of.result;
       columns = c.in_ok-copy.columns;

@@ -2,7 +2,7 @@ use Rattle.std.proofs.Common.{◌∙◌, ap, subst, sym, List, length, All}
 use Rattle.std.proofs.lemmas.List.Elements.{All-nil}
 use Rattle.journal_device.specs.Calls.{IsWithin}
 use Rattle.image_device.specs.ImageDisk.{sectors_in}
-use Rattle.journal_device.specs.After.{AreWhole}
+use Rattle.journal_device.specs.After.{CallsAreWhole}
 use Rattle.journal_device.specs.declared.call.Call.{Call}
 use Rattle.journal_device.proofs.Steps.{agrees_at_first, whole_at_first}
 use Rattle.journal_device.proofs.disk.JournalDisk.over.Goals as goal
@@ -13,7 +13,7 @@ invariant_of-result g c =
       over = c.in_ok-under.ensures.sectors ∙ ap sectors_in c.requires.origin;
       agrees = agrees_at_first image c.new-2.result.items c.new.result.entries c.new-2.ensures.items
           c.new.ensures.empty;
-      whole = subst (AreWhole image) (sym c.new-2.ensures.items) (whole_at_first image);
+      whole = subst (CallsAreWhole image) (sym c.new-2.ensures.items) (whole_at_first image);
       within = subst (λ (l : List Call). All (IsWithin (length (sectors_in image))) l) (sym c.new-2.ensures.items)
           (All-nil (IsWithin (length (sectors_in image))));
     }

@@ -4,8 +4,8 @@ use Rattle.journal_device.specs.Calls.{IsWithin}
 use Rattle.sector_device.specs.Device.{Syncs}
 use Rattle.sector_device.specs.Memory.{content}
 use Rattle.image_device.specs.ImageDisk.{sectors_in}
-use Rattle.journal_device.specs.After.{state_after, AreWhole}
-use Rattle.journal_device.specs.Latest.{Agrees}
+use Rattle.journal_device.specs.After.{state_after, CallsAreWhole}
+use Rattle.journal_device.specs.Latest.{ShowsLatest}
 use Rattle.journal_device.specs.declared.call.Call.{Call}
 use Rattle.journal_device.specs.declared.call.Call.TheVariants.{Sync}
 use Rattle.journal_device.proofs.Within.{a_sync}
@@ -20,11 +20,12 @@ invariant_of-self g c =
     let r = c.record_sync-outcome in record {
       over = c.args.self.now.over;
       agrees = either
-          (λ (l : List Call). Agrees (content (sectors_in image)) (state_after image l).reads
+          (λ (l : List Call). ShowsLatest (content (sectors_in image)) (state_after image l).reads
           c.args.self.now.latest.entries) r.result calls (calls ++ Sync ∷ []) r.new.calls.items r.ensures.ok
           r.ensures.err
           (agrees_synced image calls c.args.self.now.latest.entries c.args.self.now.agrees) c.args.self.now.agrees;
-      whole = either (AreWhole image) r.result calls (calls ++ Sync ∷ []) r.new.calls.items r.ensures.ok r.ensures.err
+      whole = either (CallsAreWhole image) r.result calls (calls ++ Sync ∷ []) r.new.calls.items r.ensures.ok
+          r.ensures.err
           (whole_synced image calls c.args.self.now.whole) c.args.self.now.whole;
       within = either (All (IsWithin size)) r.result calls (calls ++ Sync ∷ []) r.new.calls.items r.ensures.ok
           r.ensures.err (All-push (IsWithin size) calls Sync c.args.self.now.within (a_sync size))

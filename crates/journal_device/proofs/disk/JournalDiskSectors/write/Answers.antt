@@ -2,8 +2,8 @@ use Rattle.std.proofs.Common.{◌∷◌, ◌++◌, [], List, length, All, arith}
 use Rattle.std.proofs.lemmas.List.Elements.{All-push}
 use Rattle.image_device.specs.ImageDisk.{sectors_in}
 use Rattle.journal_device.specs.Calls.{IsWithin}
-use Rattle.sector_device.specs.Device.{Writes}
-use Rattle.journal_device.specs.After.{state_after, AreWhole}
+use Rattle.sector_device.specs.Device.{WritesSector}
+use Rattle.journal_device.specs.After.{state_after, CallsAreWhole}
 use Rattle.journal_device.specs.declared.call.Call.{Call}
 use Rattle.journal_device.specs.declared.call.Call.TheVariants.{Write}
 use Rattle.journal_device.proofs.Within.{a_write}
@@ -21,7 +21,7 @@ invariant_of-self g c =
       agrees = agrees_either r.result image calls r.new.calls.items c.args.i c.args.from.now
           c.args.self.now.latest.entries r.new.latest.entries r.ensures.ok r.ensures.kept r.ensures.err
           c.args.self.now.agrees;
-      whole = either (AreWhole image) r.result calls more r.new.calls.items r.ensures.ok
+      whole = either (CallsAreWhole image) r.result calls more r.new.calls.items r.ensures.ok
           (no_call r.result calls r.new.calls.items _ r.ensures.err)
           (whole_written image calls c.args.i c.args.from.now (omega (arith, c.fits-from)) c.args.self.now.whole)
           c.args.self.now.whole;
@@ -37,6 +37,7 @@ returns-clause-writes g c =
     let calls = c.args.self.now.calls.items in
     let r = c.record_write-outcome in
     let more = calls ++ Write c.args.i c.args.from.now ∷ [] in
-    either (λ (l : List Call). Writes c.args.i c.args.from.now (state_after image calls) (state_after image l)) r.result
+    either (λ (l : List Call). WritesSector c.args.i c.args.from.now (state_after image calls) (state_after image l))
+    r.result
     calls more r.new.calls.items r.ensures.ok (no_call r.result calls r.new.calls.items _ r.ensures.err)
     (writes image calls c.args.i c.args.from.now) (writes_nothing c.args.i c.args.from.now (state_after image calls))

@@ -1,4 +1,4 @@
-use Rattle.lattice.specs.Sizes.{members_at, modes_of}
+use Rattle.lattice.specs.Sizes.{members_at, mode_count}
 use Rattle.lattice.proofs.Products.{cut_all}
 use Rattle.lattice.proofs.view.View.size.Goals as goal
 
@@ -17,4 +17,5 @@ returns c = rw (
 )
     (cut_all c.args.rows (members_at c.args.counts.now.customer c.args.self.customer)
     (members_at c.args.counts.now.supplier c.args.self.supplier) (members_at c.args.counts.now.part c.args.self.part)
-    (members_at c.args.counts.now.date c.args.self.date) (modes_of c.args.counts.now.ship_modes c.args.self.ship_mode))
+    (members_at c.args.counts.now.date c.args.self.date)
+    (mode_count c.args.counts.now.ship_modes c.args.self.ship_mode))

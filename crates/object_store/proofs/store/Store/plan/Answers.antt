@@ -3,10 +3,10 @@ use Rattle.std.specs.Prelude.{IfOk}
 use Rattle.std.proofs.lemmas.Result.{IfErr-weaker}
 use Rattle.wire.specs.Limits.{most_objects}
 use Rattle.object_store.specs.declared.catalogue.entry.Entry.{Entry}
-use Rattle.object_store.specs.Commit.{puts_of, put_each, drop_each, size_of}
+use Rattle.object_store.specs.Commit.{puts_of, put_each, drop_each, put_size}
 use Rattle.object_store.specs.Places.{sizes_at, used_by}
 use Rattle.object_store.specs.Publish.{IsPlanOver}
-use Rattle.object_store.specs.Room.{LacksPlaces, asked_for}
+use Rattle.object_store.specs.Room.{LacksPlaces, sectors_asked_for}
 use Rattle.object_store.proofs.Committing.{few_commit, lacks_room}
 use Rattle.object_store.proofs.store.Store.plan.Goals as goal
 
@@ -14,7 +14,7 @@ pub next_plan-requires-clause-few : goal.next_plan-requires-clause-few
 next_plan-requires-clause-few g c =
     let store = c.args.self.now in
     subst (λ (l : List Entry). length
-    (put_each (λ o. o.0) (map size_of (puts_of c.args.puts.now))
+    (put_each (λ o. o.0) (map put_size (puts_of c.args.puts.now))
     (sizes_at (drop_each (λ e. e.id) c.args.drops.now l))) ≤ most_objects) (sym c.deref.ensures.value)
     (few_commit (g.D.Sectors.state store.device).reads store.superblock store.entries.items store.root.items
     (puts_of c.args.puts.now) c.args.drops.now c.args.root.now c.args.layout c.requires.few)
@@ -34,6 +34,6 @@ returns-clause-refuses g c =
       lacks_room store.superblock.sectors (used_by store.superblock store.entries.items) store.entries.items
           (puts_of c.args.puts.now) c.args.drops.now c.args.root.now
           (subst (λ (l : List Entry). LacksPlaces store.superblock.sectors (used_by store.superblock l)
-          (asked_for (sizes_at (drop_each (λ e. e.id) c.args.drops.now l)) (puts_of c.args.puts.now)
+          (sectors_asked_for (sizes_at (drop_each (λ e. e.id) c.args.drops.now l)) (puts_of c.args.puts.now)
           c.args.root.now)) c.deref.ensures.value full.1),
     ))) why) c.next_plan.ensures.refused

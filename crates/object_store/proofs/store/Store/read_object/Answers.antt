@@ -1,7 +1,7 @@
 use Rattle.std.proofs.Common.{◌∙◌, ◌≡◌, ◌++◌, List, ℕ, Some, take, sym, ap, arith}
 use Rattle.extents.specs.Extents.{IsInRange}
 use Rattle.superblock.specs.Superblock.{sectors_of}
-use Rattle.object_store.specs.Places.{extent_of, run_bytes}
+use Rattle.object_store.specs.Places.{extent_of, sectors_bytes}
 use Rattle.object_store.specs.Disk.{disk}
 use Rattle.object_store.proofs.Contents.{found_range, bytes_some, read_leaves}
 use Rattle.object_store.proofs.store.Store.read_object.Goals as goal
@@ -34,10 +34,10 @@ returns-in-Ok-clause-bytes g c w =
     let reads = (g.D.Sectors.state store.device).reads in
     let e = c.args.entry in
     let many : c.div_ceil-sectors.result ≡ sectors_of e.bytes = omega (arith, c.div_ceil-sectors.ensures) in
-    let run : c.push_sectors.new.to.items ≡ run_bytes reads e.first (sectors_of e.bytes) =
+    let run : c.push_sectors.new.to.items ≡ sectors_bytes reads e.first (sectors_of e.bytes) =
     c.in-Ok.ensures.bytes w
-    ∙ ap (λ (l : List ℕ). l ++ run_bytes reads e.first c.div_ceil-sectors.result) c.requires.none
-    ∙ ap (λ (n : ℕ). run_bytes reads e.first n) many in
+    ∙ ap (λ (l : List ℕ). l ++ sectors_bytes reads e.first c.div_ceil-sectors.result) c.requires.none
+    ∙ ap (λ (n : ℕ). sectors_bytes reads e.first n) many in
     ap (λ (l : List ℕ). Some l) (c.truncate.ensures.items ∙ ap (λ (l : List ℕ). take e.bytes l) run)
     ∙ sym (bytes_some reads store.entries.items c.args.id e c.requires.found)
 

@@ -2,7 +2,8 @@ use Rattle.std.proofs.Common.{◌≡◌, ◌∙◌, [], ap, get_or, option_map}
 use Rattle.cube_model.specs.declared.answer.Member.TheVariants.{All}
 use Rattle.cube_query.specs.GroupLines.{line_at}
 use Rattle.mode_queries.specs.Names.{column_names}
-use Rattle.report_formats.specs.Fields.{member_field, member_fields, member_of}
+use Rattle.mode_queries.specs.Joining.{member_of}
+use Rattle.report_formats.specs.Fields.{member_field, member_fields}
 use Rattle.report_formats.proofs.Members.{member_found}
 use Rattle.report_formats.proofs.Pairs.{get_or-paired, in_first, in_second}
 use Rattle.report_formats.proofs.fields.MemberFieldsFields.write_field.Goals as goal

@@ -1,6 +1,6 @@
 use Rattle.std.proofs.Common.{◌≡◌, ◌∙◌, ap, sym, subst}
 use Rattle.std.proofs.lemmas.Result.{err_from_is_err_and}
-use Rattle.answer_merge.specs.Wide.{lines_of}
+use Rattle.answer_merge.specs.Wide.{narrow_lines}
 use Rattle.answer_merge.specs.Finishing.{CanBeFinished, FinishRefuses}
 use Rattle.mode_queries.specs.declared.query.ModeQuery.{ModeQuery}
 use Rattle.report_formats.specs.declared.asked.Asked.{Asked}
@@ -18,7 +18,7 @@ returns-clause-answer c =
     ∙ ap (λ (asked : ModeQuery). query_for c.args.layout asked.query) c.without_modes.ensures in
     subst (λ (part : Part). c.in_ok-answer.answer ≡ finished_for c.args.layout part.query part.answer) c.self.view_is
     (done c.args.layout inside.query c.in_ok-asked.asked.query.query c.asks_for_counts-counts.result
-    (lines_of inside.lines.items) (lines_of c.in_ok-lines.lines.items)
+    (narrow_lines inside.lines.items) (narrow_lines c.in_ok-lines.lines.items)
     c.in_ok-answer.answer asked_is c.asks_for_counts-counts.ensures
     c.in_ok-lines.ensures.lines c.in_ok-answer.ensures.ok)
 
@@ -28,9 +28,9 @@ returns-in_err-answer-clause-complete c = λ can.
     let fine = subst (λ (part : Part). CanBeFinished part.answer) (sym c.self.view_is) can in
     let p = err_from_is_err_and c.from_residual-in_err-answer.result c.from_residual-in_err-answer.ensures.1 in
     rw p.1 (fine_memory c.in_ok-asked.asked.query.query.aggregates c.asks_for_counts-counts.result
-    (lines_of inside.lines.items) (lines_of c.in_ok-lines.lines.items) p.0
+    (narrow_lines inside.lines.items) (narrow_lines c.in_ok-lines.lines.items) p.0
     c.in_ok-lines.ensures.lines fine
-    (subst (FinishRefuses c.in_ok-asked.asked.query.query.aggregates (lines_of c.in_ok-lines.lines.items)) (sym p.2)
+    (subst (FinishRefuses c.in_ok-asked.asked.query.query.aggregates (narrow_lines c.in_ok-lines.lines.items)) (sym p.2)
     c.in_err-answer.ensures.refused))
 
 pub returns-in_err-answer-clause-refused : goal.returns-in_err-answer-clause-refused
@@ -43,7 +43,7 @@ returns-in_err-answer-clause-refused c =
     (λ (part : Part). FinishRefuses (query_for c.args.layout part.query).aggregates
     (partial_for c.args.layout part.query part.answer).lines p.0) c.self.view_is
     (refused_for c.args.layout inside.query c.in_ok-asked.asked.query.query c.asks_for_counts-counts.result
-    (lines_of inside.lines.items) (lines_of c.in_ok-lines.lines.items) p.0
+    (narrow_lines inside.lines.items) (narrow_lines c.in_ok-lines.lines.items) p.0
     asked_is c.asks_for_counts-counts.ensures c.in_ok-lines.ensures.lines
-    (subst (FinishRefuses c.in_ok-asked.asked.query.query.aggregates (lines_of c.in_ok-lines.lines.items)) (sym p.2)
+    (subst (FinishRefuses c.in_ok-asked.asked.query.query.aggregates (narrow_lines c.in_ok-lines.lines.items)) (sym p.2)
     c.in_err-answer.ensures.refused)))

@@ -1,14 +1,14 @@
 use Rattle.std.proofs.Common.{◌≡◌, ◌∙◌, ap, subst, sym, List}
 use Rattle.std.proofs.lemmas.Result.{err_from_is_err_and}
 use Rattle.answer_merge.specs.Parts.{partial_query}
-use Rattle.answer_merge.specs.Wide.{lines_of}
+use Rattle.answer_merge.specs.Wide.{narrow_lines}
 use Rattle.partial_reports.specs.declared.head.Head.{Head}
 use Rattle.partial_reports.specs.declared.words.Word.{Word}
 use Rattle.partial_reports.specs.HeadReading.{IsDigest}
 use Rattle.ssb_reports.specs.Report.{report_of}
 use Rattle.report_merge.specs.Kept.{IsMore}
 use Rattle.report_merge.specs.Merging.{Part, SpellsWords}
-use Rattle.report_merge.specs.Refusals.{AddRefuses, BeginsWith, IsUnlike, NumbersRefuse}
+use Rattle.report_merge.specs.Refusals.{RefusesAdding, BeginsWith, IsUnlike, NumbersRefuse}
 use Rattle.report_merge.proofs.Given.{one_query}
 use Rattle.report_merge.proofs.Grown.{one_more}
 use Rattle.report_merge.proofs.Refusing.{add_numbers, add_unlike, add_unread, answer_read}
@@ -31,7 +31,7 @@ returns-in_err-check_alike-clause-refused c =
       digest = inside.digest;
       query = inside.query;
       answer = record {
-        lines = lines_of inside.lines.items;
+        lines = narrow_lines inside.lines.items;
       };
     } in
     let digest : IsDigest read.digest =
@@ -45,7 +45,7 @@ returns-in_err-check_alike-clause-refused c =
     } in
     let p = err_from_is_err_and c.from_residual-in_err-check_alike.result
     c.from_residual-in_err-check_alike.ensures.1 in
-    rw p.1 (subst (λ (one : Part). AddRefuses one c.args.text.now p.0) c.self.view_is
+    rw p.1 (subst (λ (one : Part). RefusesAdding one c.args.text.now p.0) c.self.view_is
     (add_unlike part c.args.text.now read.head read.digest p.0 begins
     (subst (IsUnlike inside.head inside.digest read.head read.digest) (sym p.2) c.in_err-check_alike.ensures.refused)))
 
@@ -59,7 +59,7 @@ returns-in_err-numbers-clause-refused c =
       digest = inside.digest;
       query = inside.query;
       answer = record {
-        lines = lines_of inside.lines.items;
+        lines = narrow_lines inside.lines.items;
       };
     } in
     let digest : IsDigest read.digest =
@@ -72,7 +72,7 @@ returns-in_err-numbers-clause-refused c =
       spelled = c.in_ok-read.ensures.text;
     } in
     let p = err_from_is_err_and c.from_residual-in_err-numbers.result c.from_residual-in_err-numbers.ensures.1 in
-    rw p.1 (subst (λ (one : Part). AddRefuses one c.args.text.now p.0) c.self.view_is
+    rw p.1 (subst (λ (one : Part). RefusesAdding one c.args.text.now p.0) c.self.view_is
     (add_numbers part c.args.text.now read.head read.digest c.as_slice.result.now c.as_slice-2.result.now p.0 begins
     (record {
       words = c.in_ok-check_alike.ensures.words;
@@ -94,11 +94,11 @@ returns-in_err-answer-clause-refused c =
       digest = inside.digest;
       query = inside.query;
       answer = record {
-        lines = lines_of inside.lines.items;
+        lines = narrow_lines inside.lines.items;
       };
     } in
     let p = err_from_is_err_and c.from_residual-in_err-answer.result c.from_residual-in_err-answer.ensures.1 in
-    rw p.1 (subst (λ (one : Part). AddRefuses one c.args.text.now p.0) c.self.view_is
+    rw p.1 (subst (λ (one : Part). RefusesAdding one c.args.text.now p.0) c.self.view_is
     (add_unread part c.args.text.now p.0 _ (λ other is.
     let heads =
     c.in_ok-read.ensures.complete other.head other.digest (report_of (partial_query other.query) other.answer)
@@ -122,7 +122,7 @@ returns-clause-ok c =
       digest = inside.digest;
       query = inside.query;
       answer = record {
-        lines = lines_of inside.lines.items;
+        lines = narrow_lines inside.lines.items;
       };
     } in
     subst (λ (one : Part). IsMore one c.args.text.now c.in_ok-numbers.numbers c.in_ok-answer.answer) c.self.view_is

@@ -1,7 +1,7 @@
 use Rattle.std.proofs.Common.{◌∙◌, ◌++◌, ap, subst}
 use Rattle.std.proofs.lemmas.Result.{err_from_is_err_and}
 use Rattle.answer_merge.specs.Parts.{partial_query}
-use Rattle.answer_merge.specs.Wide.{lines_of}
+use Rattle.answer_merge.specs.Wide.{narrow_lines}
 use Rattle.partial_reports.specs.Head.{head_text}
 use Rattle.ssb_reports.specs.Report.{report_of}
 use Rattle.report_merge.specs.Merging.{Part}
@@ -27,7 +27,7 @@ returns g c =
       digest = inside.digest;
       query = inside.query;
       answer = record {
-        lines = lines_of inside.lines.items;
+        lines = narrow_lines inside.lines.items;
       };
     } in
     subst (λ (one : Part). WritesOrKeeps old new c.write_text.result
@@ -35,5 +35,5 @@ returns g c =
     (part_written old new c.write_text.result part c.as_slice-3.result.now inside.partial
     (record { lines = c.in_ok-lines.lines })
     (c.as_slice-3.ensures.value ∙ c.in_ok-head.ensures.ok) c.self.invariant.partial_is
-    (ap (λ all. record { lines = all }) (c.in_ok-lines.ensures.ok ∙ ap lines_of c.as_slice-2.ensures.value))
+    (ap (λ all. record { lines = all }) (c.in_ok-lines.ensures.ok ∙ ap narrow_lines c.as_slice-2.ensures.value))
     c.write_text.ensures)

@@ -1,5 +1,5 @@
 use Rattle.std.proofs.Common.{◌≡◌, ◌+◌, ◌<◌, ◌*◌, ℕ, take, drop}
-use Rattle.sector_device.specs.Device.{Stays}
+use Rattle.sector_device.specs.Device.{CandidatesStay}
 use Rattle.sector_device.proofs.device.Sectors.read_run.Given as goal
 
 abbrev pub invariant-loop-k : goal.invariant-loop-k
@@ -10,5 +10,5 @@ invariant-loop-k g l =
       word : D.keeps_word l.self → D.keeps_word l.initial.self;
       goes_on : D.always_keeps → D.keeps_word l.initial.self → D.keeps_word l.self;
       bytes : D.keeps_word l.self → (k : ℕ) → k < l.k → take 512 (drop (k * 512) l.to) ≡ old.reads (l.first + k);
-      stays : D.keeps_word l.self → Stays old now;
+      stays : D.keeps_word l.self → CandidatesStay old now;
     }

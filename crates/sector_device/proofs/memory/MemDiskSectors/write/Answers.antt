@@ -1,7 +1,7 @@
 use Rattle.std.proofs.Common.{◌≡◌, ◌∷◌, List, ℕ, length, reverse, ap, subst, sym, ◌∙◌, refl, rules, arith, ◌<◌}
 use Rattle.std.proofs.Math.ListN.{set}
 use Rattle.std.proofs.lemmas.List.{length-set}
-use Rattle.sector_device.specs.Device.{Writes}
+use Rattle.sector_device.specs.Device.{WritesSector}
 use Rattle.sector_device.specs.Memory.{content, memory_state, AreWhole}
 use Rattle.sector_device.specs.declared.change.Change.{Change}
 use Rattle.sector_device.specs.declared.change.Change.TheVariants.{Replaced}
@@ -39,7 +39,7 @@ returns-clause-writes c =
     let old : c.index-old.result.now ≡ content sectors c.args.i =
     any_default sectors c.args.i c.index-old.result.now below c.index-old.ensures in
     let is = c.in_ok-noted.ensures.ok ∙ ap (λ (b : List ℕ). Replaced c.args.i b ∷ log) old in
-    subst (λ (l : List Change). Writes c.args.i c.args.from.now (memory_state sectors log)
+    subst (λ (l : List Change). WritesSector c.args.i c.args.from.now (memory_state sectors log)
     (memory_state (set sectors c.args.i c.args.from.now) l)) (sym is)
     (writes sectors log c.args.i c.args.from.now below)
 

@@ -7,7 +7,7 @@ use Rattle.object_store.specs.Disk.{Leaves}
 use Rattle.object_store.specs.Store as stores
 use Rattle.object_store.specs.declared.store.Store.{Store}
 use Rattle.object_store.proofs.CallerLemmas.{generation_after}
-use Rattle.warehouse_root.specs.Layouts.{number_of}
+use Rattle.warehouse_root.specs.Layouts.{layout_number}
 use Rattle.warehouse_root.proofs.CallerLemmas.{root_is_short}
 use Rattle.warehouse_objects.specs.Warehouse.{loaded}
 use Rattle.warehouse_objects.specs.Represents.{Represents}
@@ -59,7 +59,7 @@ invariant_of-self g c = record {
       let puts = puts_of (take c.puts_of-count.result.1 c.puts_of-count.result.0) in
       let ready = c.requires.ready.1 in
       let bytes_are = c.as_slice.ensures.value ∙ ready.spelled.spelled in
-      let layout_is = c.number-layout.ensures ∙ ap number_of c.layout.ensures.value in
+      let layout_is = c.number-layout.ensures ∙ ap layout_number c.layout.ensures.value in
       let was = s.loaded c.requires.fine ((c.commit.ensures.leaves c.requires.fine).word k) in
       subst (λ (x : Content). IsLoaded x s.dims.value c.in-Some.more.modes p.root) (sym (c.in-Ok.ensures.ok k))
       (subst (λ (m : List (List ℕ)). IsLoaded (committed puts [] c.as_slice.result.now c.number-layout.result content)
@@ -78,7 +78,7 @@ invariant_of-self-in_default g c = record {
       let puts = puts_of (take c.puts_of-count.result.1 c.puts_of-count.result.0) in
       let ready = c.requires.ready.1 in
       let bytes_are = c.as_slice.ensures.value ∙ ready.spelled.spelled in
-      let layout_is = c.number-layout.ensures ∙ ap number_of c.layout.ensures.value in
+      let layout_is = c.number-layout.ensures ∙ ap layout_number c.layout.ensures.value in
       let was = s.loaded c.requires.fine ((c.commit.ensures.leaves c.requires.fine).word k) in
       subst (λ (x : Content). IsLoaded x s.dims.value s.modes p.root) (sym (c.in-Ok.ensures.ok k))
       (subst (λ (m : List (List ℕ)). IsLoaded (committed puts [] c.as_slice.result.now c.number-layout.result content)
@@ -97,7 +97,7 @@ returns-after-more-clause-leaves g c = λ w rows ready.
     let at = ready.at in
     let is = ready.prepared_is in
     let bytes_are = c.as_slice.ensures.value ∙ is.spelled.spelled in
-    let layout_is = c.number-layout.ensures ∙ ap number_of c.layout.ensures.value in
+    let layout_is = c.number-layout.ensures ∙ ap layout_number c.layout.ensures.value in
     let model = λ (k : g.D.Sectors.keeps_word (stores.device_of s.store)). ready_agrees w c.args.number rows s.root p
     puts c.puts_of-count.ensures.puts is
     (ready.admissible k) in
@@ -119,7 +119,7 @@ returns-in-Err-clause-leaves g c = λ w rows ready.
     let at = ready.at in
     let is = ready.prepared_is in
     let bytes_are = c.as_slice.ensures.value ∙ is.spelled.spelled in
-    let layout_is = c.number-layout.ensures ∙ ap number_of c.layout.ensures.value in
+    let layout_is = c.number-layout.ensures ∙ ap layout_number c.layout.ensures.value in
     let model = λ (k : g.D.Sectors.keeps_word (stores.device_of s.store)). ready_agrees w c.args.number rows s.root p
     puts c.puts_of-count.ensures.puts is
     (ready.admissible k) in
@@ -136,7 +136,7 @@ returns-after-more-clause-ok g c = λ w rows ready.
     let at = ready.at in
     let is = ready.prepared_is in
     let bytes_are = c.as_slice.ensures.value ∙ is.spelled.spelled in
-    let layout_is = c.number-layout.ensures ∙ ap number_of c.layout.ensures.value in
+    let layout_is = c.number-layout.ensures ∙ ap layout_number c.layout.ensures.value in
     let model = λ (k : g.D.Sectors.keeps_word (stores.device_of s.store)). ready_agrees w c.args.number rows s.root p
     puts c.puts_of-count.ensures.puts is
     (ready.admissible k) in
@@ -188,7 +188,7 @@ returns-in-Err-clause-causes g c = λ cause w rows ready k.
     let at = ready.at in
     let is = ready.prepared_is in
     let bytes_are = c.as_slice.ensures.value ∙ is.spelled.spelled in
-    let layout_is = c.number-layout.ensures ∙ ap number_of c.layout.ensures.value in
+    let layout_is = c.number-layout.ensures ∙ ap layout_number c.layout.ensures.value in
     let model = λ (k : g.D.Sectors.keeps_word (stores.device_of s.store)). ready_agrees w c.args.number rows s.root p
     puts c.puts_of-count.ensures.puts is
     (ready.admissible k) in

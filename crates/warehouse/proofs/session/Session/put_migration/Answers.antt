@@ -3,7 +3,7 @@ use Rattle.wire.specs.Limits.{most_root_bytes}
 use Rattle.object_store.specs.Content.{Content}
 use Rattle.object_store.specs.Store as stores
 use Rattle.object_store.proofs.CallerLemmas.{generation_after}
-use Rattle.warehouse_root.specs.Layouts.{number_of}
+use Rattle.warehouse_root.specs.Layouts.{layout_number}
 use Rattle.warehouse_root.proofs.CallerLemmas.{root_is_short}
 use Rattle.warehouse_objects.specs.Loaded.{IsLoaded}
 use Rattle.warehouse_objects.specs.Represents.{Represents}
@@ -38,7 +38,7 @@ invariant_of-self g c = record {
       let m = c.args.migration in
       let puts : List (ℕ × List ℕ) = (5, c.as_slice.result.now) ∷ [] in
       let puts_are : puts ≡ (5, m.bytes.items) ∷ [] = ap (λ (b : List ℕ). (5, b) ∷ []) c.as_slice.ensures.value in
-      let layout_is = c.number-layout.ensures ∙ ap number_of c.layout.ensures.value in
+      let layout_is = c.number-layout.ensures ∙ ap layout_number c.layout.ensures.value in
       let was = s.loaded c.requires.fine ((c.commit.ensures.leaves c.requires.fine).word k) in
       subst (λ (x : Content). IsLoaded x s.dims.value m.modes m.root) (sym (c.in-Ok.ensures.ok k))
       (loaded_moved content s.root m c.requires.ready puts c.as_slice-2.result.now c.number-layout.result puts_are
@@ -52,7 +52,7 @@ returns-in-Ok-clause-leaves g c w at of first =
     let m = c.args.migration in
     let puts : List (ℕ × List ℕ) = (5, c.as_slice.result.now) ∷ [] in
     let puts_are : puts ≡ (5, m.bytes.items) ∷ [] = ap (λ (b : List ℕ). (5, b) ∷ []) c.as_slice.ensures.value in
-    let layout_is = c.number-layout.ensures ∙ ap number_of c.layout.ensures.value in
+    let layout_is = c.number-layout.ensures ∙ ap layout_number c.layout.ensures.value in
     moved_leaves content s.root m c.requires.ready puts c.as_slice-2.result.now c.number-layout.result puts_are
     c.as_slice-2.ensures.value layout_is w (stores.disk_of g.D.Sectors s.store)
     (stores.disk_of g.D.Sectors c.commit.new.self)
@@ -65,7 +65,7 @@ returns-in-Err-clause-leaves g c w at of first =
     let m = c.args.migration in
     let puts : List (ℕ × List ℕ) = (5, c.as_slice.result.now) ∷ [] in
     let puts_are : puts ≡ (5, m.bytes.items) ∷ [] = ap (λ (b : List ℕ). (5, b) ∷ []) c.as_slice.ensures.value in
-    let layout_is = c.number-layout.ensures ∙ ap number_of c.layout.ensures.value in
+    let layout_is = c.number-layout.ensures ∙ ap layout_number c.layout.ensures.value in
     moved_leaves content s.root m c.requires.ready puts c.as_slice-2.result.now c.number-layout.result puts_are
     c.as_slice-2.ensures.value layout_is w (stores.disk_of g.D.Sectors s.store)
     (stores.disk_of g.D.Sectors c.commit.new.self)
@@ -78,7 +78,7 @@ returns-in-Ok-clause-ok g c w at of first =
     let m = c.args.migration in
     let puts : List (ℕ × List ℕ) = (5, c.as_slice.result.now) ∷ [] in
     let puts_are : puts ≡ (5, m.bytes.items) ∷ [] = ap (λ (b : List ℕ). (5, b) ∷ []) c.as_slice.ensures.value in
-    let layout_is = c.number-layout.ensures ∙ ap number_of c.layout.ensures.value in
+    let layout_is = c.number-layout.ensures ∙ ap layout_number c.layout.ensures.value in
     let word = (c.commit.ensures.leaves at.fine).word in (
       is_at g.D.Sectors _ (migrated w) c.in-Ok.ensures.fine.1
           (λ k. subst (λ (x : Content). Represents x (migrated w)) (sym (c.in-Ok.ensures.ok k))

@@ -7,7 +7,7 @@ use Rattle.object_store.specs.Moments.{leaves_weaker}
 use Rattle.object_store.specs.Commit.{ArePuts, committed, puts_of}
 use Rattle.object_store.specs.Store as stores
 use Rattle.object_store.proofs.CallerLemmas.{generation_after}
-use Rattle.warehouse_root.specs.Layouts.{number_of}
+use Rattle.warehouse_root.specs.Layouts.{layout_number}
 use Rattle.warehouse_root.proofs.CallerLemmas.{root_is_short}
 use Rattle.warehouse_objects.specs.Represents.{Represents}
 use Rattle.warehouse_objects.specs.Loaded.{IsLoaded}
@@ -82,7 +82,7 @@ invariant_of-self g c =
           s.modes wider.root) (sym is.dims_are)
           (loaded_wider content (puts_of c.as_slice-2.result.now) c.as_slice-3.result.now c.number-layout.result
           s.dims.value more s.root wider.root puts_are bytes_are is.root_is
-          (c.number-layout.ensures ∙ ap number_of c.layout.ensures.value) s.modes was));
+          (c.number-layout.ensures ∙ ap layout_number c.layout.ensures.value) s.modes was));
     }
 
 pub returns-in-Ok-commit-clause-leaves : goal.returns-in-Ok-commit-clause-leaves
@@ -97,7 +97,8 @@ returns-in-Ok-commit-clause-leaves g c w number more ready =
     let bytes_are = c.as_slice-3.ensures.value ∙ is.spelled.spelled in
     wider_leaves content (puts_of c.as_slice-2.result.now) c.as_slice-3.result.now c.number-layout.result s.dims.value
     more
-    s.root wider.root puts_are bytes_are is.root_is (c.number-layout.ensures ∙ ap number_of c.layout.ensures.value) w
+    s.root wider.root puts_are bytes_are is.root_is (c.number-layout.ensures ∙ ap layout_number c.layout.ensures.value)
+    w
     number (stores.disk_of g.D.Sectors s.store)
     (stores.disk_of g.D.Sectors c.commit.new.self) ready.at.represents ready.admissible is.storable
     (c.commit.ensures.leaves ready.at.fine)
@@ -114,7 +115,8 @@ returns-in-Err-commit-clause-leaves g c w number more ready =
     let bytes_are = c.as_slice-3.ensures.value ∙ is.spelled.spelled in
     wider_leaves content (puts_of c.as_slice-2.result.now) c.as_slice-3.result.now c.number-layout.result s.dims.value
     more
-    s.root wider.root puts_are bytes_are is.root_is (c.number-layout.ensures ∙ ap number_of c.layout.ensures.value) w
+    s.root wider.root puts_are bytes_are is.root_is (c.number-layout.ensures ∙ ap layout_number c.layout.ensures.value)
+    w
     number (stores.disk_of g.D.Sectors s.store)
     (stores.disk_of g.D.Sectors c.commit.new.self) ready.at.represents ready.admissible is.storable
     (c.commit.ensures.leaves ready.at.fine)
@@ -134,7 +136,7 @@ returns-in-Ok-commit-clause-ok g c w number more ready =
           (λ k. subst (λ (x : Content). Represents x (widened w more)) (sym (c.in-Ok-commit.ensures.ok k))
           (represents_wider content (puts_of c.as_slice-2.result.now) c.as_slice-3.result.now c.number-layout.result
           s.dims.value more s.root wider.root puts_are bytes_are is.root_is
-          (c.number-layout.ensures ∙ ap number_of c.layout.ensures.value) w number
+          (c.number-layout.ensures ∙ ap layout_number c.layout.ensures.value) w number
           (ready.at.represents (word k)) (ready.admissible (word k)) is.storable)),
       λ k. (ready.admissible (word k)).0,
     )
@@ -170,7 +172,7 @@ returns-in-Err-commit-clause-causes g c cause w number more ready k =
       model.0,
       wider_causes content (puts_of c.as_slice-2.result.now) c.as_slice-3.result.now c.number-layout.result
           s.dims.value more s.root wider.root puts_are bytes_are is.root_is
-          (c.number-layout.ensures ∙ ap number_of c.layout.ensures.value) w number
+          (c.number-layout.ensures ∙ ap layout_number c.layout.ensures.value) w number
           (stores.room_of s.store) c.in-Err-commit.fault model.1
           (c.in-Err-commit.ensures.refuses cause
           (λ e. let bad : true ≡ false = sym (c.in-Err-commit.ensures.failed.0 (ap (λ f. Err f) e))

@@ -1,7 +1,7 @@
 use Rattle.std.proofs.Common.{ℕ, List, ◌++◌, length, IsTrue, ◌↔◌, refl, subst}
 use Rattle.std.specs.List.{Contains, flat_map}
 use Rattle.warehouse_root.specs.declared.cuboid.StoredCuboid.{StoredCuboid}
-use Rattle.warehouse_root.specs.Layouts.{dimensions_of}
+use Rattle.warehouse_root.specs.Layouts.{dimension_object_count}
 use Rattle.warehouse_root.specs.Objects.{object_ids, run_ids, segment_ids}
 use Rattle.warehouse_root.specs.Root.{PlainRoot}
 use Rattle.warehouse_root.proofs.Numbers.{after_row, in_row}
@@ -11,7 +11,7 @@ pub returns-then-is_among : goal.returns-then-is_among
 returns-then-is_among c =
     let root = c.self.inside in
     subst (λ (said : PlainRoot). IsTrue c.is_among.result ↔ Contains (object_ids said) c.args.id) c.self.view_is
-    (in_row 1 1 c.dimensions.result (dimensions_of root.layout)
+    (in_row 1 1 c.dimensions.result (dimension_object_count root.layout)
     (segment_ids (length root.batches.items) ++ flat_map run_ids root.cuboids.items) c.args.id c.is_among.result
     refl c.dimensions.ensures c.is_among.ensures c.if-is_among.true)
 
@@ -27,7 +27,7 @@ returns-else-is_among c =
     ↔ Contains (segment_ids (length batches) ++ flat_map run_ids root.cuboids.items) c.args.id)
     c.deref.ensures.value cuboids in
     subst (λ (said : PlainRoot). IsTrue c.is_stored.result ↔ Contains (object_ids said) c.args.id) c.self.view_is
-    (after_row 1 1 c.dimensions.result (dimensions_of root.layout)
+    (after_row 1 1 c.dimensions.result (dimension_object_count root.layout)
     (segment_ids (length root.batches.items) ++ flat_map run_ids root.cuboids.items) c.args.id c.is_among.result
     c.is_stored.result
     refl c.dimensions.ensures c.is_among.ensures c.if-is_among.false stored)

@@ -1,7 +1,7 @@
 use Rattle.std.proofs.Common.{◌≡◌, ⊎_elim, IsTrue, inl, inr, refl, sym, subst}
 use Rattle.std.proofs.lemmas.Result.{err_from_is_err_and}
-use Rattle.warehouse_root.specs.Reading.{parts_of}
-use Rattle.warehouse_root.specs.Root.{IsProper}
+use Rattle.warehouse_root.specs.Reading.{root_of_parts}
+use Rattle.warehouse_root.specs.Root.{IsProperRoot}
 use Rattle.warehouse_root.proofs.root.Root.decode.Goals as goal
 
 -- bytes that spell no root
@@ -17,10 +17,11 @@ pub returns-then-not-keep_rules-clause-refused : goal.returns-then-not-keep_rule
 returns-then-not-keep_rules-clause-refused c = inr (
   refl,
   λ root is.
-      let moved : parts_of c.args.layout c.in_ok-parts.parts.counts c.in_ok-parts.parts.totals c.deref.result.now
+      let moved : root_of_parts c.args.layout c.in_ok-parts.parts.counts c.in_ok-parts.parts.totals c.deref.result.now
       c.deref-2.result.now ≡ root =
       rw (c.deref.ensures.value, c.deref-2.ensures.value) (c.in_ok-parts.ensures.ok.parts_are c.args.layout root is) in
-      let yes : IsTrue c.keep_rules.result = c.keep_rules.ensures.1 (subst IsProper (sym moved) is.is_root.proper) in
+      let yes : IsTrue c.keep_rules.result =
+      c.keep_rules.ensures.1 (subst IsProperRoot (sym moved) is.is_root.proper) in
       cc c.if-not-keep_rules.true,
 )
 
