@@ -1,27 +1,27 @@
 -- The objects of a content, as entries and as bytes.
-use Rattle.std.proofs.Common.{◌≡◌, ℕ, zero, suc, ◌+◌, ◌*◌, ◌<◌, ◌≤◌, true, false, cond, eqb, List, [], ◌∷◌, length}
+use Rattle.std.proofs.Common.{◌≡◌, ℕ, ◌+◌, ◌*◌, ◌<◌, ◌≤◌, true, false, cond, eqb, List, [], ◌∷◌, length}
 use Rattle.std.proofs.Common.{take, drop, Option, Some, None, option_map, IsSomeAnd, refl, sym, ◌∙◌, ap, subst, arith}
-use Rattle.std.proofs.Common.{length-append}
 use Rattle.std.specs.List.{All}
 use Rattle.std.proofs.lemmas.List.{length-take-le}
 use Rattle.std.proofs.lemmas.List.Elements.{All-head, All-tail}
-use Rattle.sector_device.specs.Device.{Image, DeviceState}
-use Rattle.sector_device.specs.Moments.{leaves_also}
+use Rattle.sector_device.specs.declared.device.Sectors.{Ghosts}
+use Rattle.sector_device.specs.Device.{Image}
 use Rattle.extents.specs.Extents.{IsInRange, AreLaidOut}
 use Rattle.wire.specs.Parts.{Gives}
 use Rattle.superblock.specs.declared.superblock.Super.{Super}
 use Rattle.superblock.specs.Superblock.{sectors_of}
 use Rattle.object_store.specs.declared.catalogue.entry.Entry.{Entry}
-use Rattle.object_store.specs.Content.{Content, look_up}
+use Rattle.object_store.specs.Content.{look_up}
 use Rattle.object_store.specs.Commit.{find_by}
 use Rattle.object_store.proofs.Pieces.{length_run}
 use Rattle.object_store.specs.Places.{sectors_bytes, bytes_at, extent_of, extents_of, objects_at, used_by}
-use Rattle.object_store.specs.Shows.{ShowsBy}
-use Rattle.object_store.specs.Disk.{Disk, Leaves}
+use Rattle.object_store.specs.DeviceCalls.{ReadsDevice}
+use Rattle.object_store.specs.Disk.{disk, Leaves, ShowsSome}
+use Rattle.object_store.specs.Moments.{only_images}
 use Rattle.object_store.specs.Ready.{content_from, IsReady}
-use Rattle.object_store.specs.Reading.{IsOnlyRead}
+use Rattle.object_store.proofs.DeviceCalls.{images_of}
 use Rattle.object_store.proofs.Lists.{All-unmap}
-use Rattle.object_store.specs.Frames.{objects_same, shows_same, ready_shows}
+use Rattle.object_store.specs.Frames.{objects_same, ready_shows}
 
 -- what is at an id is what its entry names
 pub look_up_at : (image : Image) (entries : List Entry) (id : ℕ)
@@ -126,41 +126,25 @@ within_entry image entries id at len size super laid whole = by (find_by (λ (e 
         (length_bytes_at image e.first e.bytes size (found_range size id super entries e is laid) whole) within
 
 -- a device that was only read
-module _ (s t : DeviceState) (super : Super) (entries : List Entry) (root : List ℕ) (only : IsOnlyRead s t) where
-  same : (i : ℕ) → t.reads i ≡ s.reads i
-  same i = only.others i (λ none. none)
-
-  pub content_read : content_from t.reads super entries root ≡ content_from s.reads super entries root
-  content_read =
+module _ {D : Type 0} (g : Ghosts D) (old new : D) (reads : ReadsDevice g old new) (super : Super)
+    (entries : List Entry) (root : List ℕ) where
+  pub content_read : g.keeps_word new
+      → content_from (g.state new).reads super entries root ≡ content_from (g.state old).reads super entries root
+  content_read w =
       ap (λ (o : List (ℕ × List ℕ)). record {
         generation = super.generation;
         layout = super.layout;
         objects = o;
         root = root;
-      }) (objects_same t.reads s.reads entries (λ i held. same i))
+      }) (objects_same (g.state new).reads (g.state old).reads entries
+      (λ i held. (reads.only w).others i (λ none. none)))
 
-  pub ready_read : t.size ≡ s.size → IsReady s super entries root → IsReady t super entries root
-  ready_read size ready = record {
-    settled = λ i b may. ready.settled i b (only.no_more i b (λ none. none) may) ∙ sym (same i);
-    shows = subst (λ (n : ℕ). ShowsBy n t.reads (content_from t.reads super entries root) super entries) (sym size)
-        (subst (λ (c : Content). ShowsBy s.size t.reads c super entries) (sym content_read)
-        (shows_same s.size s.reads t.reads (content_from s.reads super entries root) super entries ready.shows
-        (λ i used. sym (same i))));
-  }
-
-pub read_leaves : (old new : Disk) (super : Super) (entries : List Entry) (root : List ℕ)
-    → (new.keeps_word → old.keeps_word) → new.state.size ≡ old.state.size
-    → (old.keeps_word → IsReady old.state super entries root)
-    → (new.keeps_word → IsOnlyRead old.state new.state)
-    → Leaves old new (λ c. c ≡ content_from old.state.reads super entries root)
-read_leaves old new super entries root word size ready only = record {
-  word = word;
-  size = λ w. size;
-  moments = λ w. leaves_also old.state new.state _ _
-      (λ image held. (
-        content_from old.state.reads super entries root,
-        ready_shows old.state super entries root (ready (word w))
-            image (λ i. held i (λ none. none)),
+  pub read_leaves : (g.keeps_word old → IsReady (g.state old) super entries root)
+      → Leaves (disk g old) (disk g new) (λ c. c ≡ content_from (g.state old).reads super entries root)
+  read_leaves ready =
+      only_images (ShowsSome (λ c. c ≡ content_from (g.state old).reads super entries root)) (disk g old) (disk g new)
+      (images_of g old new reads) (λ w image is. (
+        content_from (g.state old).reads super entries root,
+        ready_shows (g.state old) super entries root (ready w) image is,
         refl,
-      )) (only w).leaves;
-}
+      ))

@@ -1,10 +1,9 @@
 -- What the writes of a creation make of what images show.
-use Rattle.std.proofs.Common.{◌≡◌, ◌≢◌, ◌⊎◌, ⊎_elim, inl, inr, ℕ, ◌%◌, ◌<◌, ◌≤◌, List, [], length, map, refl, sym, ◌∙◌}
+use Rattle.std.proofs.Common.{◌≡◌, ◌≢◌, ◌⊎◌, ⊎_elim, inl, inr, ℕ, ◌<◌, ◌≤◌, List, [], length, map, refl, sym, ◌∙◌}
 use Rattle.std.proofs.Common.{ap, subst, arith}
 use Rattle.std.proofs.lemmas.List.Elements.{All-nil}
 use Rattle.sector_device.specs.declared.device.Sectors.{Ghosts}
 use Rattle.sector_device.specs.Device.{Image, DeviceState, IsSettled, LeavesOnly}
-use Rattle.sector_device.specs.Moments.{leaves_also}
 use Rattle.extents.specs.Extents.{IsInRange}
 use Rattle.superblock.specs.declared.superblock.Super.{Super}
 use Rattle.superblock.specs.Superblock.{IsSuperblock}
@@ -14,12 +13,13 @@ use Rattle.object_store.specs.declared.plan.CommitPlan.{CommitPlan}
 use Rattle.object_store.specs.Content.{Content}
 use Rattle.object_store.specs.Commit.{IsFew, created, put_all, put_each, put_size}
 use Rattle.object_store.specs.Shows.{ShowsBy, HasNone}
-use Rattle.object_store.specs.Disk.{Disk, disk, Each, IsBlank, LeavesOrNone, OnlyImagesOf, ShowsSomeOrNone}
-use Rattle.object_store.specs.Moments.{passes_then}
+use Rattle.object_store.specs.DeviceCalls.{ReadsDevice}
+use Rattle.object_store.specs.Disk.{disk, Each, IsBlank, LeavesOrNone, OnlyImagesOf, ShowsSomeOrNone}
+use Rattle.object_store.specs.Moments.{passes_then, only_images}
 use Rattle.object_store.specs.Ready.{content_from, KeepsLayout, IsReady}
-use Rattle.object_store.specs.Reading.{IsOnlyRead, IsNewest}
 use Rattle.object_store.specs.Publish.{written_by, plan_slot, IsPlanForPuts, IsUnchangedOutside, HasWritten, IsEither}
 use Rattle.object_store.proofs.Extents.{held_in_range}
+use Rattle.object_store.proofs.DeviceCalls.{images_of}
 use Rattle.object_store.proofs.Looking.{none_same}
 use Rattle.object_store.proofs.Committing.{content_is, few_same}
 use Rattle.object_store.proofs.After as after
@@ -118,70 +118,42 @@ kept_created sectors size puts root layout plan same planned =
     })
 
 -- a device that was only read
-module _ (d0 d1 : Disk) (word : d1.keeps_word → d0.keeps_word) (size : d1.state.size ≡ d0.state.size)
-    (only : d1.keeps_word → IsOnlyRead d0.state d1.state) where
-  pub images_of : OnlyImagesOf d0 d1
-  images_of = record {
-    word = word;
-    size = λ w. size;
-    moments = λ w. leaves_also d0.state d1.state _ _ (λ image held i. held i (λ none. none)) (only w).leaves;
-  }
+module _ {D : Type 0} (g : Ghosts D) (d0 d1 : D) (reads : ReadsDevice g d0 d1) where
+  pub still_blank : Each (disk g d0) IsBlank → Each (disk g d1) IsBlank
+  still_blank blank w image is =
+      blank (reads.word w) image (λ i. (reads.only w).no_more i (image i) (λ none. none) (is i))
 
-  pub still_blank : Each d0 IsBlank → Each d1 IsBlank
-  still_blank blank w image is = blank (word w) image (λ i. (only w).no_more i (image i) (λ none. none) (is i))
-
-  pub looked : (P : Content → Type 0) → Each d0 IsBlank → LeavesOrNone d0 d1 P
-  looked P blank = record {
-    word = word;
-    size = λ w. size;
-    moments = λ w. leaves_also d0.state d1.state _ _
-        (λ image held. inl (blank (word w) image (λ i. held i (λ none. none)))) (only w).leaves;
-  }
-
-  -- a valid superblock in a slot was there before
-  pub not_blank : (super : Super) → d1.keeps_word → (d1.keeps_word → (i : ℕ) → d1.state.may_hold i (d1.state.reads i))
-      → IsNewest d1.state.reads super → Each d0 IsBlank → ⊥
-  not_blank super w stay newest blank = still_blank blank w d1.state.reads (stay w) (super.generation % 2) (omega arith)
-      super newest.in_slot
+  pub looked : (P : Content → Type 0) → Each (disk g d0) IsBlank → LeavesOrNone (disk g d0) (disk g d1) P
+  looked P blank = only_images (ShowsSomeOrNone P) (disk g d0) (disk g d1) (images_of g d0 d1 reads)
+      (λ w image is. inl (blank w image is))
 
   -- where no valid superblock is read, none was read before
-  pub none_before : d1.keeps_word → HasNone d1.state.reads → HasNone d0.state.reads
-  none_before w none = none_same d1.state.reads d0.state.reads (λ slot lt. (only w).others slot (λ none. none)) none
-
-  -- over a valid superblock there are no writes of a creation
-  pub spared : (d2 : Disk) → (d2.keeps_word → d1.keeps_word) → d2.state.size ≡ d1.state.size
-      → (d1.keeps_word → HasNone d1.state.reads) → (HasNone d0.state.reads → ⊥) → OnlyImagesOf d0 d2
-  spared d2 word2 size2 none formatted = record {
-    word = λ w. word (word2 w);
-    size = λ w. size2 ∙ size;
-    moments = λ w. absurd (formatted (none_before (word2 w) (none (word2 w))));
-  }
+  pub none_before : g.keeps_word d1 → HasNone (g.state d1).reads → HasNone (g.state d0).reads
+  none_before w none = none_same (g.state d1).reads (g.state d0).reads
+      (λ slot lt. (reads.only w).others slot (λ none. none)) none
 
   -- and then the writes of a creation
-  pub created_leaves : (d2 : Disk) (P : Content → Type 0) → (d2.keeps_word → d1.keeps_word)
-      → d2.state.size ≡ d1.state.size
-      → (d2.keeps_word → LeavesOnly d1.state d2.state (ShowsSomeOrNone P d1.state.size)) → Each d0 IsBlank
-      → LeavesOrNone d0 d2 P
-  created_leaves d2 P word2 size2 moments blank =
-      passes_then (ShowsSomeOrNone P) d0 d1 d2 (looked P blank) (record {
-        word = word2;
-        size = λ w. size2;
-        moments = moments;
-      })
+  module _ (d2 : D) (word : g.keeps_word d2 → g.keeps_word d1) (size : (g.state d2).size ≡ (g.state d1).size) where
+    -- over a valid superblock there are none
+    pub spared : (g.keeps_word d1 → HasNone (g.state d1).reads) → (HasNone (g.state d0).reads → ⊥)
+        → OnlyImagesOf (disk g d0) (disk g d2)
+    spared none formatted = record {
+      word = λ w. reads.word (word w);
+      size = λ w. size ∙ reads.size;
+      moments = λ w. absurd (formatted (none_before (word w) (none (word w))));
+    }
 
--- a device that was only read, and then not called, or written by a creation
-module _ {D : Type 0} (g : Ghosts D) (d0 : Disk) (one two : D) (word : g.keeps_word one → d0.keeps_word)
-    (size : (g.state one).size ≡ d0.state.size) (only : g.keeps_word one → IsOnlyRead d0.state (g.state one)) where
-  pub created_or_looked : (P : Content → Type 0) → (g.keeps_word two → g.keeps_word one)
-      → (g.state two).size ≡ (g.state one).size
-      → (two ≡ one) ⊎ (g.keeps_word two → LeavesOnly (g.state one) (g.state two) (ShowsSomeOrNone P (g.state one).size))
-      → Each d0 IsBlank → LeavesOrNone d0 (disk g two) P
-  created_or_looked P word2 size2 moments blank =
-      ⊎_elim (λ same. subst (λ (d : D). LeavesOrNone d0 (disk g d) P) (sym same)
-      (looked d0 (disk g one) word size only P blank))
-      (λ written. created_leaves d0 (disk g one) word size only (disk g two) P word2 size2 written blank) moments
+    pub created_or_looked : (P : Content → Type 0)
+        → (d2 ≡ d1) ⊎ (g.keeps_word d2 → LeavesOnly (g.state d1) (g.state d2) (ShowsSomeOrNone P (g.state d1).size))
+        → Each (disk g d0) IsBlank → LeavesOrNone (disk g d0) (disk g d2) P
+    created_or_looked P moments blank =
+        ⊎_elim (λ same. subst (λ (d : D). LeavesOrNone (disk g d0) (disk g d) P) (sym same) (looked P blank))
+        (λ written. passes_then (ShowsSomeOrNone P) (disk g d0) (disk g d1) (disk g d2) (looked P blank) (record {
+          word = word;
+          size = λ w. size;
+          moments = written;
+        })) moments
 
-  -- an image still has no valid superblock where it was not called
-  pub blank_where_same : two ≡ one → Each d0 IsBlank → Each (disk g two) IsBlank
-  blank_where_same same blank =
-      subst (λ (d : D). Each (disk g d) IsBlank) (sym same) (still_blank d0 (disk g one) word size only blank)
+  -- an image still has no valid superblock where it was not called again
+  pub blank_where_same : (d2 : D) → d2 ≡ d1 → Each (disk g d0) IsBlank → Each (disk g d2) IsBlank
+  blank_where_same d2 same blank = subst (λ (d : D). Each (disk g d) IsBlank) (sym same) (still_blank blank)

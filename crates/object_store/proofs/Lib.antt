@@ -13,6 +13,7 @@ pub mod Fits
 pub mod Keyed
 pub mod Planned
 pub mod Pieces
+pub mod DeviceCalls
 pub mod Looking
 pub mod Committing
 pub mod CallerLemmas

@@ -1,8 +1,7 @@
 -- What the two slots and the catalogue of a device say.
 use Rattle.std.proofs.Common.{◌≡◌, ◌⊎◌, inl, inr, ℕ, zero, suc, ◌%◌, ◌<◌, ◌≤◌, ◌↔◌, List, Option, Some, None}
 use Rattle.std.proofs.Common.{MatchOption, refl, sym, ◌∙◌, ap, subst, arith}
-use Rattle.sector_device.specs.Device.{Image, DeviceState, IsSettled, CandidatesStay, Syncs}
-use Rattle.sector_device.specs.Moments.{none_written, synced_within}
+use Rattle.sector_device.specs.Device.{Image, DeviceState, IsSettled, CandidatesStay}
 use Rattle.extents.specs.Extents.{AreLaidOut}
 use Rattle.superblock.specs.declared.superblock.Super.{Super}
 use Rattle.superblock.specs.Superblock.{IsSuperblock}
@@ -14,10 +13,9 @@ use Rattle.object_store.specs.Content.{Content}
 use Rattle.object_store.specs.Places.{bytes_at, used_by}
 use Rattle.object_store.specs.Shows.{ShowsBy, Shows, HasNone}
 use Rattle.object_store.specs.Ready.{content_from, KeepsLayout, IsReady}
-use Rattle.object_store.specs.Reading.{IsOnlyRead, IsNewest, two}
+use Rattle.object_store.specs.Reading.{IsNewest, two}
 use Rattle.object_store.specs.Found.{IsFound, SpellNoCatalogue, ShowsNothing}
 use Rattle.object_store.specs.Frames.{shows_same}
-use Rattle.object_store.proofs.Pieces.{read_only}
 
 -- the one that is chosen is the newest
 pub chosen_is : (even odd : List ℕ) (first second chosen : Option Super)
@@ -64,29 +62,17 @@ module _ (a b : Image) (same : (slot : ℕ) → slot < 2 → a slot ≡ b slot) 
   either_same None none = none_same none
   either_same (Some super) newest = newest_same super newest
 
--- a sync and two reads
-module _ (s0 s1 s2 s3 : DeviceState) (only : (image : Image) → s0.left_since s0.moment image → (i : ℕ)
-    → s0.may_hold i (image i)) (syncs : Syncs s0 s1) where
-  pub synced : IsOnlyRead s0 s1
-  synced = synced_within (λ _. ⊥) s0 s0 s1 (none_written (λ _. ⊥) s0 only) syncs
+-- two reads
+module _ (s0 s1 s2 : DeviceState) (first : CandidatesStay s0 s1) (second : CandidatesStay s1 s2) where
+  pub still_settled : IsSettled s0 → IsSettled s2
+  still_settled settled i b may = settled i b (first.no_more i b (second.no_more i b may)) ∙ sym (first.reads i)
+      ∙ sym (second.reads i)
 
-  module _ (first : CandidatesStay s1 s2) where
-    pub read_first : IsOnlyRead s0 s2
-    read_first = read_only s0 s1 s2 synced first
-
-    module _ (second : CandidatesStay s2 s3) where
-      pub read_second : IsOnlyRead s0 s3
-      read_second = read_only s0 s2 s3 read_first second
-
-      pub still_settled : IsSettled s1 → IsSettled s3
-      still_settled settled i b may = settled i b (first.no_more i b (second.no_more i b may)) ∙ sym (first.reads i)
-          ∙ sym (second.reads i)
-
-      pub slots_are : (even odd : List ℕ) → even ≡ s1.reads 0 → odd ≡ s2.reads 1 → (slot : ℕ) → slot < 2
-          → two even odd slot ≡ s3.reads slot
-      slots_are even odd is_even is_odd zero lt = is_even ∙ sym (first.reads 0) ∙ sym (second.reads 0)
-      slots_are even odd is_even is_odd (suc zero) lt = is_odd ∙ sym (second.reads 1)
-      slots_are even odd is_even is_odd (suc (suc n)) lt = absurd (omega (arith, lt))
+  pub slots_are : (even odd : List ℕ) → even ≡ s0.reads 0 → odd ≡ s1.reads 1 → (slot : ℕ) → slot < 2
+      → two even odd slot ≡ s2.reads slot
+  slots_are even odd is_even is_odd zero lt = is_even ∙ sym (first.reads 0) ∙ sym (second.reads 0)
+  slots_are even odd is_even is_odd (suc zero) lt = is_odd ∙ sym (second.reads 1)
+  slots_are even odd is_even is_odd (suc (suc n)) lt = absurd (omega (arith, lt))
 
 -- no valid superblock
 pub nothing_none : (size : ℕ) (image : Image) → HasNone image → ShowsNothing size image

@@ -6,11 +6,9 @@ use Rattle.std.proofs.lemmas.List.{length-take-le, drop-append-le, take-append-l
 use Rattle.std.proofs.lemmas.List.{take-append-drop, take_at, drop_all}
 use Rattle.std.proofs.Math.Seq.{drop-append-add, take-append-add, take-add}
 use borrow.Rule.Slice.PartMut.{put_mid, post_of}
-use Rattle.sector_device.specs.Device.{Image, DeviceState, CandidatesStay}
-use Rattle.sector_device.specs.Moments.{synced_within}
+use Rattle.sector_device.specs.Device.{Image}
 use Rattle.superblock.specs.Superblock.{sectors_of}
 use Rattle.object_store.specs.Places.{sectors_bytes, bytes_at}
-use Rattle.object_store.specs.Reading.{IsOnlyRead}
 
 -- a piece within one sector of a run
 run_piece : (image : Image) (q r first m n : ℕ) → q < m → r + n ≤ 512
@@ -152,12 +150,6 @@ part_within done n to part k less fits long =
       length-append (take done to) (part ++ post_of done k to),
       length-append part (post_of done k to),
     )
-
--- a read writes nothing
-pub read_only : (first mid new : DeviceState) → IsOnlyRead first mid → CandidatesStay mid new → IsOnlyRead first new
-read_only first mid new so_far stays =
-    synced_within (λ _. ⊥) first mid new so_far
-    (record { reads = stays.reads; no_more = stays.no_more; time = stays.time })
 
 -- whole sectors whose bytes are those of a run
 pub run_is : (n : ℕ) (bytes : List ℕ) (image : Image) (first : ℕ) → length bytes ≡ n * 512

@@ -10,6 +10,7 @@ pub mod Disk
 pub mod Room
 pub mod Ready
 pub mod Reading
+pub mod DeviceCalls
 pub mod Found
 pub mod Store
 pub mod Frames

@@ -1,12 +1,8 @@
--- What reads leave, and what is found on a device. Our own.
+-- What is found in the two slots of a device. Our own.
 use Rattle.std.specs.Prelude.{ℕ, ◌%◌, ◌<◌, ◌≤◌, ◌==◌, if◌then◌else◌, List}
-use Rattle.sector_device.specs.Device.{Image, DeviceState, WritesWithin}
+use Rattle.sector_device.specs.Device.{Image}
 use Rattle.superblock.specs.declared.superblock.Super.{Super}
 use Rattle.superblock.specs.Superblock.{IsSuperblock}
-
--- no sector was written: reads stay, and each image at each moment is one of those at the start
-abbrev pub IsOnlyRead : DeviceState → DeviceState → Type 0
-IsOnlyRead old new = WritesWithin (λ _. ⊥) old new
 
 -- what is in the two slots
 abbrev pub two : List ℕ → List ℕ → Image

@@ -1,8 +1,9 @@
 // The device calls of a creation.
-ghost use Rattle.std.specs.Prelude.{◌≡◌, ◌≢◌, ◌⊎◌, ◌+◌, ◌-◌, ◌^◌, ◌≤◌, ◌<◌, ℕ, [], min, IfOk, IfErr, OnOk, OnErr};
+ghost use Rattle.std.specs.Prelude.{◌≡◌, ◌≢◌, ◌⊎◌, ◌≤◌, [], IfOk, IfErr, OnOk, OnErr};
 ghost use Rattle.cube_model.specs.declared.fault.Fault.{Fault};
 ghost use Rattle.sector_device.specs.Device.{IsSettled, LeavesOnly};
 ghost use Rattle.object_store.specs.Commit.{ArePuts, IsFew, IsLayout, FitsRoot, created, puts_of};
+ghost use Rattle.object_store.specs.DeviceCalls.{CountsFault};
 ghost use Rattle.object_store.specs.Disk.{disk, Each, IsBlank, LeavesOrNone, OnlyImagesOf, ShowsSomeOrNone};
 ghost use Rattle.object_store.specs.Ready.{KeepsLayout, IsReady, content_from};
 ghost use Rattle.object_store.specs.Room.{LacksPlaces, sectors_asked_for};
@@ -35,7 +36,7 @@ pub(crate) fn create<D: Sectors>(
     ensures content { IfOk result (λ plan. D.keeps_word device.new
         → content_from (D.state device.new).reads plan.superblock plan.entries.items plan.root.items
         ≡ created (puts_of puts.now) root.now layout) }
-    ensures failures { OnOk result (D.failed device.new ≡ D.failed device.old) }
+    ensures failures { CountsFault result (D.failed device.old) (D.failed device.new) }
     ensures leaves { Each (disk D.Sectors device.old) IsBlank
         → LeavesOrNone (disk D.Sectors device.old) (disk D.Sectors device.new)
         (λ c. c ≡ created (puts_of puts.now) root.now layout) }
@@ -48,8 +49,6 @@ pub(crate) fn create<D: Sectors>(
     ensures unformatted { OnOk result (D.keeps_word device.new → HasNone (D.state device.old).reads) }
     ensures spared { OnErr result ((HasNone (D.state device.old).reads → ⊥)
         → OnlyImagesOf (disk D.Sectors device.old) (disk D.Sectors device.new)) }
-    ensures device { IfErr result (λ fault. fault ≡ Fault.Device
-        → D.failed device.new ≡ min (D.failed device.old + 1) (2 ^ 64 - 1)) }
     ensures full { IfErr result
         (λ fault. fault ≡ Fault.Full
         → LacksPlaces (D.state device.old).size [] (sectors_asked_for [] (puts_of puts.now) root.now)) }
@@ -88,13 +87,11 @@ fn publish_first<D: Sectors>(
     ensures content { IfOk result (λ plan. D.keeps_word device.new
         → content_from (D.state device.new).reads plan.superblock plan.entries.items plan.root.items
         ≡ created (puts_of puts.now) root.now layout) }
-    ensures failures { OnOk result (D.failed device.new ≡ D.failed device.old) }
+    ensures failures { CountsFault result (D.failed device.old) (D.failed device.new) }
     ensures moments { (device.new ≡ device.old)
         ⊎ (D.keeps_word device.new → LeavesOnly (D.state device.old) (D.state device.new)
         (ShowsSomeOrNone (λ c. c ≡ created (puts_of puts.now) root.now layout) (D.state device.old).size)) }
     ensures untouched { IfErr result (λ fault. fault ≢ Fault.Device → device.new ≡ device.old) }
-    ensures device { IfErr result (λ fault. fault ≡ Fault.Device
-        → D.failed device.new ≡ min (D.failed device.old + 1) (2 ^ 64 - 1)) }
     ensures full { IfErr result
         (λ fault. fault ≡ Fault.Full
         → LacksPlaces (D.state device.old).size [] (sectors_asked_for [] (puts_of puts.now) root.now)) }

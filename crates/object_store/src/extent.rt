@@ -1,8 +1,9 @@
 // An object in whole sectors.
 ghost use Rattle.std.specs.Prelude.{◌≡◌, ◌*◌, ◌/◌, ◌<◌, ◌≤◌, ◌^◌, length, OnOk};
-ghost use Rattle.sector_device.specs.Device.{CountsFailure, WritesWithin};
+ghost use Rattle.sector_device.specs.Device.{CountsFailure};
 ghost use Rattle.extents.specs.Extents.{Holds, IsInRange};
 ghost use Rattle.object_store.specs.Blocks.{padded};
+ghost use Rattle.object_store.specs.DeviceCalls.{WritesDevice};
 ghost use Rattle.object_store.specs.Places.{bytes_at, extent_of};
 
 use sector_device::{DeviceError, Sectors};
@@ -15,11 +16,8 @@ pub(crate) fn write_extent<D: Sectors>(
 ) -> Result<(), DeviceError>
     requires in_range { IsInRange (D.state device.old).size (extent_of first (length bytes.now)) }
     requires few { (D.state device.old).size < 2 ^ 32 }
-    ensures size { (D.state device.new).size ≡ (D.state device.old).size }
     ensures failures { CountsFailure result (D.failed device.old) (D.failed device.new) }
-    ensures word { D.keeps_word device.new → D.keeps_word device.old }
-    ensures within { D.keeps_word device.new
-        → WritesWithin (Holds (extent_of first (length bytes.now))) (D.state device.old) (D.state device.new) }
+    ensures writes { WritesDevice D.Sectors (Holds (extent_of first (length bytes.now))) device.old device.new }
     ensures written { OnOk result (D.keeps_word device.new
         → bytes_at (D.state device.new).reads first (length bytes.now) ≡ bytes.now) }
 {

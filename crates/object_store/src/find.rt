@@ -1,11 +1,11 @@
 // What is on a device.
-ghost use Rattle.std.specs.Prelude.{◌≡◌, ◌⊎◌, ◌+◌, ◌-◌, ◌^◌, ◌%◌, ◌<◌, ◌≤◌, ℕ, min, true, IfOk, IfErr, IfSome, OnOk};
-ghost use Rattle.std.specs.Prelude.{MatchOption};
+ghost use Rattle.std.specs.Prelude.{◌≡◌, ◌⊎◌, ◌≤◌, true, IfOk, IfErr, IfSome, OnOk, MatchOption};
 ghost use Rattle.cube_model.specs.declared.fault.Fault.{Fault};
 ghost use Rattle.sector_device.specs.Device.{CountsFailure, IsSettled, Syncs};
 ghost use Rattle.superblock.specs.Superblock.{IsProperSuperblock};
 ghost use Rattle.object_store.specs.Shows.{HasNone};
-ghost use Rattle.object_store.specs.Reading.{IsOnlyRead, IsNewest, two};
+ghost use Rattle.object_store.specs.DeviceCalls.{ReadsDevice, CountsFault};
+ghost use Rattle.object_store.specs.Reading.{IsNewest, two};
 ghost use Rattle.object_store.specs.Ready.{KeepsLayout, IsReady};
 ghost use Rattle.extents.specs.Extents.{AreLaidOut};
 ghost use Rattle.object_store.specs.Catalogue as catalogues;
@@ -31,17 +31,13 @@ pub(crate) struct Found {
 /// Syncs, and reads the newest superblock and its catalogue.
 pub(crate) fn find<D: Sectors>(alloc: Global, device: &mut D) -> Result<Found, Fault>
     requires least { 64 ≤ (D.state device.old).size }
-    ensures size { (D.state device.new).size ≡ (D.state device.old).size }
-    ensures word { D.keeps_word device.new → D.keeps_word device.old }
-    ensures only { D.keeps_word device.new → IsOnlyRead (D.state device.old) (D.state device.new) }
+    ensures reads { ReadsDevice D.Sectors device.old device.new }
     ensures kept { IfOk result
         (λ found. KeepsLayout (D.state device.new).size found.superblock found.catalogue.entries.items
         found.catalogue.root.items) }
     ensures ready { IfOk result (λ found. D.keeps_word device.new
         → IsReady (D.state device.new) found.superblock found.catalogue.entries.items found.catalogue.root.items) }
-    ensures failures { OnOk result (D.failed device.new ≡ D.failed device.old) }
-    ensures device { IfErr result (λ fault. fault ≡ Fault.Device
-        → D.failed device.new ≡ min (D.failed device.old + 1) (2 ^ 64 - 1)) }
+    ensures failures { CountsFault result (D.failed device.old) (D.failed device.new) }
     ensures nothing { IfErr result (λ fault. is_of_layout fault ≡ true → D.keeps_word device.new
         → ShowsNothing (D.state device.old).size (D.state device.old).reads) }
     ensures explained { IfErr result (λ fault. D.keeps_word device.new
@@ -67,10 +63,8 @@ pub(crate) fn find<D: Sectors>(alloc: Global, device: &mut D) -> Result<Found, F
 // The superblock of the greater generation, after a sync.
 pub(crate) fn newest<D: Sectors>(device: &mut D) -> Result<Option<Super>, DeviceError>
     requires { 2 ≤ (D.state device.old).size }
-    ensures size { (D.state device.new).size ≡ (D.state device.old).size }
+    ensures reads { ReadsDevice D.Sectors device.old device.new }
     ensures failures { CountsFailure result (D.failed device.old) (D.failed device.new) }
-    ensures word { D.keeps_word device.new → D.keeps_word device.old }
-    ensures only { D.keeps_word device.new → IsOnlyRead (D.state device.old) (D.state device.new) }
     ensures settled { OnOk result (D.keeps_word device.new → IsSettled (D.state device.new)) }
     ensures proper { IfOk result (λ found. IfSome found IsProperSuperblock) }
     ensures found { IfOk result (λ found. D.keeps_word device.new
@@ -86,9 +80,8 @@ pub(crate) fn newest<D: Sectors>(device: &mut D) -> Result<Option<Super>, Device
 
 // Makes each sector one that has a single candidate, also where a crash left it several.
 fn settle<D: Sectors>(device: &mut D) -> Result<(), DeviceError>
-    ensures size { (D.state device.new).size ≡ (D.state device.old).size }
+    ensures reads { ReadsDevice D.Sectors device.old device.new }
     ensures failures { CountsFailure result (D.failed device.old) (D.failed device.new) }
-    ensures word { D.keeps_word device.new → D.keeps_word device.old }
     ensures settled { OnOk result (D.keeps_word device.new → IsSettled (D.state device.new)) }
     ensures syncs { D.keeps_word device.new → Syncs (D.state device.old) (D.state device.new) }
 {
@@ -110,17 +103,13 @@ fn read_catalogue<D: Sectors>(
 ) -> Result<Catalogue, Fault>
     requires proper { IsProperSuperblock superblock.now }
     requires sized { superblock.now.sectors ≡ (D.state device.old).size }
-    ensures size { (D.state device.new).size ≡ (D.state device.old).size }
-    ensures word { D.keeps_word device.new → D.keeps_word device.old }
-    ensures only { D.keeps_word device.new → IsOnlyRead (D.state device.old) (D.state device.new) }
+    ensures reads { ReadsDevice D.Sectors device.old device.new }
     ensures proper { IfOk result (λ c. catalogues.IsProperCatalogue c.entries.items c.root.items) }
     ensures laid_out { IfOk result (λ c. AreLaidOut superblock.now.sectors (used_by superblock.now c.entries.items)) }
     ensures spelled { IfOk result (λ c. D.keeps_word device.new
         → IsCatalogue (bytes_at (D.state device.old).reads superblock.now.catalogue superblock.now.bytes)
         c.entries.items c.root.items) }
-    ensures failures { OnOk result (D.failed device.new ≡ D.failed device.old) }
-    ensures device { IfErr result (λ fault. fault ≡ Fault.Device
-        → D.failed device.new ≡ min (D.failed device.old + 1) (2 ^ 64 - 1)) }
+    ensures failures { CountsFault result (D.failed device.old) (D.failed device.new) }
     ensures refused { IfErr result
         (λ fault. (fault ≡ Fault.Memory) ⊎ ((fault ≡ Fault.Device) ⊎ ((fault ≡ Fault.BadLayout)
         × (D.keeps_word device.new
@@ -139,14 +128,10 @@ fn read_bytes<D: Sectors>(
 ) -> Result<Vec<u8>, Fault>
     requires proper { IsProperSuperblock superblock.now }
     requires sized { superblock.now.sectors ≡ (D.state device.old).size }
-    ensures size { (D.state device.new).size ≡ (D.state device.old).size }
-    ensures word { D.keeps_word device.new → D.keeps_word device.old }
-    ensures only { D.keeps_word device.new → IsOnlyRead (D.state device.old) (D.state device.new) }
+    ensures reads { ReadsDevice D.Sectors device.old device.new }
     ensures bytes { IfOk result (λ bytes. D.keeps_word device.new
         → bytes.items ≡ bytes_at (D.state device.old).reads superblock.now.catalogue superblock.now.bytes) }
-    ensures failures { OnOk result (D.failed device.new ≡ D.failed device.old) }
-    ensures device { IfErr result (λ fault. fault ≡ Fault.Device
-        → D.failed device.new ≡ min (D.failed device.old + 1) (2 ^ 64 - 1)) }
+    ensures failures { CountsFault result (D.failed device.old) (D.failed device.new) }
     ensures causes { IfErr result (λ fault. (fault ≡ Fault.Memory) ⊎ (fault ≡ Fault.Device)) }
 {
     let mut bytes = Vec::from_elem(alloc, 0u8, superblock.bytes as usize)?;

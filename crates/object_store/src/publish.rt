@@ -1,8 +1,9 @@
 // The device calls of a commit and of a creation.
 ghost use Rattle.std.specs.Prelude.{◌≡◌, ◌+◌, ◌*◌, ◌/◌, ◌<◌, ◌≤◌, ◌^◌, ℕ, length, OnOk};
-ghost use Rattle.sector_device.specs.Device.{CountsFailure, WritesWithin, IsSettled, LeavesOnly};
+ghost use Rattle.sector_device.specs.Device.{CountsFailure, IsSettled, LeavesOnly};
 ghost use Rattle.extents.specs.Extents.{SomeHolds, AreLaidOut};
 ghost use Rattle.object_store.specs.Commit.{puts_of};
+ghost use Rattle.object_store.specs.DeviceCalls.{WritesDevice};
 ghost use Rattle.object_store.specs.Places.{bytes_at, extents_of, objects_at};
 ghost use Rattle.object_store.specs.Publish.{AreFor, written_by, HasWritten, IsEither};
 
@@ -53,11 +54,8 @@ fn write_texts<D: Sectors>(
     requires bytes { plan.now.superblock.bytes ≡ length plan.now.catalogue.items }
     requires laid_out { AreLaidOut (D.state device.old).size (written_by plan.now) }
     requires few { (D.state device.old).size < 2 ^ 32 }
-    ensures size { (D.state device.new).size ≡ (D.state device.old).size }
     ensures failures { CountsFailure result (D.failed device.old) (D.failed device.new) }
-    ensures word { D.keeps_word device.new → D.keeps_word device.old }
-    ensures within { D.keeps_word device.new
-        → WritesWithin (SomeHolds (written_by plan.now)) (D.state device.old) (D.state device.new) }
+    ensures writes { WritesDevice D.Sectors (SomeHolds (written_by plan.now)) device.old device.new }
     ensures objects { OnOk result (D.keeps_word device.new
         → objects_at (D.state device.new).reads plan.now.placed.items ≡ puts_of puts.now) }
     ensures catalogue { OnOk result (D.keeps_word device.new
@@ -77,11 +75,8 @@ fn write_objects<D: Sectors>(
     requires places { AreFor placed.now (puts_of puts.now) }
     requires laid_out { AreLaidOut (D.state device.old).size (extents_of placed.now) }
     requires few { (D.state device.old).size < 2 ^ 32 }
-    ensures size { (D.state device.new).size ≡ (D.state device.old).size }
     ensures failures { CountsFailure result (D.failed device.old) (D.failed device.new) }
-    ensures word { D.keeps_word device.new → D.keeps_word device.old }
-    ensures within { D.keeps_word device.new
-        → WritesWithin (SomeHolds (extents_of placed.now)) (D.state device.old) (D.state device.new) }
+    ensures writes { WritesDevice D.Sectors (SomeHolds (extents_of placed.now)) device.old device.new }
     ensures objects { OnOk result (D.keeps_word device.new
         → objects_at (D.state device.new).reads placed.now ≡ puts_of puts.now) }
 {

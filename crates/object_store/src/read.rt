@@ -5,7 +5,7 @@ ghost use Rattle.std.specs.Vec.{vec_capacity};
 ghost use Rattle.sector_device.specs.Device.{CountsFailure};
 ghost use Rattle.superblock.specs.Superblock.{sectors_of};
 ghost use Rattle.object_store.specs.Places.{bytes_at, sectors_bytes};
-ghost use Rattle.object_store.specs.Reading.{IsOnlyRead};
+ghost use Rattle.object_store.specs.DeviceCalls.{ReadsDevice};
 
 use sector_device::{DeviceError, Sectors};
 
@@ -18,10 +18,8 @@ pub(crate) fn read_range<D: Sectors>(
 ) -> Result<(), DeviceError>
     requires in_range { first + sectors_of (at + length to.old) ≤ (D.state device.old).size }
     requires few { (D.state device.old).size < 2 ^ 32 }
-    ensures size { (D.state device.new).size ≡ (D.state device.old).size }
+    ensures reads { ReadsDevice D.Sectors device.old device.new }
     ensures failures { CountsFailure result (D.failed device.old) (D.failed device.new) }
-    ensures word { D.keeps_word device.new → D.keeps_word device.old }
-    ensures only { D.keeps_word device.new → IsOnlyRead (D.state device.old) (D.state device.new) }
     ensures bytes { OnOk result (D.keeps_word device.new → (total : ℕ) → at + length to.old ≤ total
         → to.new ≡ take (length to.old) (drop at (bytes_at (D.state device.old).reads first total))) }
 {
@@ -43,10 +41,8 @@ fn read_some<D: Sectors>(
     requires some { 0 < length to.old }
     requires in_range { first + sectors_of (place + length to.old) ≤ (D.state device.old).size }
     requires few { (D.state device.old).size < 2 ^ 32 }
-    ensures size { (D.state device.new).size ≡ (D.state device.old).size }
+    ensures reads { ReadsDevice D.Sectors device.old device.new }
     ensures failures { CountsFailure result (D.failed device.old) (D.failed device.new) }
-    ensures word { D.keeps_word device.new → D.keeps_word device.old }
-    ensures only { D.keeps_word device.new → IsOnlyRead (D.state device.old) (D.state device.new) }
     ensures many { IfOk result (λ n. (0 < n) × (n ≤ length to.old)) }
     ensures bytes { IfOk result (λ n. D.keeps_word device.new → (total : ℕ) → place + length to.old ≤ total
         → to.new ≡ take n (drop place (bytes_at (D.state device.old).reads first total)) ++ drop n to.old) }
@@ -61,10 +57,8 @@ fn read_some<D: Sectors>(
 fn read_whole<D: Sectors>(device: &mut D, first: u32, to: &mut [u8]) -> Result<usize, DeviceError>
     requires in_range { first + length to.old / 512 ≤ (D.state device.old).size }
     requires few { (D.state device.old).size < 2 ^ 32 }
-    ensures size { (D.state device.new).size ≡ (D.state device.old).size }
+    ensures reads { ReadsDevice D.Sectors device.old device.new }
     ensures failures { CountsFailure result (D.failed device.old) (D.failed device.new) }
-    ensures word { D.keeps_word device.new → D.keeps_word device.old }
-    ensures only { D.keeps_word device.new → IsOnlyRead (D.state device.old) (D.state device.new) }
     ensures many { IfOk result (λ n. n ≡ length to.old / 512 * 512) }
     ensures bytes { IfOk result (λ n. D.keeps_word device.new
         → to.new ≡ sectors_bytes (D.state device.old).reads first (length to.old / 512) ++ drop n to.old) }
@@ -83,10 +77,8 @@ fn read_piece<D: Sectors>(
 ) -> Result<usize, DeviceError>
     requires in_range { first + place / 512 < (D.state device.old).size }
     requires few { (D.state device.old).size < 2 ^ 32 }
-    ensures size { (D.state device.new).size ≡ (D.state device.old).size }
+    ensures reads { ReadsDevice D.Sectors device.old device.new }
     ensures failures { CountsFailure result (D.failed device.old) (D.failed device.new) }
-    ensures word { D.keeps_word device.new → D.keeps_word device.old }
-    ensures only { D.keeps_word device.new → IsOnlyRead (D.state device.old) (D.state device.new) }
     ensures many { IfOk result (λ n. n ≡ min (length to.old) (512 - place % 512)) }
     ensures bytes { IfOk result (λ n. D.keeps_word device.new
         → to.new ≡ take n (drop (place % 512) ((D.state device.old).reads (first + place / 512))) ++ drop n to.old) }
@@ -109,10 +101,8 @@ pub(crate) fn push_sectors<D: Sectors>(
     requires in_range { first + n ≤ (D.state device.old).size }
     requires few { (D.state device.old).size < 2 ^ 32 }
     requires room { length to.old.items + n * 512 ≤ vec_capacity to.old }
-    ensures size { (D.state device.new).size ≡ (D.state device.old).size }
+    ensures reads { ReadsDevice D.Sectors device.old device.new }
     ensures failures { CountsFailure result (D.failed device.old) (D.failed device.new) }
-    ensures word { D.keeps_word device.new → D.keeps_word device.old }
-    ensures only { D.keeps_word device.new → IsOnlyRead (D.state device.old) (D.state device.new) }
     ensures bytes { OnOk result (D.keeps_word device.new
         → to.new.items ≡ to.old.items ++ sectors_bytes (D.state device.old).reads first n) }
 {

@@ -15,9 +15,9 @@ returns-then-superblock-count-clause-nothing g c layout w =
     let found = rw c.in-Ok-Some.field-0-is at c.in-Ok-Some.ensures.found in
     let super = c.in-Ok-Some.superblock in
     nothing_sized s0.size s0.reads super
-    (newest_same s1.reads s0.reads (λ slot lt. (c.newest.ensures.only w).others slot (λ none. none)) super
+    (newest_same s1.reads s0.reads (λ slot lt. (c.newest.ensures.reads.only w).others slot (λ none. none)) super
     (found w))
-    (λ e. c.if-superblock-count.true (e ∙ sym c.newest.ensures.size ∙ sym c.count.ensures))
+    (λ e. c.if-superblock-count.true (e ∙ sym c.newest.ensures.reads.size ∙ sym c.count.ensures))
 
 pub returns-in_err-catalogue-clause-nothing : goal.returns-in_err-catalogue-clause-nothing
 returns-in_err-catalogue-clause-nothing g c =
@@ -27,10 +27,10 @@ returns-in_err-catalogue-clause-nothing g c =
     let s1 = g.D.Sectors.state c.newest.new.device in
     let found = rw c.in-Ok-Some.field-0-is at c.in-Ok-Some.ensures.found in
     let super = c.in-Ok-Some.superblock in
-    let w1 = c.read_catalogue.ensures.word w in
-    let same : (i : ℕ) → s1.reads i ≡ s0.reads i = λ i. (c.newest.ensures.only w1).others i (λ none. none) in
+    let w1 = c.read_catalogue.ensures.reads.word w in
+    let same : (i : ℕ) → s1.reads i ≡ s0.reads i = λ i. (c.newest.ensures.reads.only w1).others i (λ none. none) in
     let newest : IsNewest s0.reads super = newest_same s1.reads s0.reads (λ slot lt. same slot) super (found w1) in
-    let sized : super.sectors ≡ s0.size = c.if-superblock-count.false ∙ c.count.ensures ∙ c.newest.ensures.size in
+    let sized : super.sectors ≡ s0.size = c.if-superblock-count.false ∙ c.count.ensures ∙ c.newest.ensures.reads.size in
     ⊎_elim (λ memory. absurd (false≢true (sym (ap (λ (f : Fault). is_of_layout f) memory) ∙ layout)))
     (λ other. ⊎_elim (λ device. absurd (false≢true (sym (ap (λ (f : Fault). is_of_layout f) device) ∙ layout)))
     (λ bad. nothing_spelled s0.size s0.reads super newest sized
@@ -46,8 +46,9 @@ returns-then-superblock-count-clause-explained g c w =
     let super = c.in-Ok-Some.superblock in
     inr (
       super,
-      newest_same s1.reads s0.reads (λ slot lt. (c.newest.ensures.only w).others slot (λ none. none)) super (found w),
-      λ e. c.if-superblock-count.true (e ∙ sym c.newest.ensures.size ∙ sym c.count.ensures),
+      newest_same s1.reads s0.reads (λ slot lt. (c.newest.ensures.reads.only w).others slot (λ none. none)) super
+          (found w),
+      λ e. c.if-superblock-count.true (e ∙ sym c.newest.ensures.reads.size ∙ sym c.count.ensures),
     )
 
 pub returns-in_err-catalogue-clause-explained : goal.returns-in_err-catalogue-clause-explained
@@ -58,11 +59,11 @@ returns-in_err-catalogue-clause-explained g c =
     let s1 = g.D.Sectors.state c.newest.new.device in
     let found = rw c.in-Ok-Some.field-0-is at c.in-Ok-Some.ensures.found in
     let super = c.in-Ok-Some.superblock in
-    let w1 = c.read_catalogue.ensures.word w in
+    let w1 = c.read_catalogue.ensures.reads.word w in
     let newest : IsNewest s0.reads super =
-    newest_same s1.reads s0.reads (λ slot lt. (c.newest.ensures.only w1).others slot (λ none. none)) super
+    newest_same s1.reads s0.reads (λ slot lt. (c.newest.ensures.reads.only w1).others slot (λ none. none)) super
     (found w1) in
-    let sized : super.sectors ≡ s0.size = c.if-superblock-count.false ∙ c.count.ensures ∙ c.newest.ensures.size in
+    let sized : super.sectors ≡ s0.size = c.if-superblock-count.false ∙ c.count.ensures ∙ c.newest.ensures.reads.size in
     ⊎_elim (λ memory. subst (λ (f : Fault). ExplainsRefusal f s0.size s0.reads) (sym memory) tt)
     (λ other. ⊎_elim (λ device. subst (λ (f : Fault). ExplainsRefusal f s0.size s0.reads) (sym device) tt)
     (λ bad. subst (λ (f : Fault). ExplainsRefusal f s0.size s0.reads) (sym bad.0) (super, newest, sized)) other)

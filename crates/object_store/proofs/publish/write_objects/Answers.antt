@@ -1,8 +1,8 @@
 use Rattle.std.proofs.Common.{◌∙◌, List, [], length, get_or, sym, subst, ℕ, Bor, arith}
-use Rattle.sector_device.specs.Moments.{within_then}
 use Rattle.extents.specs.Extents.{Holds, SomeHolds, IsInRange}
 use Rattle.object_store.specs.declared.catalogue.entry.Entry.{Entry}
 use Rattle.object_store.specs.Places.{extent_of, extents_of}
+use Rattle.object_store.proofs.DeviceCalls.{writes_then}
 use Rattle.object_store.proofs.Placing.{in_range, held, object_step}
 use Rattle.object_store.proofs.publish.write_objects.Goals as goal
 
@@ -17,37 +17,32 @@ pub write_extent-requires-clause-in_range : goal.write_extent-requires-clause-in
 write_extent-requires-clause-in_range g c =
     subst (λ (n : ℕ). IsInRange n
     (extent_of (get_or c.args.placed.now c.loop-k.k no_entry).first
-    (length (get_or c.args.puts.now c.loop-k.k no_put).1.now))) (sym c.loop-k.invariant.size)
+    (length (get_or c.args.puts.now c.loop-k.k no_put).1.now))) (sym c.loop-k.invariant.writes.size)
     (in_range c.args.placed.now c.args.puts.now c.requires.places c.loop-k.k no_entry no_put (omega arith)
     (g.D.Sectors.state c.args.device.now).size c.requires.laid_out)
 
-pub returns-in_err-write_extent-clause-within : goal.returns-in_err-write_extent-clause-within
-returns-in_err-write_extent-clause-within g c w =
-    within_then (SomeHolds (extents_of c.args.placed.now))
+pub returns-in_err-write_extent-clause-writes : goal.returns-in_err-write_extent-clause-writes
+returns-in_err-write_extent-clause-writes g c =
+    writes_then g.D.Sectors (SomeHolds (extents_of c.args.placed.now))
     (Holds (extent_of (get_or c.args.placed.now c.loop-k.k no_entry).first
     (length (get_or c.args.puts.now c.loop-k.k no_put).1.now)))
-    (g.D.Sectors.state c.args.device.now) (g.D.Sectors.state c.loop-k.device)
-    (g.D.Sectors.state c.write_extent.new.device)
+    c.args.device.now c.loop-k.device c.write_extent.new.device
     (held c.args.placed.now c.args.puts.now c.requires.places c.loop-k.k no_entry no_put (omega arith))
-    (c.loop-k.invariant.within (c.write_extent.ensures.word w)) (c.write_extent.ensures.within w)
+    c.loop-k.invariant.writes c.write_extent.ensures.writes
 
 pub loop-k-preserved : goal.loop-k-preserved
 loop-k-preserved g c =
-    let so_far = c.loop-k.invariant in
-    let earlier = c.write_extent.ensures.word in record {
-      size = c.write_extent.ensures.size ∙ so_far.size;
-      failures = c.in_ok-write_extent.ensures.failures ∙ so_far.failures;
-      word = λ w. so_far.word (earlier w);
-      within = λ w. within_then (SomeHolds (extents_of c.args.placed.now))
+    let so_far = c.loop-k.invariant in record {
+      writes = writes_then g.D.Sectors (SomeHolds (extents_of c.args.placed.now))
           (Holds (extent_of (get_or c.args.placed.now c.loop-k.k no_entry).first
           (length (get_or c.args.puts.now c.loop-k.k no_put).1.now)))
-          (g.D.Sectors.state c.args.device.now) (g.D.Sectors.state c.loop-k.device)
-          (g.D.Sectors.state c.write_extent.new.device)
+          c.args.device.now c.loop-k.device c.write_extent.new.device
           (held c.args.placed.now c.args.puts.now c.requires.places c.loop-k.k no_entry no_put (omega arith))
-          (so_far.within (earlier w)) (c.write_extent.ensures.within w);
+          so_far.writes c.write_extent.ensures.writes;
+      failures = c.in_ok-write_extent.ensures.failures ∙ so_far.failures;
       objects = λ w. object_step c.args.placed.now c.args.puts.now c.requires.places c.loop-k.k no_entry no_put
           (omega arith)
           (g.D.Sectors.state c.loop-k.device).reads (g.D.Sectors.state c.write_extent.new.device).reads
-          c.requires.laid_out.apart (so_far.objects (earlier w))
-          (c.write_extent.ensures.within w).others (c.in_ok-write_extent.ensures.written w);
+          c.requires.laid_out.apart (so_far.objects (c.write_extent.ensures.writes.word w))
+          (c.write_extent.ensures.writes.only w).others (c.in_ok-write_extent.ensures.written w);
     }

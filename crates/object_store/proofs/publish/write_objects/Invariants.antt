@@ -1,17 +1,14 @@
 use Rattle.std.proofs.Common.{◌≡◌, take}
-use Rattle.sector_device.specs.Device.{WritesWithin}
 use Rattle.extents.specs.Extents.{SomeHolds}
 use Rattle.object_store.specs.Commit.{puts_of}
+use Rattle.object_store.specs.DeviceCalls.{WritesDevice}
 use Rattle.object_store.specs.Places.{extents_of, objects_at}
 use Rattle.object_store.proofs.publish.write_objects.Given as goal
 
 abbrev pub invariant-loop-k : goal.invariant-loop-k
 invariant-loop-k g l =
-    let first = g.D.Sectors.state l.initial.device in
     let now = g.D.Sectors.state l.device in record {
-      size : now.size ≡ first.size;
+      writes : WritesDevice g.D.Sectors (SomeHolds (extents_of l.placed)) l.initial.device l.device;
       failures : g.D.Sectors.failed l.device ≡ g.D.Sectors.failed l.initial.device;
-      word : g.D.Sectors.keeps_word l.device → g.D.Sectors.keeps_word l.initial.device;
-      within : g.D.Sectors.keeps_word l.device → WritesWithin (SomeHolds (extents_of l.placed)) first now;
       objects : g.D.Sectors.keeps_word l.device → objects_at now.reads (take l.k l.placed) ≡ take l.k (puts_of l.puts);
     }

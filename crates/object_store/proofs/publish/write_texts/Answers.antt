@@ -1,11 +1,11 @@
 use Rattle.std.proofs.Common.{◌∙◌, ℕ, List, length, inl, inr, sym, ap, subst}
 use Rattle.std.proofs.lemmas.Result.{on_ok_weaker}
 use Rattle.std.proofs.lemmas.List.Elements.{All-head}
-use Rattle.sector_device.specs.Moments.{within_more, within_then}
 use Rattle.extents.specs.Extents.{Holds, SomeHolds, AreApart, IsInRange, AreLaidOut}
 use Rattle.object_store.specs.declared.catalogue.entry.Entry.{Entry}
 use Rattle.object_store.specs.Places.{bytes_at, extent_of, extents_of, objects_at}
 use Rattle.object_store.specs.Publish.{written_by}
+use Rattle.object_store.proofs.DeviceCalls.{writes_more, writes_then}
 use Rattle.object_store.proofs.Lists.{AllPairs-head}
 use Rattle.object_store.proofs.Extents.{laid_out_tail, apart_from}
 use Rattle.object_store.specs.Frames.{objects_same}
@@ -24,30 +24,29 @@ write_extent-requires-clause-in_range g c =
     let plan = c.args.plan.now in
     let size = (g.D.Sectors.state c.args.device.now).size in
     subst (λ (n : ℕ). IsInRange n (extent_of plan.superblock.catalogue (length c.deref-2.result.now)))
-    (sym c.write_objects.ensures.size)
+    (sym c.write_objects.ensures.writes.size)
     (subst (λ (n : ℕ). IsInRange size (extent_of plan.superblock.catalogue n))
     (c.requires.bytes ∙ ap length (sym c.deref-2.ensures.value))
     (All-head (IsInRange size) (extent_of plan.superblock.catalogue plan.superblock.bytes)
     (extents_of plan.placed.items) c.requires.laid_out.in_range))
 
-pub returns-in_err-write_objects-clause-within : goal.returns-in_err-write_objects-clause-within
-returns-in_err-write_objects-clause-within g c w =
-    within_more (SomeHolds (extents_of c.deref.result.now)) (SomeHolds (written_by c.args.plan.now)) _ _
+pub returns-in_err-write_objects-clause-writes : goal.returns-in_err-write_objects-clause-writes
+returns-in_err-write_objects-clause-writes g c =
+    writes_more g.D.Sectors (SomeHolds (extents_of c.deref.result.now)) (SomeHolds (written_by c.args.plan.now)) _ _
     (λ i held. inr (subst (λ (l : List Entry). SomeHolds (extents_of l) i) c.deref.ensures.value held))
-    (c.write_objects.ensures.within w)
+    c.write_objects.ensures.writes
 
-pub returns-clause-within : goal.returns-clause-within
-returns-clause-within g c w =
+pub returns-clause-writes : goal.returns-clause-writes
+returns-clause-writes g c =
     let plan = c.args.plan.now in
-    within_then (SomeHolds (written_by plan))
+    writes_then g.D.Sectors (SomeHolds (written_by plan))
     (Holds (extent_of plan.superblock.catalogue (length c.deref-2.result.now))) _ _ _
     (λ i held. inl
     (subst (λ (n : ℕ). Holds (extent_of plan.superblock.catalogue n) i)
     (ap length c.deref-2.ensures.value ∙ sym c.requires.bytes) held))
-    (within_more (SomeHolds (extents_of c.deref.result.now)) (SomeHolds (written_by plan)) _ _
+    (writes_more g.D.Sectors (SomeHolds (extents_of c.deref.result.now)) (SomeHolds (written_by plan)) _ _
     (λ i held. inr (subst (λ (l : List Entry). SomeHolds (extents_of l) i) c.deref.ensures.value held))
-    (c.write_objects.ensures.within (c.write_extent.ensures.word w)))
-    (c.write_extent.ensures.within w)
+    c.write_objects.ensures.writes) c.write_extent.ensures.writes
 
 pub returns-clause-objects : goal.returns-clause-objects
 returns-clause-objects g c =
@@ -59,13 +58,13 @@ returns-clause-objects g c =
     (AllPairs-head AreApart cat (extents_of plan.placed.items) c.requires.laid_out.apart) in
     objects_same (g.D.Sectors.state c.write_extent.new.device).reads
     (g.D.Sectors.state c.write_objects.new.device).reads plan.placed.items
-    (λ i held. (c.write_extent.ensures.within w).others i
+    (λ i held. (c.write_extent.ensures.writes.only w).others i
     (λ here. apart i
     (subst (λ (n : ℕ). Holds (extent_of plan.superblock.catalogue n) i)
     (ap length c.deref-2.ensures.value ∙ sym c.requires.bytes) here) held))
     ∙ ap (λ (l : List Entry). objects_at (g.D.Sectors.state c.write_objects.new.device).reads l)
     (sym c.deref.ensures.value)
-    ∙ c.in_ok-write_objects.ensures.objects (c.write_extent.ensures.word w)) c.write_extent.ensures.written
+    ∙ c.in_ok-write_objects.ensures.objects (c.write_extent.ensures.writes.word w)) c.write_extent.ensures.written
 
 pub returns-clause-catalogue : goal.returns-clause-catalogue
 returns-clause-catalogue g c =

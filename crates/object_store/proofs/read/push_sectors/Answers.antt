@@ -1,4 +1,4 @@
-use Rattle.std.proofs.Common.{◌∙◌, ℕ, List, ◌++◌, ◌*◌, ◌+◌, ◌-◌, ◌/◌, ◌≡◌, length, take, drop, replicate, ap, arith}
+use Rattle.std.proofs.Common.{◌∙◌, ℕ, List, ◌++◌, ◌*◌, ◌+◌, ◌-◌, ◌≡◌, length, take, drop, replicate, ap, arith}
 use Rattle.std.proofs.Common.{length-append, length-drop}
 use Rattle.std.proofs.lemmas.List.{take_all, take_at, length-take-le}
 use Rattle.std.proofs.lemmas.Grind.{common_steps}

@@ -1,16 +1,16 @@
 use Rattle.std.proofs.Common.{◌≡◌, ℕ, ◌+◌, ◌-◌, List, ◌++◌, length, take, drop, refl, ◌∙◌, ap, arith, length-drop}
 use Rattle.std.proofs.lemmas.List.{length-take-le}
 use borrow.Rule.Slice.PartMut.{post_of}
-use Rattle.sector_device.specs.Moments.{within_then}
 use Rattle.object_store.specs.Frames.{bytes_same}
 use Rattle.object_store.specs.Places.{bytes_at}
+use Rattle.object_store.proofs.DeviceCalls.{reads_then}
 use Rattle.object_store.proofs.Pieces.{range_grows, part_within}
 use Rattle.object_store.proofs.read.read_range.Goals as goal
 
 pub loop-done-preserved : goal.loop-done-preserved
 loop-done-preserved g c =
     let so_far = c.loop-done.invariant in
-    let earlier = c.read_some.ensures.word in
+    let earlier = c.read_some.ensures.reads.word in
     let s0 = g.D.Sectors.state c.args.device.now in
     let s1 = g.D.Sectors.state c.loop-done.device in
     let to = c.loop-done.to in
@@ -25,14 +25,13 @@ loop-done-preserved g c =
     length-take-le (length to - done) (drop done to) (omega (arith, length-drop done to)) in record {
       within = part_within done n to new (length to - done) (omega (arith, c.loop-done-test.true))
           (omega (arith, c.in_ok-done.ensures.many.1, left)) (c.read_some.auto.to ∙ left);
-      size = c.read_some.ensures.size ∙ so_far.size;
+      reads = reads_then g.D.Sectors c.args.device.now c.loop-done.device c.read_some.new.device so_far.reads
+          c.read_some.ensures.reads;
       failures = c.in_ok-done.ensures.failures ∙ so_far.failures;
-      word = λ w. so_far.word (earlier w);
-      only = λ w. within_then (λ _. ⊥) (λ _. ⊥) s0 s1 (g.D.Sectors.state c.read_some.new.device) (λ i none. none)
-          (so_far.only (earlier w)) (c.read_some.ensures.only w);
       bytes = λ w total enough.
           let same : bytes_at s1.reads first total ≡ bytes_at s0.reads first total =
-          bytes_same s1.reads s0.reads first total (λ i held. (so_far.only (earlier w)).others i (λ none. none)) in
+          bytes_same s1.reads s0.reads first total
+          (λ i held. (so_far.reads.only (earlier w)).others i (λ none. none)) in
           range_grows (bytes_at s0.reads first total) to sub new _ (post_of done (length to - done) to) at done n
           (omega (arith, c.loop-done-test.true)) c.in_ok-done.ensures.many.1 c.read_some.auto.to
           (so_far.bytes (earlier w) total enough)

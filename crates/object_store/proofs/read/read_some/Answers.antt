@@ -1,4 +1,4 @@
-use Rattle.std.proofs.Common.{◌∙◌, ℕ, List, ◌++◌, ◌+◌, ◌-◌, ◌%◌, ◌/◌, ◌<◌, ◌≡◌, length, take, drop, min, sym, ap, arith}
+use Rattle.std.proofs.Common.{◌∙◌, ℕ, List, ◌++◌, ◌+◌, ◌/◌, ◌≡◌, length, take, drop, sym, ap, arith}
 use Rattle.object_store.specs.Places.{bytes_at, sectors_bytes}
 use Rattle.object_store.proofs.Pieces.{IfOk-both, piece_is, run_within}
 use Rattle.object_store.proofs.read.read_some.Goals as goal
@@ -11,7 +11,7 @@ returns-then-to-ge512-clause-bytes g c =
     let first = c.args.first in
     let place = c.args.place in
     IfOk-both c.read_whole.result _ _ _ (λ n many bytes w total enough.
-    let w0 = c.read_whole.ensures.word w in
+    let w0 = c.read_whole.ensures.reads.word w in
     let piece : take n (drop place (bytes_at reads first total))
     ≡ sectors_bytes reads (first + place / 512) (length to / 512) =
     ap (λ (k : ℕ). take k (drop place (bytes_at reads first total))) many
@@ -29,7 +29,7 @@ returns-clause-bytes g c =
     let first = c.args.first in
     let place = c.args.place in
     IfOk-both c.read_piece.result _ _ _ (λ n many bytes w total enough.
-    let w0 = c.read_piece.ensures.word w in
+    let w0 = c.read_piece.ensures.reads.word w in
     bytes w ∙ ap (λ (l : List ℕ). l ++ drop n to)
     (sym (piece_is reads first place n total (omega (arith, many, c.requires.some)) (omega (arith, many))
     (omega (arith, many, enough))

@@ -29,6 +29,6 @@ returns-in-Ok-clause-shows g c w image is =
 pub returns-in-Err-clause-nothing : goal.returns-in-Err-clause-nothing
 returns-in-Err-clause-nothing g c layout w = record {
   image = (g.D.Sectors.state c.args.device).reads;
-  is = λ i. g.met.D.Sectors.read_may_stay c.args.device i (c.find.ensures.word w);
+  is = λ i. g.met.D.Sectors.read_may_stay c.args.device i (c.find.ensures.reads.word w);
   none = c.in-Err.ensures.nothing layout w;
 }

@@ -1,7 +1,6 @@
 use Rattle.std.proofs.Common.{length, refl, arith}
 use Rattle.extents.specs.Extents.{IsInRange}
 use Rattle.object_store.specs.Places.{extent_of}
-use Rattle.object_store.specs.Disk.{disk}
 use Rattle.object_store.proofs.Contents.{found_range, gives_part, content_read, read_leaves}
 use Rattle.object_store.proofs.store.Store.read_entry.Goals as goal
 
@@ -26,23 +25,21 @@ returns-in-Ok-clause-bytes g c w =
 pub returns-in-Ok-clause-leaves : goal.returns-in-Ok-clause-leaves
 returns-in-Ok-clause-leaves g c =
     let store = c.args.self.now in
-    read_leaves (disk g.D.Sectors store.device) (disk g.D.Sectors c.read_range.new.device) store.superblock
-    store.entries.items store.root.items
-    c.read_range.ensures.word c.read_range.ensures.size (λ w. store.ready c.requires.fine w) c.read_range.ensures.only
+    read_leaves g.D.Sectors store.device c.read_range.new.device c.read_range.ensures.reads store.superblock
+    store.entries.items store.root.items (λ w. store.ready c.requires.fine w)
 
 pub returns-in-Err-clause-leaves : goal.returns-in-Err-clause-leaves
 returns-in-Err-clause-leaves g c =
     let store = c.args.self.now in
-    read_leaves (disk g.D.Sectors store.device) (disk g.D.Sectors c.read_range.new.device) store.superblock
-    store.entries.items store.root.items
-    c.read_range.ensures.word c.read_range.ensures.size (λ w. store.ready c.requires.fine w) c.read_range.ensures.only
+    read_leaves g.D.Sectors store.device c.read_range.new.device c.read_range.ensures.reads store.superblock
+    store.entries.items store.root.items (λ w. store.ready c.requires.fine w)
 
 pub returns-in-Ok-clause-stays : goal.returns-in-Ok-clause-stays
 returns-in-Ok-clause-stays g c =
     let store = c.args.self.now in record {
-      word = c.read_range.ensures.word;
-      content = λ w. content_read (g.D.Sectors.state store.device) (g.D.Sectors.state c.read_range.new.device)
-          store.superblock store.entries.items store.root.items (c.read_range.ensures.only w);
+      word = c.read_range.ensures.reads.word;
+      content = content_read g.D.Sectors store.device c.read_range.new.device c.read_range.ensures.reads
+          store.superblock store.entries.items store.root.items;
       room = refl;
       sizes = λ id. refl;
       failed = refl;
@@ -52,17 +49,17 @@ returns-in-Ok-clause-stays g c =
 pub returns-in-Ok-clause-kept : goal.returns-in-Ok-clause-kept
 returns-in-Ok-clause-kept g c =
     let store = c.args.self.now in record {
-      word = c.read_range.ensures.word;
-      content = λ w. content_read (g.D.Sectors.state store.device) (g.D.Sectors.state c.read_range.new.device)
-          store.superblock store.entries.items store.root.items (c.read_range.ensures.only w);
+      word = c.read_range.ensures.reads.word;
+      content = content_read g.D.Sectors store.device c.read_range.new.device c.read_range.ensures.reads
+          store.superblock store.entries.items store.root.items;
       sizes = λ id. refl;
     }
 
 pub returns-in-Err-clause-kept : goal.returns-in-Err-clause-kept
 returns-in-Err-clause-kept g c =
     let store = c.args.self.now in record {
-      word = c.read_range.ensures.word;
-      content = λ w. content_read (g.D.Sectors.state store.device) (g.D.Sectors.state c.read_range.new.device)
-          store.superblock store.entries.items store.root.items (c.read_range.ensures.only w);
+      word = c.read_range.ensures.reads.word;
+      content = content_read g.D.Sectors store.device c.read_range.new.device c.read_range.ensures.reads
+          store.superblock store.entries.items store.root.items;
       sizes = λ id. refl;
     }

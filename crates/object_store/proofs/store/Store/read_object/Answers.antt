@@ -2,7 +2,6 @@ use Rattle.std.proofs.Common.{◌∙◌, ◌≡◌, ◌++◌, List, ℕ, Some, t
 use Rattle.extents.specs.Extents.{IsInRange}
 use Rattle.superblock.specs.Superblock.{sectors_of}
 use Rattle.object_store.specs.Places.{extent_of, sectors_bytes}
-use Rattle.object_store.specs.Disk.{disk}
 use Rattle.object_store.proofs.Contents.{found_range, bytes_some, read_leaves}
 use Rattle.object_store.proofs.store.Store.read_object.Goals as goal
 
@@ -44,15 +43,11 @@ returns-in-Ok-clause-bytes g c w =
 pub returns-in-Ok-clause-leaves : goal.returns-in-Ok-clause-leaves
 returns-in-Ok-clause-leaves g c =
     let store = c.args.self.now in
-    read_leaves (disk g.D.Sectors store.device) (disk g.D.Sectors c.push_sectors.new.device) store.superblock
-    store.entries.items store.root.items
-    c.push_sectors.ensures.word c.push_sectors.ensures.size (λ w. store.ready c.requires.fine w)
-    c.push_sectors.ensures.only
+    read_leaves g.D.Sectors store.device c.push_sectors.new.device c.push_sectors.ensures.reads store.superblock
+    store.entries.items store.root.items (λ w. store.ready c.requires.fine w)
 
 pub returns-in-Err-clause-leaves : goal.returns-in-Err-clause-leaves
 returns-in-Err-clause-leaves g c =
     let store = c.args.self.now in
-    read_leaves (disk g.D.Sectors store.device) (disk g.D.Sectors c.push_sectors.new.device) store.superblock
-    store.entries.items store.root.items
-    c.push_sectors.ensures.word c.push_sectors.ensures.size (λ w. store.ready c.requires.fine w)
-    c.push_sectors.ensures.only
+    read_leaves g.D.Sectors store.device c.push_sectors.new.device c.push_sectors.ensures.reads store.superblock
+    store.entries.items store.root.items (λ w. store.ready c.requires.fine w)
