@@ -40,7 +40,7 @@ length-codes (code ∷ codes) =
     omega (arith, length-append (spelling 2 code) (codes_spelling codes), length-spelling 2 code, length-codes codes)
 
 -- a column has a code for each text
-long_codes : (rows : ℕ) (column : List (List ℕ)) → length column ≡ rows
+pub long_codes : (rows : ℕ) (column : List (List ℕ)) → length column ≡ rows
     → length (codes_spelling (codes_of column)) ≡ 2 * rows
 long_codes rows column many =
     omega (

@@ -1,7 +1,7 @@
 -- The part of a batch's bytes that is read for its ship modes. Our own.
 use Rattle.std.proofs.Common.{◌≡◌, ◌∙◌, ap, sym, subst, refl, arith, ℕ, ◌+◌, ◌*◌, ◌^◌, ◌<◌, ◌≤◌}
-use Rattle.std.proofs.Common.{Bool, true, Option, Some, None, List, [], ◌∷◌, ◌++◌, length, take, drop, codes}
-use Rattle.std.proofs.Common.{append_assoc, append-nil, drop-drop, length-append, length-drop}
+use Rattle.std.proofs.Common.{Bool, true, Option, Some, None, List, [], ◌∷◌, ◌++◌, length, map, take, drop, codes}
+use Rattle.std.proofs.Common.{◌↔◌, IsTrue, append_assoc, append-nil, drop-drop, length-append, length-drop}
 use Rattle.std.specs.List.{flat_map}
 use Rattle.std.specs.Option.{IsSomeAnd}
 use Rattle.std.specs.Str.{bytes_eq}
@@ -13,15 +13,20 @@ use Rattle.wire.specs.Parts.{Gives}
 use Rattle.wire.specs.Spelling.{spelling}
 use Rattle.wire.specs.Writing.{with_field}
 use Rattle.wire.proofs.CallerLemmas.{length-spelling, with_field-done}
+use Rattle.dictionary.specs.Columns.{codes_of, codes_spelling, column_spelling}
+use Rattle.dictionary.specs.Dictionary.{firsts}
+use Rattle.dictionary.specs.Spelling.{text_spelling, texts_spelling}
 use Rattle.dictionary.proofs.CallerLemmas.{bytes_eq-refl, bytes_eq-same}
 use Rattle.object_store.specs.Content.{Content, bytes_of}
-use Rattle.column_segment.specs.Columns.{Column, number_columns, text_columns}
+use Rattle.column_segment.specs.Columns.{Column, number_columns, text_columns, text_of}
+use Rattle.column_segment.specs.declared.columns.TextColumn.TheVariants.{ShipMode}
 use Rattle.column_segment.specs.Projected.{HasColumns, HoldsNoneOf}
 use Rattle.column_segment.specs.Reading.{HasHeader}
 use Rattle.column_segment.specs.Segment.{IsSegment, segment_header, number_column, text_column}
 use Rattle.column_segment.proofs.CallerLemmas.{header-one}
 use Rattle.batch_rows.specs.Stored.{HoldsModes}
-use Rattle.batch_rows.specs.TextColumns.{SpellColumns}
+use Rattle.batch_rows.specs.Passing.{LeadsToLast}
+use Rattle.batch_rows.specs.TextColumns.{SpellColumns, SpellLast}
 
 -- ---- the bytes of a batch
 
@@ -162,42 +167,76 @@ module _ (text part own : List ℕ) (number rows : ℕ) (long : length part ≡ 
 
 -- ---- what was read
 
--- the rest of a text, after its header and its columns of numbers
-pub rest_found : (o : Option (List ℕ)) (number rows count : ℕ) (part items : List ℕ)
-    → IsSomeAnd o (λ text. 12 + 63 * rows + count ≡ length text)
-    → ((text : List ℕ) → o ≡ Some text → HasHeader text number rows) → Gives o (12 + 63 * rows) part
-    → length part ≡ count → items ≡ part
-    → IsSomeAnd o (λ text. HasColumns text number rows × (items ≡ drop (12 + 63 * rows) text))
-rest_found None number rows count part items total header gives long is = total
-rest_found (Some text) number rows count part items total header gives long is = (
-  record { header = header text refl; room = omega (arith, total) },
-  is ∙ gives
-      ∙ take_all (length part) (drop (12 + 63 * rows) text)
-      (omega (arith, length-drop (12 + 63 * rows) text, total, long)),
+-- a header, and room for the columns of numbers, or no such room
+pub columns_same : (text : List ℕ) (number rows count : ℕ) (answer : Bool) → 12 + 63 * rows + count ≡ length text
+    → IsTrue answer ↔ HasHeader text number rows → IsTrue answer ↔ HasColumns text number rows
+columns_same text number rows count answer total same = (
+  λ is. record { header = same.0 is; room = omega (arith, total) },
+  λ has. same.1 has.header,
 )
+
+-- the rest of a text from a place on
+pub rest_read : (o : Option (List ℕ)) (at count : ℕ) (part items : List ℕ)
+    → IsSomeAnd o (λ text. at + count ≡ length text) → Gives o at part → length part ≡ count → items ≡ part
+    → IsSomeAnd o (λ text. items ≡ drop at text)
+rest_read None at count part items total gives long is = total
+rest_read (Some text) at count part items total gives long is =
+    is ∙ gives
+    ∙ take_all (length part) (drop at text) (omega (arith, length-drop at text, total, long))
+
+-- it is the last column of texts, where a place leads there
+pub last_found : (o : Option (List ℕ)) (number rows at : ℕ) (items : List ℕ)
+    → ((text : List ℕ) → o ≡ Some text → HasColumns text number rows)
+    → ((text : List ℕ) → o ≡ Some text → LeadsToLast rows (drop (12 + 63 * rows) text) (drop at text))
+    → IsSomeAnd o (λ text. items ≡ drop at text)
+    → IsSomeAnd o (λ text. HasColumns text number rows × LeadsToLast rows (drop (12 + 63 * rows) text) items)
+last_found None number rows at items has leads read = absurd read
+last_found (Some text) number rows at items has leads read = (
+  has text refl,
+  λ others are. subst (λ (l : List ℕ). SpellLast rows l others) (sym read) (leads text refl others are),
+)
+
+-- a last column of texts has bytes
+pub no_last : (rows at : ℕ) (text : List ℕ) (others : List LineOrder) → length text < at
+    → SpellLast rows (drop at text) others → ⊥
+no_last rows at text others past are =
+    let modes : List (List ℕ) = map (text_of ShipMode) others in
+    let texts : List (List ℕ) = firsts modes in
+    absurd (omega (
+      arith,
+      past,
+      length-drop at text,
+      ap length are.spelled,
+      length-append (column_spelling modes) [],
+      length-append (texts_spelling texts) (codes_spelling (codes_of modes)),
+      length-append (spelling 4 (length texts)) (flat_map text_spelling texts),
+      length-spelling 4 (length texts),
+    ))
+
+-- the columns of texts of a batch of so many rows
+pub texts_of : (text : List ℕ) (number count : ℕ) (rows : List LineOrder) → IsSegment text number rows
+    → length rows ≡ count → SpellColumns text_columns count (drop (12 + 63 * count) text) rows
+texts_of text number count rows is many =
+    subst (λ (n : ℕ). SpellColumns text_columns n (drop (12 + 63 * n) text) rows) many (texts_there text number rows is)
 
 module _ (c : Content) (id number rows : ℕ) (items : List ℕ)
     (found : IsSomeAnd (bytes_of c id) (λ text. HasColumns text number rows
-    × (items ≡ drop (12 + 63 * rows) text))) where
-  -- the columns of texts that were read are those of the batch that is there
-  spelled : (text : List ℕ) → HasColumns text number rows × (items ≡ drop (12 + 63 * rows) text) → (other : ℕ)
-      (others : List LineOrder) → IsSegment text other others
-      → (other ≡ number) × SpellColumns text_columns rows items others
+    × LeadsToLast rows (drop (12 + 63 * rows) text) items)) where
+  -- the last column of texts that was read is that of the batch that is there
+  spelled : (text : List ℕ) → HasColumns text number rows × LeadsToLast rows (drop (12 + 63 * rows) text) items
+      → (other : ℕ) (others : List LineOrder) → IsSegment text other others
+      → (other ≡ number) × SpellLast rows items others
   spelled text has other others is =
-      let same = header_same text other others is number rows has.0.header in (
-        same.0,
-        subst (λ (l : List ℕ). SpellColumns text_columns rows l others) (sym has.1)
-            (subst (λ (n : ℕ). SpellColumns text_columns n (drop (12 + 63 * n) text) others) same.1
-            (texts_there text other others is)),
-      )
+      let same = header_same text other others is number rows has.0.header in
+      (same.0, has.1 others (texts_of text other rows others is same.1))
 
   pub holds_modes : (modes : List (List ℕ))
-      → ((others : List LineOrder) → SpellColumns text_columns rows items others → modes ≡ modes_in others)
+      → ((others : List LineOrder) → SpellLast rows items others → modes ≡ modes_in others)
       → HoldsModes c id number modes
   holds_modes modes one = by (bytes_of c id) refl found
     where
       by : (o : Option (List ℕ)) → bytes_of c id ≡ o → IsSomeAnd o (λ text. HasColumns text number rows
-          × (items ≡ drop (12 + 63 * rows) text)) → HoldsModes c id number modes
+          × LeadsToLast rows (drop (12 + 63 * rows) text) items) → HoldsModes c id number modes
       by None at none = absurd none
       by (Some text) at has = record {
         bytes = text;
@@ -205,9 +244,9 @@ module _ (c : Content) (id number rows : ℕ) (items : List ℕ)
         own = λ other others is. let own = spelled text has other others is in (own.0, one others own.1);
       }
 
-  pub holds_none : ((others : List LineOrder) → SpellColumns text_columns rows items others → ⊥)
+  pub holds_none : ((others : List LineOrder) → SpellLast rows items others → ⊥)
       → HoldsNoneOf (bytes_of c id) number rows
   holds_none none = λ bytes others at many is.
       none others (spelled bytes
       (subst (λ (o : Option (List ℕ)). IsSomeAnd o (λ text. HasColumns text number rows
-      × (items ≡ drop (12 + 63 * rows) text))) at found) number others is).1
+      × LeadsToLast rows (drop (12 + 63 * rows) text) items)) at found) number others is).1

@@ -1,4 +1,5 @@
 pub mod Comparing
 pub mod Gathered
+pub mod Passing
 pub mod Stored
 pub mod TextColumns

@@ -1,14 +1,13 @@
-//! The ship modes of the rows of a batch, decoded from its columns of texts.
-ghost use Rattle.std.specs.Prelude.{◌≡◌, ◌⊎◌, ◌≤◌, List, length, IfErr, IfOk, OnOk};
+//! The ship modes of the rows of a batch, decoded from its last column of texts.
+ghost use Rattle.std.specs.Prelude.{◌≡◌, ◌⊎◌, ◌≤◌, List, length, IfErr, IfOk};
 ghost use Rattle.cube_model.specs.declared.fault.Fault.TheVariants.{BadLayout, Memory};
 ghost use Rattle.cube_model.specs.declared.rows.LineOrder.{LineOrder};
 ghost use Rattle.cube_model.specs.Limits.{most_batch_rows};
 ghost use Rattle.cube_model.specs.ShipModes.{modes_in};
 ghost use Rattle.batch_admission.specs.ShipModes.{AreCodesAmong, texts_by};
-ghost use Rattle.column_segment.specs.Columns.{text_columns};
 ghost use Rattle.column_segment.specs.Reading.{BeginsWithNoColumn};
 ghost use Rattle.dictionary.specs.Spelling.{AreShort};
-ghost use Rattle.batch_rows.specs.TextColumns.{SpellColumns, SpellLast, TakesColumn};
+ghost use Rattle.batch_rows.specs.TextColumns.{SpellLast, TakesColumn};
 
 use cube_model::Fault;
 use cube_model::limits::MOST_BATCH_ROWS;
@@ -16,10 +15,6 @@ use dictionary::{Dictionary, are_codes};
 use std::alloc::Global;
 use std::marker::Model;
 use wire::Cursor;
-
-// How many columns of texts are before that of the ship modes: the order priorities, the ship priorities and the
-// commit dates.
-const OTHER_COLUMNS: usize = 3;
 
 /// The ship mode of each row of a batch, in order: the different ones, and the code of each row's, in two bytes, the
 /// lowest first.
@@ -44,21 +39,18 @@ impl Model for ModeColumn {
 }
 
 impl ModeColumn {
-    /// The ship modes of the batch of so many rows that has these columns of texts. The codes of the columns before
-    /// that of the ship modes are not looked at.
+    /// The ship modes of the batch of so many rows that has this last column of texts.
     ///
-    /// `BadLayout` where they are those of no such batch, as far as what is read shows it. It can also fail when out of
-    /// memory.
+    /// `BadLayout` where it is that of no such batch. It can also fail when out of memory.
     pub(crate) fn decode(alloc: Global, bytes: &[u8], rows: usize) -> Result<ModeColumn, Fault>
         requires few { rows ≤ most_batch_rows }
         ensures ok { IfOk result (λ column. (others : List LineOrder)
-            → SpellColumns text_columns rows bytes.now others → column ≡ modes_in others) }
+            → SpellLast rows bytes.now others → column ≡ modes_in others) }
         ensures count { IfOk result (λ column. length column ≡ rows) }
         ensures refused { IfErr result (λ fault. (fault ≡ Memory) ⊎ ((fault ≡ BadLayout)
-            × ((others : List LineOrder) → ¬ SpellColumns text_columns rows bytes.now others))) }
+            × ((others : List LineOrder) → ¬ SpellLast rows bytes.now others))) }
     {
         let mut cursor = Cursor::new(bytes);
-        skip_others(alloc, &mut cursor, rows)?;
         let (texts, part) = take_column(alloc, &mut cursor, rows)?;
         let codes = part.as_chunks::<2>().0;
         if !cursor.is_empty() || !are_codes(codes, texts.len() as u32) {
@@ -77,20 +69,6 @@ impl ModeColumn {
     {
         (&self.texts, &self.codes)
     }
-}
-
-// Takes the columns of texts before the ship modes from the front of bytes.
-fn skip_others(alloc: Global, cursor: &mut Cursor<'_>, rows: usize) -> Result<(), Fault>
-    requires few { rows ≤ most_batch_rows }
-    ensures ok { OnOk result ((others : List LineOrder) → SpellColumns text_columns rows cursor.old others
-        → SpellLast rows cursor.new others) }
-    ensures refused { IfErr result (λ fault. (fault ≡ Memory) ⊎ ((fault ≡ BadLayout)
-        × ((others : List LineOrder) → ¬ SpellColumns text_columns rows cursor.old others))) }
-{
-    for _ in 0..OTHER_COLUMNS {
-        take_column(alloc, cursor, rows)?;
-    }
-    Ok(())
 }
 
 // Takes a column of texts from the front of bytes: its dictionary, and the bytes of the codes of so many rows.

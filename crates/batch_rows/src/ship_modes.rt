@@ -19,8 +19,9 @@ use std::alloc::Global;
 use warehouse_objects::ShipModes;
 use warehouse_root::Root;
 
-/// The ship modes of all batches in a store, each once in the order of first use. Of each batch the columns of texts
-/// are read, and none of numbers; those of one batch are in memory at a time.
+/// The ship modes of all batches in a store, each once in the order of first use. Of each batch the header, the
+/// dictionaries of its texts and the codes of its ship modes are read; the ship modes of one batch are in memory at a
+/// time.
 ///
 /// `ReservedMember` where one is the text `ALL`, with the first such row of all batches, or else `TooManyMembers` where
 /// there are more than 65,535, with the first row with which there are. It can also fail when out of memory, or because

@@ -1,6 +1,6 @@
 //! Reading the ship modes of a stored batch, and none of its columns of numbers.
 ghost use Rattle.std.specs.Prelude.{◌≡◌, ◌⊎◌, ◌↔◌, ◌+◌, ◌*◌, ◌≤◌, ◌<◌, ℕ, List, Some, drop, false, length, IfErr, IfOk};
-ghost use Rattle.std.specs.Prelude.{IfSome, IsErrOf, IsNone, IsSomeAnd, IsTrue, MatchResult};
+ghost use Rattle.std.specs.Prelude.{IsErrOf, IsSomeAnd, IsTrue, MatchResult};
 ghost use Rattle.cube_model.specs.declared.fault.Fault.TheVariants.{BadLayout, Device, Memory};
 ghost use Rattle.cube_model.specs.Limits.{most_batch_rows, most_batches};
 ghost use Rattle.object_store.specs.Content.{bytes_of};
@@ -11,9 +11,11 @@ ghost use Rattle.column_segment.specs.Reading.{HasHeader};
 ghost use Rattle.column_segment.specs.Segment.{segment_header};
 ghost use Rattle.warehouse_root.specs.Objects.{segment_id};
 ghost use Rattle.warehouse_objects.specs.Reads.{ReadsOnly};
+ghost use Rattle.batch_rows.specs.Passing.{LeadsToLast};
 ghost use Rattle.batch_rows.specs.Stored.{HoldsModes};
 
 use crate::mode_column::ModeColumn;
+use crate::passing::{after_columns, left_after};
 use cube_model::Fault;
 use cube_model::limits::MOST_BATCH_ROWS;
 use object_store::Store;
@@ -28,8 +30,8 @@ const HEADER_BYTES: usize = 12;
 // How many bytes a row takes in the columns of numbers.
 const NUMBER_BYTES: usize = 63;
 
-/// The ship mode of each row of the batch of a number. There are to be so many rows. Of its object the header and the
-/// columns of texts are read.
+/// The ship mode of each row of the batch of a number. There are to be so many rows. Of its object the header, the
+/// dictionaries of the columns of texts and the codes of the ship modes are read.
 ///
 /// `BadLayout` where no such batch is there, as far as these show it. It can also fail when out of memory, or because
 /// the device does.
@@ -52,12 +54,12 @@ pub(crate) fn read_mode_column<D: Sectors>(
     ensures causes { IfErr result (λ fault. (fault ≡ Memory) ⊎ ((fault ≡ Device) ⊎ (fault ≡ BadLayout))) }
 {
     let rows = count as usize;
-    let bytes = read_texts(alloc, store, segment_id(number), number, rows)?;
+    let bytes = read_last_column(alloc, store, segment_id(number), number, rows)?;
     ModeColumn::decode(alloc, &bytes, rows)
 }
 
-// Reads the columns of texts of the batch of a number and of so many rows that a source has at an id.
-fn read_texts<S: Source>(
+// Reads the last column of texts of the batch of a number and of so many rows that a source has at an id.
+fn read_last_column<S: Source>(
     alloc: Global,
     source: &mut S,
     id: u32,
@@ -66,7 +68,7 @@ fn read_texts<S: Source>(
 ) -> Result<Vec<u8>, Fault>
     ensures few { IfOk result (λ _. rows ≤ most_batch_rows) }
     ensures found { IfOk result (λ bytes. S.keeps_word source.new → IsSomeAnd (S.texts source.old id)
-        (λ text. HasColumns text number rows × (bytes.items ≡ drop (12 + 63 * rows) text))) }
+        (λ text. HasColumns text number rows × LeadsToLast rows (drop (12 + 63 * rows) text) bytes.items)) }
     ensures refused { IsErrOf result BadLayout → S.keeps_word source.new
         → HoldsNoneOf (S.texts source.old id) number rows }
     ensures run { MatchResult result (λ _. HasRead S.Source source.old source.new)
@@ -76,28 +78,44 @@ fn read_texts<S: Source>(
     if rows > MOST_BATCH_ROWS {
         return Err(Fault::BadLayout);
     }
-    let from = HEADER_BYTES + NUMBER_BYTES * rows;
-    let Some(count) = left_after(source, id, from) else {
-        return Err(Fault::BadLayout);
-    };
-    if !has_header(source, id, number, rows)? {
+    if !has_columns(source, id, number, rows)? {
         return Err(Fault::BadLayout);
     }
+    let at = after_columns(source, id, HEADER_BYTES + NUMBER_BYTES * rows, rows)?;
+    read_rest(alloc, source, id, at)
+}
+
+// Reads the bytes of a text from a place on. `BadLayout` where it ends before that.
+fn read_rest<S: Source>(alloc: Global, source: &mut S, id: u32, at: usize) -> Result<Vec<u8>, Fault>
+    ensures found { IfOk result (λ bytes. S.keeps_word source.new → IsSomeAnd (S.texts source.old id)
+        (λ text. bytes.items ≡ drop at text)) }
+    ensures refused { IsErrOf result BadLayout → S.keeps_word source.new → (text : List ℕ)
+        → S.texts source.old id ≡ Some text → length text < at }
+    ensures run { MatchResult result (λ _. HasRead S.Source source.old source.new)
+        (λ fault. (((fault ≡ Memory) ⊎ (fault ≡ BadLayout)) × HasRead S.Source source.old source.new)
+        ⊎ IsRefused S.Source fault source.old source.new) }
+{
+    let Some(count) = left_after(source, id, at) else {
+        return Err(Fault::BadLayout);
+    };
     let mut bytes = vec![in alloc; 0; count]?;
-    read_part(source, id, from as u64, bytes.as_mut_slice())?;
+    read_part(source, id, at as u64, bytes.as_mut_slice())?;
     Ok(bytes)
 }
 
-// How many bytes of a text are after the first so many. Nothing where it has fewer, or where there is none.
-fn left_after<S: Source>(source: &S, id: u32, from: usize) -> Option<usize>
-    ensures total { IfSome result (λ count. IsSomeAnd (S.totals source.now id) (λ total. from + count ≡ total)) }
-    ensures text { IfSome result (λ count. S.keeps_word source.now
-        → IsSomeAnd (S.texts source.now id) (λ text. from + count ≡ length text)) }
-    ensures none { IsNone result → S.keeps_word source.now → (text : List ℕ) → S.texts source.now id ≡ Some text
-        → length text < from }
+// Whether a source has at an id the header of a batch of a number and of so many rows, and room after it for the
+// columns of numbers.
+fn has_columns<S: Source>(source: &mut S, id: u32, number: u32, rows: usize) -> Result<bool, Fault>
+    requires few { rows ≤ most_batch_rows }
+    ensures same { IfOk result (λ yes. S.keeps_word source.new → (text : List ℕ) → S.texts source.old id ≡ Some text
+        → IsTrue yes ↔ HasColumns text number rows) }
+    ensures run { MatchResult result (λ _. HasRead S.Source source.old source.new)
+        (λ fault. IsRefused S.Source fault source.old source.new) }
 {
-    let total = source.total(id)?;
-    (total as usize).checked_sub(from)
+    match left_after(source, id, HEADER_BYTES + NUMBER_BYTES * rows) {
+        Some(_) => has_header(source, id, number, rows),
+        None => Ok(false),
+    }
 }
 
 // Whether a source has at an id the header of a batch of a number and of so many rows.

@@ -176,8 +176,8 @@ fn cut_each_call(
 
 /// The least number of device calls of a life: 11 of the creation, 5 of each batch and of the addition, 4 of the
 /// choice and of the views with one by ship mode, 22 of each upkeep of three cuboids, 11 of that of one over two
-/// batches, and 9 of the move, which reads two parts of each of two batches. Those of the queries are more.
-const LEAST_CALLS: u64 = 103;
+/// batches, and 21 of the move, which reads eight parts of each of two batches. Those of the queries are more.
+const LEAST_CALLS: u64 = 115;
 
 fn outcome_of_way(alloc: Global, way: &(Failing, After)) -> Result<Outcome, Fault> {
     cut_each_call(alloc, way.0, way.1, &wanted(alloc)?)

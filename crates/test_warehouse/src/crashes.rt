@@ -26,11 +26,12 @@ impl Call {
         }
     }
 
-    /// How many reads come before its writes: that of the header of the first batch, and that of its columns of texts.
+    /// How many reads come before its writes: of the first batch that of the header, two of each of the three
+    /// dictionaries before the ship modes, and that of the ship modes.
     fn reads(self) -> u64 {
         match self {
             Call::Submit | Call::Add => 0,
-            Call::Migrate => 2,
+            Call::Migrate => 8,
         }
     }
 }

@@ -2,13 +2,13 @@ use Rattle.std.proofs.Common.{◌≡◌, ◌+◌, ◌*◌, List, ℕ, drop, subs
 use Rattle.std.specs.Option.{IsSomeAnd}
 use Rattle.std.proofs.lemmas.Result.{IfOk-weaker}
 use Rattle.cube_model.specs.declared.fault.Fault.TheVariants.{BadLayout}
-use Rattle.column_segment.specs.Columns.{text_columns}
 use Rattle.column_segment.specs.Projected.{HasColumns}
 use Rattle.object_store.specs.Content.{bytes_of}
 use Rattle.object_store.specs.Store.{content_of}
 use Rattle.warehouse_objects.proofs.Folded.{bad_one, of_fault}
 use Rattle.warehouse_root.specs.Objects.{segment_id}
-use Rattle.batch_rows.specs.TextColumns.{SpellColumns}
+use Rattle.batch_rows.specs.Passing.{LeadsToLast}
+use Rattle.batch_rows.specs.TextColumns.{SpellLast}
 use Rattle.batch_rows.proofs.TextPart.{holds_modes, holds_none}
 use Rattle.batch_rows.proofs.text_part.read_mode_column.Goals as goal
 
@@ -19,10 +19,10 @@ returns-clause-modes g c =
     c.in_ok-bytes.bytes.items
     (subst (λ (id : ℕ). IsSomeAnd (bytes_of (content_of g.D.Sectors c.args.store.now) id)
     (λ text. HasColumns text c.args.number c.args.count
-    × (c.in_ok-bytes.bytes.items ≡ drop (12 + 63 * c.args.count) text))) c.segment_id.ensures
+    × LeadsToLast c.args.count (drop (12 + 63 * c.args.count) text) c.in_ok-bytes.bytes.items)) c.segment_id.ensures
     (c.in_ok-bytes.ensures.found k)) modes
     (λ others are. own others
-    (subst (λ (bytes : List ℕ). SpellColumns text_columns c.args.count bytes others) (sym c.deref.ensures.value) are)))
+    (subst (λ (bytes : List ℕ). SpellLast c.args.count bytes others) (sym c.deref.ensures.value) are)))
     c.decode.ensures.ok
 
 pub returns-clause-refused : goal.returns-clause-refused
@@ -32,8 +32,8 @@ returns-clause-refused g c is k =
     c.in_ok-bytes.bytes.items
     (subst (λ (id : ℕ). IsSomeAnd (bytes_of (content_of g.D.Sectors c.args.store.now) id)
     (λ text. HasColumns text c.args.number c.args.count
-    × (c.in_ok-bytes.bytes.items ≡ drop (12 + 63 * c.args.count) text))) c.segment_id.ensures
+    × LeadsToLast c.args.count (drop (12 + 63 * c.args.count) text) c.in_ok-bytes.bytes.items)) c.segment_id.ensures
     (c.in_ok-bytes.ensures.found k))
     (λ others are. none others
-    (subst (λ (bytes : List ℕ). SpellColumns text_columns c.args.count bytes others) (sym c.deref.ensures.value)
+    (subst (λ (bytes : List ℕ). SpellLast c.args.count bytes others) (sym c.deref.ensures.value)
     are)))
