@@ -1,12 +1,10 @@
 //! The answer to a query that may look at ship modes, over the first batches of a warehouse.
-ghost use Rattle.std.specs.Prelude.{◌≡◌, ◌≢◌, ◌<◌, ◌↔◌, true, false, Err, length, IfErr, IfOk, IsErrOf};
-ghost use Rattle.cube_model.specs.declared.fault.Fault.TheVariants.{BadQuery, Device, Failed, NoSuchPrefix};
+ghost use Rattle.std.specs.Prelude.{◌≡◌, IfOk, IsErrOf};
 ghost use Rattle.mode_answers.specs.Answers.{moded_answer_as_of};
 ghost use Rattle.mode_queries.specs.Proper.{IsProperByModes};
-ghost use Rattle.object_store.specs.Disk.{Leaves};
-ghost use Rattle.warehouse.specs.ByModes.{IsAskedByModes, RefusesByModes};
-ghost use Rattle.warehouse.specs.Session.{Breaks, IsAt, KeepsContent, device_of, disk_of, has_failed};
-ghost use Rattle.warehouse_objects.specs.Represents.{Represents};
+ghost use Rattle.warehouse.specs.ByModes.{IsAskedByModes};
+ghost use Rattle.warehouse.specs.Reads.{OnlyReads, RefusesQuery};
+ghost use Rattle.warehouse.specs.Session.{IsAt, device_of};
 ghost use Rattle.warehouse_objects.specs.Warehouse.{Warehouse};
 
 use crate::reported::Reported;
@@ -28,15 +26,8 @@ pub fn answered<D: Sectors>(
     as_of: u32,
     asked: &ModeQuery,
 ) -> Result<Reported, Fault>
-    // The warehouse stays as it is, at each moment.
-    ensures leaves { (w : Warehouse) → IsAt D.Sectors session.old w
-        → Leaves (disk_of D.Sectors session.old) (disk_of D.Sectors session.new) (λ c. Represents c w) }
-    ensures stays { (IsErrOf result Device → ⊥) → (w : Warehouse) → IsAt D.Sectors session.old w
-        → IsAt D.Sectors session.new w }
-
-    // Nothing was put on the device, and after a failure nothing is done.
-    ensures reads { (IsErrOf result Device → ⊥) → KeepsContent D.Sectors session.old session.new }
-    ensures unmoved { IsErrOf result Failed → session.new ≡ session.old }
+    // It only reads: the warehouse stays as it is, at each moment, and after a failure nothing is done.
+    ensures reads { OnlyReads D.Sectors (IsErrOf result) session.old session.new }
 
     // The answer is the definition's.
     ensures answer { IfOk result (λ found. (w : Warehouse) → IsAt D.Sectors session.old w
@@ -44,15 +35,8 @@ pub fn answered<D: Sectors>(
         → IsAskedByModes w as_of asked.now × (found ≡ moded_answer_as_of asked.now as_of w.rows w.batches)) }
 
     // When each error comes.
-    ensures improper { has_failed session.old ≡ false → (IsProperByModes asked.now → ⊥) → result ≡ Err BadQuery }
-    ensures beyond { (w : Warehouse) → IsAt D.Sectors session.old w → D.keeps_word (device_of session.new)
-        → IsProperByModes asked.now → length w.batches < as_of → result ≡ Err NoSuchPrefix }
-    ensures refused { IfErr result (λ fault. fault ≢ Device → (w : Warehouse) → IsAt D.Sectors session.old w
-        → D.keeps_word (device_of session.new)
-        → RefusesByModes w as_of asked.now fault) }
-    ensures failed { IsErrOf result Failed ↔ (has_failed session.old ≡ true) }
-    ensures device { IsErrOf result Device → Breaks D.Sectors session.old session.new }
-    ensures word { D.keeps_word (device_of session.new) → D.keeps_word (device_of session.old) }
+    ensures refused { RefusesQuery D.Sectors (IsProperByModes asked.now) as_of (IsErrOf result) session.old
+        session.new }
 {
     match asked.plain() {
         Some(query) => match session.query_groups(alloc, as_of, query) {

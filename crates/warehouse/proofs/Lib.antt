@@ -7,12 +7,13 @@ pub mod EarlyCauses
 pub mod CheckedModes
 pub mod GrownBatches
 pub mod Represented
+pub mod OnlyReading
 pub mod Submitting
 pub mod Making
 pub mod FoundLaws
 mod Caught
 pub mod Cuboids
-mod ByModes
+pub mod Asking
 mod Pairing
 pub mod Wider
 mod Compared

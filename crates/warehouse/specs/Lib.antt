@@ -2,6 +2,7 @@ pub mod Props
 pub mod Refusing
 pub mod Loaded
 pub mod Session
+pub mod Reads
 pub mod ByModes
 pub mod Found
 pub mod Prepared

@@ -83,18 +83,25 @@ AddRefuses g session w number more fault =
     × stores.Refuses (content_of g session) (room_of session) (widening_puts w.rows more) []
     (roots.root_spelling (root_of (widened w more))) fault))
 
--- a query that is proper, over batches that are there
-pub record IsAsked (w : Warehouse) (as_of : ℕ) (query : Query) : Type 0 where
-  pub proper : IsProper query
+-- a query of which P says that it is proper, over batches that are there
+pub record IsAskable (P : Type 0) (w : Warehouse) (as_of : ℕ) : Type 0 where
+  pub proper : P
   pub there : as_of ≤ length w.batches
 
 -- Why a query is refused where the device has not failed: it is not proper; it is, and asks for more batches than there
 -- are; or there is no memory.
+abbrev pub AskingRefuses : Type 0 → Warehouse → ℕ → Fault → Type 0
+AskingRefuses P w as_of fault =
+    ((fault ≡ BadQuery) × (P → ⊥))
+    ⊎ (((fault ≡ NoSuchPrefix) × P × (length w.batches < as_of))
+    ⊎ ((fault ≡ Memory) × IsAskable P w as_of))
+
+-- a query that is proper, over batches that are there
+abbrev pub IsAsked : Warehouse → ℕ → Query → Type 0
+IsAsked w as_of query = IsAskable (IsProper query) w as_of
+
 abbrev pub QueryRefuses : Warehouse → ℕ → Query → Fault → Type 0
-QueryRefuses w as_of query fault =
-    ((fault ≡ BadQuery) × (IsProper query → ⊥))
-    ⊎ (((fault ≡ NoSuchPrefix) × IsProper query × (length w.batches < as_of))
-    ⊎ ((fault ≡ Memory) × IsAsked w as_of query))
+QueryRefuses w as_of query fault = AskingRefuses (IsProper query) w as_of fault
 
 -- a session that has not failed is at what its content represents
 pub is_at : {D : Type 0} (g : Ghosts D) (session : Session D g) (w : Warehouse) → has_failed session ≡ false

@@ -1,14 +1,13 @@
 //! Queries that look at ship modes, over the first batches of a warehouse.
-ghost use Rattle.std.specs.Prelude.{◌≡◌, ◌≢◌, ◌⊎◌, ◌<◌, ◌≤◌, ◌↔◌, true, false, Err, length, IfOk, IfErr, IsErrOf, OnOk};
+ghost use Rattle.std.specs.Prelude.{◌≡◌, ◌⊎◌, ◌<◌, ◌≤◌, ◌↔◌, true, Err, IfOk, IfErr, IsErrOf, OnOk};
 ghost use Rattle.cube_model.specs.declared.fault.Fault.TheVariants.{BadQuery, Device, Failed, NoSuchPrefix};
 ghost use Rattle.mode_answers.specs.Answers.{moded_answer_as_of};
 ghost use Rattle.mode_answers.specs.Planned.{ArePlansByModes, looks_at_modes};
 ghost use Rattle.mode_queries.specs.Proper.{IsProperByModes};
-ghost use Rattle.object_store.specs.Disk.{Leaves};
-ghost use Rattle.warehouse_objects.specs.Represents.{Represents};
 ghost use Rattle.warehouse_objects.specs.Warehouse.{Warehouse};
-ghost use Rattle.warehouse.specs.ByModes.{IsAskedByModes, RefusesByModes};
-ghost use Rattle.warehouse.specs.Session.{has_failed, device_of, disk_of, IsAt, Breaks, KeepsContent};
+ghost use Rattle.warehouse.specs.ByModes.{IsAskedByModes};
+ghost use Rattle.warehouse.specs.Reads.{OnlyReads, RefusesQuery};
+ghost use Rattle.warehouse.specs.Session.{has_failed, device_of, IsAt};
 
 use crate::prepared::kept_is_represented;
 use crate::querying::are_there;
@@ -33,15 +32,8 @@ impl<D: Sectors> Session<D> {
     ) -> Result<FoundByModes, Fault>
         requires looks { looks_at_modes asked.now ≡ true }
 
-        // The warehouse stays as it is, at each moment.
-        ensures leaves { (w : Warehouse) → IsAt D.Sectors self.old w
-            → Leaves (disk_of D.Sectors self.old) (disk_of D.Sectors self.new) (λ c. Represents c w) }
-        ensures stays { (IsErrOf result Device → ⊥) → (w : Warehouse) → IsAt D.Sectors self.old w
-            → IsAt D.Sectors self.new w }
-
-        // Nothing was put on the device, and after a failure nothing is done.
-        ensures reads { (IsErrOf result Device → ⊥) → KeepsContent D.Sectors self.old self.new }
-        ensures unmoved { IsErrOf result Failed → self.new ≡ self.old }
+        // It only reads: the warehouse stays as it is, at each moment, and after a failure nothing is done.
+        ensures reads { OnlyReads D.Sectors (IsErrOf result) self.old self.new }
 
         // The answer is the definition's.
         ensures answer { IfOk result (λ found. (w : Warehouse) → IsAt D.Sectors self.old w
@@ -49,15 +41,7 @@ impl<D: Sectors> Session<D> {
             → IsAskedByModes w as_of asked.now × (found ≡ moded_answer_as_of asked.now as_of w.rows w.batches)) }
 
         // When each error comes.
-        ensures improper { has_failed self.old ≡ false → (IsProperByModes asked.now → ⊥) → result ≡ Err BadQuery }
-        ensures beyond { (w : Warehouse) → IsAt D.Sectors self.old w → D.keeps_word (device_of self.new)
-            → IsProperByModes asked.now → length w.batches < as_of → result ≡ Err NoSuchPrefix }
-        ensures refused { IfErr result (λ fault. fault ≢ Device → (w : Warehouse) → IsAt D.Sectors self.old w
-            → D.keeps_word (device_of self.new)
-            → RefusesByModes w as_of asked.now fault) }
-        ensures failed { IsErrOf result Failed ↔ (has_failed self.old ≡ true) }
-        ensures device { IsErrOf result Device → Breaks D.Sectors self.old self.new }
-        ensures word { D.keeps_word (device_of self.new) → D.keeps_word (device_of self.old) }
+        ensures refused { RefusesQuery D.Sectors (IsProperByModes asked.now) as_of (IsErrOf result) self.old self.new }
     {
         if self.is_broken() {
             return Err(Fault::Failed);
@@ -96,12 +80,8 @@ impl<D: Sectors> Session<D> {
             → IsAskedByModes w as_of asked.now × ArePlansByModes w as_of asked.now plans.items) }
 
         // When each error comes.
-        ensures improper { has_failed self.now ≡ false → (IsProperByModes asked.now → ⊥) → result ≡ Err BadQuery }
-        ensures beyond { (w : Warehouse) → IsAt D.Sectors self.now w → D.keeps_word (device_of self.now)
-            → IsProperByModes asked.now → length w.batches < as_of → result ≡ Err NoSuchPrefix }
-        ensures refused { IfErr result (λ fault. (w : Warehouse) → IsAt D.Sectors self.now w
-            → D.keeps_word (device_of self.now)
-            → RefusesByModes w as_of asked.now fault) }
+        ensures refused { RefusesQuery D.Sectors (IsProperByModes asked.now) as_of (IsErrOf result) self.now self.now }
+        ensures apart { IsErrOf result Device → ⊥ }
         ensures failed { IsErrOf result Failed ↔ (has_failed self.now ≡ true) }
     {
         if self.store.is_broken() {

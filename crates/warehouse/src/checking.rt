@@ -1,12 +1,12 @@
 //! Checking all that is stored of a warehouse.
-ghost use Rattle.std.specs.Prelude.{◌≡◌, ◌≢◌, ◌↔◌, All, IsTrue, None, is_some, true, IfErr, IfOk, IsErrOf};
-ghost use Rattle.cube_model.specs.declared.fault.Fault.TheVariants.{Device, Failed, Memory};
-ghost use Rattle.object_store.specs.Disk.{Leaves};
+ghost use Rattle.std.specs.Prelude.{◌≡◌, ◌≢◌, All, IsTrue, None, is_some, IfErr, IfOk, IsErrOf};
+ghost use Rattle.cube_model.specs.declared.fault.Fault.TheVariants.{Device, Memory};
 ghost use Rattle.warehouse_objects.specs.Warehouse.{Warehouse};
 ghost use Rattle.warehouse_objects.specs.Represents.{Represents};
 ghost use Rattle.stored_cuboids.specs.Merged.{IsSound};
 ghost use Rattle.warehouse_check.specs.Checked.{IsChecked};
-ghost use Rattle.warehouse.specs.Session.{Breaks, IsAt, KeepsContent, content_of, device_of, disk_of, has_failed};
+ghost use Rattle.warehouse.specs.Reads.{OnlyReads};
+ghost use Rattle.warehouse.specs.Session.{IsAt, content_of, device_of};
 ghost use Rattle.warehouse.specs.Upkeep.{IsLaidAt};
 
 use crate::prepared::kept_is_represented;
@@ -26,12 +26,8 @@ impl<D: Sectors> Session<D> {
     /// that the runs of its cuboids follow each other by the rules, is only tested. It can fail when out of memory, and
     /// because the device does.
     pub fn check(&mut self, alloc: Global) -> Result<Option<Finding>, Fault>
-        // The warehouse stays as it is, at each moment.
-        ensures leaves { (w : Warehouse) → IsAt D.Sectors self.old w
-            → Leaves (disk_of D.Sectors self.old) (disk_of D.Sectors self.new) (λ c. Represents c w) }
-        ensures stays { (IsErrOf result Device → ⊥) → (w : Warehouse) → IsAt D.Sectors self.old w
-            → IsAt D.Sectors self.new w }
-        ensures reads { (IsErrOf result Device → ⊥) → KeepsContent D.Sectors self.old self.new }
+        // It only reads: the warehouse stays as it is, at each moment, and after a failure nothing is done.
+        ensures reads { OnlyReads D.Sectors (IsErrOf result) self.old self.new }
 
         // Nothing is found: then the content has its objects and batches, whatever it is, and where its cuboids are
         // laid out by the rules, each is the grouping of its batches.
@@ -50,10 +46,6 @@ impl<D: Sectors> Session<D> {
         // When each error comes.
         ensures refused { IfErr result (λ fault. fault ≢ Device → (w : Warehouse) → IsAt D.Sectors self.old w
             → D.keeps_word (device_of self.new) → fault ≡ Memory) }
-        ensures failed { IsErrOf result Failed ↔ (has_failed self.old ≡ true) }
-        ensures unmoved { IsErrOf result Failed → self.new ≡ self.old }
-        ensures device { IsErrOf result Device → Breaks D.Sectors self.old self.new }
-        ensures word { D.keeps_word (device_of self.new) → D.keeps_word (device_of self.old) }
     {
         if self.is_broken() {
             return Err(Fault::Failed);

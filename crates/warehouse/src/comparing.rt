@@ -1,16 +1,17 @@
 //! Comparing a batch with the one that is stored under a number.
-ghost use Rattle.std.specs.Prelude.{◌≡◌, ◌≢◌, ◌⊎◌, ◌↔◌, ◌≤◌, true, false, Some, List, length, option_map, IfErr, IfOk};
+ghost use Rattle.std.specs.Prelude.{◌≡◌, ◌≢◌, ◌⊎◌, ◌↔◌, ◌≤◌, false, Some, List, length, option_map, IfErr, IfOk};
 ghost use Rattle.std.specs.Prelude.{IfSome, IsErrOf, IsTrue, MatchResult};
-ghost use Rattle.cube_model.specs.declared.fault.Fault.TheVariants.{Device, Failed, Memory};
+ghost use Rattle.cube_model.specs.declared.fault.Fault.TheVariants.{Device, Memory};
 ghost use Rattle.cube_model.specs.declared.rows.DimRows.{DimRows};
 ghost use Rattle.cube_model.specs.declared.rows.LineOrder.{LineOrder};
 ghost use Rattle.cube_model.specs.Limits.{most_batches};
 ghost use Rattle.object_store.specs.Content.{bytes_of};
-ghost use Rattle.object_store.specs.Disk.{Leaves};
 ghost use Rattle.object_store.specs.Store as stores;
 ghost use Rattle.warehouse.specs.Comparing.{numbered};
 ghost use Rattle.warehouse.specs.Growing.{Grows, IsGrown, IsOfSession};
-ghost use Rattle.warehouse.specs.Session.{Breaks, IsAt, KeepsContent, device_of, disk_of, has_failed};
+ghost use Rattle.warehouse.specs.Reads.{OnlyReads};
+ghost use Rattle.warehouse.specs.Session.{IsAt, device_of};
+ghost use Rattle.warehouse_objects.specs.Reads.{ReadsOnly};
 ghost use Rattle.warehouse_objects.specs.Represents.{Represents, root_of};
 ghost use Rattle.warehouse_objects.specs.Warehouse.{Warehouse};
 ghost use Rattle.wire.specs.Runs.{HasRead, IsRefused};
@@ -50,15 +51,8 @@ impl<D: Sectors> Session<D> {
     ) -> Result<bool, Fault>
         requires batch { IsOfSession self.old batch.now }
 
-        // The warehouse stays as it is, at each moment.
-        ensures leaves { (w : Warehouse) → IsAt D.Sectors self.old w
-            → Leaves (disk_of D.Sectors self.old) (disk_of D.Sectors self.new) (λ c. Represents c w) }
-        ensures stays { (IsErrOf result Device → ⊥) → (w : Warehouse) → IsAt D.Sectors self.old w
-            → IsAt D.Sectors self.new w }
-
-        // Nothing was put on the device, and after a failure nothing is done.
-        ensures reads { (IsErrOf result Device → ⊥) → KeepsContent D.Sectors self.old self.new }
-        ensures unmoved { IsErrOf result Failed → self.new ≡ self.old }
+        // It only reads: the warehouse stays as it is, at each moment, and after a failure nothing is done.
+        ensures reads { OnlyReads D.Sectors (IsErrOf result) self.old self.new }
 
         // The answer is yes exactly where the batch of that number is this one.
         ensures answer { IfOk result (λ yes. (w : Warehouse) (rows : List LineOrder) → IsAt D.Sectors self.old w
@@ -68,9 +62,6 @@ impl<D: Sectors> Session<D> {
         // When each error comes.
         ensures refused { IfErr result (λ fault. fault ≢ Device → (w : Warehouse) → IsAt D.Sectors self.old w
             → fault ≡ Memory) }
-        ensures failed { IsErrOf result Failed ↔ (has_failed self.old ≡ true) }
-        ensures device { IsErrOf result Device → Breaks D.Sectors self.old self.new }
-        ensures word { D.keeps_word (device_of self.new) → D.keeps_word (device_of self.old) }
     {
         if self.is_broken() {
             return Err(Fault::Failed);
@@ -109,10 +100,7 @@ fn is_stored<D: Sectors>(
         → Represents (stores.content_of D.Sectors store.old) w → root.now ≡ root_of w
         → IsGrown dimensions root.now rows batch.now
         → IsTrue yes ↔ (numbered w.batches number ≡ Some rows)) }
-    ensures leaves { Leaves (stores.disk_of D.Sectors store.old) (stores.disk_of D.Sectors store.new)
-        (λ c. c ≡ stores.content_of D.Sectors store.old) }
-    ensures stays { (IsErrOf result Device → ⊥) → stores.IsStill D.Sectors store.old store.new }
-    ensures device { IsErrOf result Device → stores.Breaks D.Sectors store.old store.new }
+    ensures reads { ReadsOnly D.Sectors store.old store.new result }
     ensures causes { IfErr result (λ fault. (fault ≡ Memory) ⊎ (fault ≡ Device)) }
 {
     let _usable = store.is_broken();
@@ -130,10 +118,7 @@ fn has_object<D: Sectors>(store: &mut Store<D>, id: u32, bytes: &[u8]) -> Result
     requires fine { stores.has_failed store.old ≡ false }
     ensures same { IfOk result (λ yes. D.keeps_word (stores.device_of store.new)
         → IsTrue yes ↔ (bytes_of (stores.content_of D.Sectors store.old) id ≡ Some bytes.now)) }
-    ensures leaves { Leaves (stores.disk_of D.Sectors store.old) (stores.disk_of D.Sectors store.new)
-        (λ c. c ≡ stores.content_of D.Sectors store.old) }
-    ensures stays { (IsErrOf result Device → ⊥) → stores.IsStill D.Sectors store.old store.new }
-    ensures device { IsErrOf result Device → stores.Breaks D.Sectors store.old store.new }
+    ensures reads { ReadsOnly D.Sectors store.old store.new result }
     ensures causes { IfErr result (λ fault. fault ≡ Device) }
 {
     has_text(store, id, bytes)

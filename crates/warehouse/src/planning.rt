@@ -1,10 +1,11 @@
 //! How a query is answered.
-ghost use Rattle.std.specs.Prelude.{◌≡◌, ◌<◌, ◌↔◌, true, false, Err, length, IfOk, IfErr, IsErrOf};
-ghost use Rattle.cube_model.specs.declared.fault.Fault.TheVariants.{BadQuery, Failed, NoSuchPrefix};
+ghost use Rattle.std.specs.Prelude.{◌≡◌, ◌↔◌, true, IfOk, IsErrOf};
+ghost use Rattle.cube_model.specs.declared.fault.Fault.TheVariants.{Device, Failed};
 ghost use Rattle.cube_model.specs.Proper.{IsProper};
 ghost use Rattle.planned_queries.specs.Planned.{ArePlansOf, IsPlanOf};
 ghost use Rattle.warehouse_objects.specs.Warehouse.{Warehouse};
-ghost use Rattle.warehouse.specs.Session.{has_failed, device_of, IsAt, IsAsked, QueryRefuses};
+ghost use Rattle.warehouse.specs.Reads.{RefusesQuery};
+ghost use Rattle.warehouse.specs.Session.{has_failed, device_of, IsAt, IsAsked};
 
 use crate::prepared::kept_is_represented;
 use crate::querying::check;
@@ -26,12 +27,8 @@ impl<D: Sectors> Session<D> {
             → IsAsked w as_of query.now × IsPlanOf w as_of query.now plan) }
 
         // When each error comes.
-        ensures improper { has_failed self.now ≡ false → (IsProper query.now → ⊥) → result ≡ Err BadQuery }
-        ensures beyond { (w : Warehouse) → IsAt D.Sectors self.now w → D.keeps_word (device_of self.now)
-            → IsProper query.now → length w.batches < as_of → result ≡ Err NoSuchPrefix }
-        ensures refused { IfErr result (λ fault. (w : Warehouse) → IsAt D.Sectors self.now w
-            → D.keeps_word (device_of self.now)
-            → QueryRefuses w as_of query.now fault) }
+        ensures refused { RefusesQuery D.Sectors (IsProper query.now) as_of (IsErrOf result) self.now self.now }
+        ensures apart { IsErrOf result Device → ⊥ }
         ensures failed { IsErrOf result Failed ↔ (has_failed self.now ≡ true) }
     {
         if self.store.is_broken() {
@@ -52,12 +49,8 @@ impl<D: Sectors> Session<D> {
             → IsAsked w as_of query.now × ArePlansOf w as_of query.now plans.items) }
 
         // When each error comes.
-        ensures improper { has_failed self.now ≡ false → (IsProper query.now → ⊥) → result ≡ Err BadQuery }
-        ensures beyond { (w : Warehouse) → IsAt D.Sectors self.now w → D.keeps_word (device_of self.now)
-            → IsProper query.now → length w.batches < as_of → result ≡ Err NoSuchPrefix }
-        ensures refused { IfErr result (λ fault. (w : Warehouse) → IsAt D.Sectors self.now w
-            → D.keeps_word (device_of self.now)
-            → QueryRefuses w as_of query.now fault) }
+        ensures refused { RefusesQuery D.Sectors (IsProper query.now) as_of (IsErrOf result) self.now self.now }
+        ensures apart { IsErrOf result Device → ⊥ }
         ensures failed { IsErrOf result Failed ↔ (has_failed self.now ≡ true) }
     {
         if self.store.is_broken() {

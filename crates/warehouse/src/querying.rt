@@ -1,15 +1,11 @@
 //! The answer to a query over the first batches of a warehouse.
-ghost use Rattle.std.specs.Prelude.{◌≡◌, ◌≢◌, take, ◌⊎◌, ◌<◌, ◌≤◌, ◌↔◌, true, false, [], Err, length, IfOk, IfErr};
-ghost use Rattle.std.specs.Prelude.{IsErrOf, OnOk};
-ghost use Rattle.cube_model.specs.declared.fault.Fault.TheVariants.{BadLayout, Device, Failed, Memory, BadQuery};
-ghost use Rattle.cube_model.specs.declared.fault.Fault.TheVariants.{NoSuchPrefix};
+ghost use Rattle.std.specs.Prelude.{◌≡◌, ◌⊎◌, ◌<◌, ◌≤◌, Err, IfOk, IfErr, IsErrOf, OnOk};
+ghost use Rattle.cube_model.specs.declared.fault.Fault.TheVariants.{BadQuery, NoSuchPrefix};
 ghost use Rattle.cube_model.specs.Answers.{answer_as_of};
 ghost use Rattle.cube_model.specs.Proper.{IsProper};
-ghost use Rattle.object_store.specs.Disk.{Leaves};
 ghost use Rattle.warehouse_objects.specs.Warehouse.{Warehouse};
-ghost use Rattle.warehouse_objects.specs.Represents.{Represents};
-ghost use Rattle.warehouse.specs.Session.{has_failed, device_of, disk_of, IsAt, Breaks, KeepsContent, IsAsked};
-ghost use Rattle.warehouse.specs.Session.{QueryRefuses};
+ghost use Rattle.warehouse.specs.Reads.{OnlyReads, RefusesQuery};
+ghost use Rattle.warehouse.specs.Session.{device_of, IsAt, IsAsked};
 
 use crate::prepared::kept_is_represented;
 use crate::session::Session;
@@ -24,15 +20,8 @@ impl<D: Sectors> Session<D> {
     /// `BadQuery` exactly where the query is not proper, else `NoSuchPrefix` exactly where there are fewer batches. It
     /// can also fail when out of memory, and where the device fails.
     pub fn query(&mut self, alloc: Global, as_of: u32, query: &Query) -> Result<Answer, Fault>
-        // The warehouse stays as it is, at each moment.
-        ensures leaves { (w : Warehouse) → IsAt D.Sectors self.old w
-            → Leaves (disk_of D.Sectors self.old) (disk_of D.Sectors self.new) (λ c. Represents c w) }
-        ensures stays { (IsErrOf result Device → ⊥) → (w : Warehouse) → IsAt D.Sectors self.old w
-            → IsAt D.Sectors self.new w }
-
-        // Nothing was put on the device, and after a failure nothing is done.
-        ensures reads { (IsErrOf result Device → ⊥) → KeepsContent D.Sectors self.old self.new }
-        ensures unmoved { IsErrOf result Failed → self.new ≡ self.old }
+        // It only reads: the warehouse stays as it is, at each moment, and after a failure nothing is done.
+        ensures reads { OnlyReads D.Sectors (IsErrOf result) self.old self.new }
 
         // The answer is the definition's.
         ensures answer { IfOk result (λ found. (w : Warehouse) → IsAt D.Sectors self.old w
@@ -40,15 +29,7 @@ impl<D: Sectors> Session<D> {
             → IsAsked w as_of query.now × (found ≡ answer_as_of query.now as_of w.rows w.batches)) }
 
         // When each error comes.
-        ensures improper { has_failed self.old ≡ false → (IsProper query.now → ⊥) → result ≡ Err BadQuery }
-        ensures beyond { (w : Warehouse) → IsAt D.Sectors self.old w → D.keeps_word (device_of self.new)
-            → IsProper query.now → length w.batches < as_of → result ≡ Err NoSuchPrefix }
-        ensures refused { IfErr result (λ fault. fault ≢ Device → (w : Warehouse) → IsAt D.Sectors self.old w
-            → D.keeps_word (device_of self.new)
-            → QueryRefuses w as_of query.now fault) }
-        ensures failed { IsErrOf result Failed ↔ (has_failed self.old ≡ true) }
-        ensures device { IsErrOf result Device → Breaks D.Sectors self.old self.new }
-        ensures word { D.keeps_word (device_of self.new) → D.keeps_word (device_of self.old) }
+        ensures refused { RefusesQuery D.Sectors (IsProper query.now) as_of (IsErrOf result) self.old self.new }
     {
         match self.query_groups(alloc, as_of, query) {
             Ok(found) => match found.answer(alloc) {
@@ -63,15 +44,8 @@ impl<D: Sectors> Session<D> {
     ///
     /// It is refused as `query` is.
     pub fn query_groups(&mut self, alloc: Global, as_of: u32, query: &Query) -> Result<Found, Fault>
-        // The warehouse stays as it is, at each moment.
-        ensures leaves { (w : Warehouse) → IsAt D.Sectors self.old w
-            → Leaves (disk_of D.Sectors self.old) (disk_of D.Sectors self.new) (λ c. Represents c w) }
-        ensures stays { (IsErrOf result Device → ⊥) → (w : Warehouse) → IsAt D.Sectors self.old w
-            → IsAt D.Sectors self.new w }
-
-        // Nothing was put on the device, and after a failure nothing is done.
-        ensures reads { (IsErrOf result Device → ⊥) → KeepsContent D.Sectors self.old self.new }
-        ensures unmoved { IsErrOf result Failed → self.new ≡ self.old }
+        // It only reads: the warehouse stays as it is, at each moment, and after a failure nothing is done.
+        ensures reads { OnlyReads D.Sectors (IsErrOf result) self.old self.new }
 
         // The answer is the definition's.
         ensures answer { IfOk result (λ found. (w : Warehouse) → IsAt D.Sectors self.old w
@@ -79,15 +53,7 @@ impl<D: Sectors> Session<D> {
             → IsAsked w as_of query.now × (found ≡ answer_as_of query.now as_of w.rows w.batches)) }
 
         // When each error comes.
-        ensures improper { has_failed self.old ≡ false → (IsProper query.now → ⊥) → result ≡ Err BadQuery }
-        ensures beyond { (w : Warehouse) → IsAt D.Sectors self.old w → D.keeps_word (device_of self.new)
-            → IsProper query.now → length w.batches < as_of → result ≡ Err NoSuchPrefix }
-        ensures refused { IfErr result (λ fault. fault ≢ Device → (w : Warehouse) → IsAt D.Sectors self.old w
-            → D.keeps_word (device_of self.new)
-            → QueryRefuses w as_of query.now fault) }
-        ensures failed { IsErrOf result Failed ↔ (has_failed self.old ≡ true) }
-        ensures device { IsErrOf result Device → Breaks D.Sectors self.old self.new }
-        ensures word { D.keeps_word (device_of self.new) → D.keeps_word (device_of self.old) }
+        ensures refused { RefusesQuery D.Sectors (IsProper query.now) as_of (IsErrOf result) self.old self.new }
     {
         if self.is_broken() {
             return Err(Fault::Failed);

@@ -1,14 +1,11 @@
 //! Queries that run step by step.
-ghost use Rattle.std.specs.Prelude.{◌≡◌, ◌≢◌, ◌⊎◌, ◌<◌, ◌↔◌, true, false, Err, Some, length, IfOk, IfErr, IsErrOf};
+ghost use Rattle.std.specs.Prelude.{◌≡◌, Some, IfOk, IsErrOf};
 ghost use Rattle.cube_model.specs.declared.fault.Fault.{Fault};
-ghost use Rattle.cube_model.specs.declared.fault.Fault.TheVariants.{BadQuery, Device, Failed, NoSuchPrefix};
 ghost use Rattle.cube_model.specs.Proper.{IsProper};
-ghost use Rattle.object_store.specs.Disk.{Leaves};
 ghost use Rattle.planned_queries.specs.Stepping.{Extends, IsRunning, RunningState, Started, Starts};
 ghost use Rattle.warehouse_objects.specs.Warehouse.{Warehouse};
-ghost use Rattle.warehouse_objects.specs.Represents.{Represents};
-ghost use Rattle.warehouse.specs.Session.{has_failed, device_of, disk_of, IsAt, Breaks, KeepsContent, IsAsked};
-ghost use Rattle.warehouse.specs.Session.{QueryRefuses};
+ghost use Rattle.warehouse.specs.Reads.{OnlyReads, RefusesQuery};
+ghost use Rattle.warehouse.specs.Session.{device_of, IsAt, IsAsked};
 ghost use Rattle.warehouse.specs.Stepping.{StepsTo, refused_by};
 
 use crate::prepared::kept_is_represented;
@@ -36,15 +33,8 @@ impl<D: Sectors> Session<D> {
     ///
     /// It is refused as `query` is.
     pub fn start(&mut self, alloc: Global, as_of: u32, query: &Query) -> Result<Running, Fault>
-        // The warehouse stays as it is, at each moment.
-        ensures leaves { (w : Warehouse) → IsAt D.Sectors self.old w
-            → Leaves (disk_of D.Sectors self.old) (disk_of D.Sectors self.new) (λ c. Represents c w) }
-        ensures stays { (IsErrOf result Device → ⊥) → (w : Warehouse) → IsAt D.Sectors self.old w
-            → IsAt D.Sectors self.new w }
-
-        // Nothing was put on the device, and after a failure nothing is done.
-        ensures reads { (IsErrOf result Device → ⊥) → KeepsContent D.Sectors self.old self.new }
-        ensures unmoved { IsErrOf result Failed → self.new ≡ self.old }
+        // It only reads: the warehouse stays as it is, at each moment, and after a failure nothing is done.
+        ensures reads { OnlyReads D.Sectors (IsErrOf result) self.old self.new }
 
         // The query runs over the batches of now.
         ensures started { IfOk result (λ running. (w : Warehouse) → IsAt D.Sectors self.old w
@@ -52,15 +42,7 @@ impl<D: Sectors> Session<D> {
             → IsAsked w as_of query.now × ((s : Started) × Starts w as_of query.now s × IsRunning running s)) }
 
         // When each error comes.
-        ensures improper { has_failed self.old ≡ false → (IsProper query.now → ⊥) → result ≡ Err BadQuery }
-        ensures beyond { (w : Warehouse) → IsAt D.Sectors self.old w → D.keeps_word (device_of self.new)
-            → IsProper query.now → length w.batches < as_of → result ≡ Err NoSuchPrefix }
-        ensures refused { IfErr result (λ fault. fault ≢ Device → (w : Warehouse) → IsAt D.Sectors self.old w
-            → D.keeps_word (device_of self.new)
-            → QueryRefuses w as_of query.now fault) }
-        ensures failed { IsErrOf result Failed ↔ (has_failed self.old ≡ true) }
-        ensures device { IsErrOf result Device → Breaks D.Sectors self.old self.new }
-        ensures word { D.keeps_word (device_of self.new) → D.keeps_word (device_of self.old) }
+        ensures refused { RefusesQuery D.Sectors (IsProper query.now) as_of (IsErrOf result) self.old self.new }
     {
         if self.is_broken() {
             return Err(Fault::Failed);
@@ -88,15 +70,8 @@ impl<D: Sectors> Session<D> {
     /// It can run out of memory, and fail because the device does. The query of another session may be refused with
     /// `BadLayout`.
     pub fn step(&mut self, alloc: Global, mut running: Running) -> Stepped
-        // The warehouse stays as it is, at each moment.
-        ensures leaves { (w : Warehouse) → IsAt D.Sectors self.old w
-            → Leaves (disk_of D.Sectors self.old) (disk_of D.Sectors self.new) (λ c. Represents c w) }
-        ensures stays { (refused_by result ≡ Some Device → ⊥) → (w : Warehouse) → IsAt D.Sectors self.old w
-            → IsAt D.Sectors self.new w }
-
-        // Nothing was put on the device, and after a failure nothing is done.
-        ensures reads { (refused_by result ≡ Some Device → ⊥) → KeepsContent D.Sectors self.old self.new }
-        ensures unmoved { refused_by result ≡ Some Failed → self.new ≡ self.old }
+        // It only reads: the warehouse stays as it is, at each moment, and after a failure nothing is done.
+        ensures reads { OnlyReads D.Sectors (λ fault. refused_by result ≡ Some fault) self.old self.new }
 
         // A query that was started over batches that are still the first goes on by a step.
         ensures steps { (w : Warehouse) → IsAt D.Sectors self.old w → D.keeps_word (device_of self.new)
@@ -104,11 +79,6 @@ impl<D: Sectors> Session<D> {
 
         // After a refusal the query is as it was.
         ensures back { (back : RunningState) (fault : Fault) → result ≡ Stepped.Refused back fault → back ≡ running }
-
-        // When each error comes.
-        ensures failed { (refused_by result ≡ Some Failed) ↔ (has_failed self.old ≡ true) }
-        ensures device { refused_by result ≡ Some Device → Breaks D.Sectors self.old self.new }
-        ensures word { D.keeps_word (device_of self.new) → D.keeps_word (device_of self.old) }
     {
         if self.is_broken() {
             return Stepped::Refused(running, Fault::Failed);

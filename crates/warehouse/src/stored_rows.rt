@@ -1,10 +1,10 @@
 //! The fact rows of a stored batch.
-ghost use Rattle.std.specs.Prelude.{◌≡◌, ◌≢◌, ◌⊎◌, ◌↔◌, false, true, IfErr, IfOk, IsErrOf};
-ghost use Rattle.cube_model.specs.declared.fault.Fault.TheVariants.{BadLayout, Device, Failed, Memory};
-ghost use Rattle.object_store.specs.Disk.{Leaves};
+ghost use Rattle.std.specs.Prelude.{◌≡◌, ◌≢◌, ◌⊎◌, false, IfErr, IfOk, IsErrOf};
+ghost use Rattle.cube_model.specs.declared.fault.Fault.TheVariants.{BadLayout, Device, Memory};
 ghost use Rattle.object_store.specs.Store as stores;
 ghost use Rattle.warehouse.specs.Comparing.{numbered};
-ghost use Rattle.warehouse.specs.Session.{Breaks, IsAt, KeepsContent, device_of, disk_of, has_failed};
+ghost use Rattle.warehouse.specs.Reads.{OnlyReads};
+ghost use Rattle.warehouse.specs.Session.{IsAt, device_of};
 ghost use Rattle.warehouse_objects.specs.Reads.{ReadsOnly};
 ghost use Rattle.warehouse_objects.specs.Represents.{Represents, root_of};
 ghost use Rattle.warehouse_objects.specs.Warehouse.{Warehouse};
@@ -29,15 +29,8 @@ impl<D: Sectors> Session<D> {
         alloc: Global,
         number: u32,
     ) -> Result<Option<Items<LineOrder>>, Fault>
-        // The warehouse stays as it is, at each moment.
-        ensures leaves { (w : Warehouse) → IsAt D.Sectors self.old w
-            → Leaves (disk_of D.Sectors self.old) (disk_of D.Sectors self.new) (λ c. Represents c w) }
-        ensures stays { (IsErrOf result Device → ⊥) → (w : Warehouse) → IsAt D.Sectors self.old w
-            → IsAt D.Sectors self.new w }
-
-        // Nothing was put on the device, and after a failure nothing is done.
-        ensures reads { (IsErrOf result Device → ⊥) → KeepsContent D.Sectors self.old self.new }
-        ensures unmoved { IsErrOf result Failed → self.new ≡ self.old }
+        // It only reads: the warehouse stays as it is, at each moment, and after a failure nothing is done.
+        ensures reads { OnlyReads D.Sectors (IsErrOf result) self.old self.new }
 
         // The rows are those of the batch of that number.
         ensures rows { IfOk result (λ found. (w : Warehouse) → IsAt D.Sectors self.old w
@@ -46,9 +39,6 @@ impl<D: Sectors> Session<D> {
         // When each error comes.
         ensures refused { IfErr result (λ fault. fault ≢ Device → (w : Warehouse) → IsAt D.Sectors self.old w
             → D.keeps_word (device_of self.new) → fault ≡ Memory) }
-        ensures failed { IsErrOf result Failed ↔ (has_failed self.old ≡ true) }
-        ensures device { IsErrOf result Device → Breaks D.Sectors self.old self.new }
-        ensures word { D.keeps_word (device_of self.new) → D.keeps_word (device_of self.old) }
     {
         if self.is_broken() {
             return Err(Fault::Failed);

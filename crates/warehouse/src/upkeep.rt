@@ -7,7 +7,8 @@ ghost use Rattle.warehouse_objects.specs.Represents.{Represents};
 ghost use Rattle.stored_cuboids.specs.Merged.{IsSound};
 ghost use Rattle.cuboid_commits.specs.Keeping.{IsKeptUp};
 ghost use Rattle.cuboid_commits.specs.Upkeep.{CuboidsAreCurrent};
-ghost use Rattle.warehouse.specs.Session.{Breaks, IsAt, KeepsContent, device_of, disk_of, has_failed};
+ghost use Rattle.warehouse.specs.Reads.{OnlyReads};
+ghost use Rattle.warehouse.specs.Session.{Breaks, IsAt, device_of, disk_of, has_failed};
 ghost use Rattle.warehouse.specs.Upkeep.{IsLaidAt, UpkeepRefuses};
 
 use crate::prepared::kept_is_represented;
@@ -72,12 +73,8 @@ impl<D: Sectors> Session<D> {
     ///
     /// It can fail when out of memory, and because the device does.
     pub fn audit(&mut self, alloc: Global) -> Result<bool, Fault>
-        // The warehouse stays as it is, at each moment.
-        ensures leaves { (w : Warehouse) → IsAt D.Sectors self.old w
-            → Leaves (disk_of D.Sectors self.old) (disk_of D.Sectors self.new) (λ c. Represents c w) }
-        ensures stays { (IsErrOf result Device → ⊥) → (w : Warehouse) → IsAt D.Sectors self.old w
-            → IsAt D.Sectors self.new w }
-        ensures reads { (IsErrOf result Device → ⊥) → KeepsContent D.Sectors self.old self.new }
+        // It only reads: the warehouse stays as it is, at each moment, and after a failure nothing is done.
+        ensures reads { OnlyReads D.Sectors (IsErrOf result) self.old self.new }
 
         // The answer is yes exactly where each is, whatever the cells of the cuboids are. So it is yes of a warehouse.
         ensures answer { IfOk result (λ yes. (w : Warehouse) → IsLaidAt D.Sectors self.old w
@@ -89,10 +86,6 @@ impl<D: Sectors> Session<D> {
         // When each error comes.
         ensures refused { IfErr result (λ fault. fault ≢ Device → (w : Warehouse) → IsLaidAt D.Sectors self.old w
             → D.keeps_word (device_of self.new) → fault ≡ Memory) }
-        ensures failed { IsErrOf result Failed ↔ (has_failed self.old ≡ true) }
-        ensures unmoved { IsErrOf result Failed → self.new ≡ self.old }
-        ensures device { IsErrOf result Device → Breaks D.Sectors self.old self.new }
-        ensures word { D.keeps_word (device_of self.new) → D.keeps_word (device_of self.old) }
     {
         if self.is_broken() {
             return Err(Fault::Failed);

@@ -1,5 +1,5 @@
 //! Writing the fact rows of batches as lines of their table.
-ghost use Rattle.std.specs.Prelude.{◌≡◌, ◌↔◌, true, List, Some, IfErr, IsErrOf, OnOk};
+ghost use Rattle.std.specs.Prelude.{◌≡◌, true, List, Some, IfErr, IsErrOf, OnOk};
 ghost use Rattle.std.specs.Io.KnownBytes.{Keeps};
 ghost use Rattle.cube_model.specs.declared.fault.Fault.TheVariants.{Device, Failed};
 ghost use Rattle.cube_model.specs.declared.rows.LineOrder.{LineOrder};
@@ -8,7 +8,8 @@ ghost use Rattle.object_store.specs.Disk.{Leaves};
 ghost use Rattle.warehouse_objects.specs.Represents.{Represents};
 ghost use Rattle.warehouse_objects.specs.Warehouse.{Warehouse};
 ghost use Rattle.warehouse.specs.Comparing.{numbered};
-ghost use Rattle.warehouse.specs.Session.{Breaks, IsAt, device_of, disk_of, has_failed};
+ghost use Rattle.warehouse.specs.Reads.{OnlyReads};
+ghost use Rattle.warehouse.specs.Session.{IsAt, device_of, disk_of, has_failed};
 ghost use Rattle.warehouse_dump.specs.Dumped.{RowsAreWritten, RefusesAfter, DumpIsRefused};
 
 use cube_model::Fault;
@@ -69,11 +70,8 @@ pub fn write_batch<D: Sectors, W: Write>(
     number: u32,
     out: &mut W,
 ) -> Result<(), Fault>
-    // The warehouse stays as it is, at each moment.
-    ensures leaves { (w : Warehouse) → IsAt D.Sectors session.old w
-        → Leaves (disk_of D.Sectors session.old) (disk_of D.Sectors session.new) (λ c. Represents c w) }
-    ensures stays { (IsErrOf result Device → ⊥) → (w : Warehouse) → IsAt D.Sectors session.old w
-        → IsAt D.Sectors session.new w }
+    // It only reads: the warehouse stays as it is, at each moment, and after a failure nothing is done.
+    ensures reads { OnlyReads D.Sectors (IsErrOf result) session.old session.new }
 
     // The lines of its rows are written. When each error comes.
     ensures ok { OnOk result ((w : Warehouse) → IsAt D.Sectors session.old w
@@ -83,11 +81,6 @@ pub fn write_batch<D: Sectors, W: Write>(
     ensures refused { IfErr result (λ fault. (w : Warehouse) → IsAt D.Sectors session.old w
         → D.keeps_word (device_of session.new)
         → DumpIsRefused (numbered w.batches number) (W.contents out.old) (W.contents out.new) fault) }
-
-    // After a failure nothing is done.
-    ensures failed { IsErrOf result Failed ↔ (has_failed session.old ≡ true) }
-    ensures device { IsErrOf result Device → Breaks D.Sectors session.old session.new }
-    ensures word { D.keeps_word (device_of session.new) → D.keeps_word (device_of session.old) }
 {
     let found = session.rows_of_batch(alloc, number)?;
     match found {

@@ -1,12 +1,17 @@
-use Rattle.std.proofs.Common.{◌≡◌, ◌∙◌, ℕ, Option, rules, Some, None, List, [], ◌∷◌, true, refl, sym, subst}
+use Rattle.std.proofs.Common.{◌≡◌, ◌∙◌, inl, ℕ, Option, rules, Some, None, List, [], ◌∷◌, true, refl, sym, subst}
 use Rattle.cube_model.specs.declared.query.Query.{Query}
+use Rattle.cube_model.specs.Proper.{IsProper}
 use Rattle.mode_answers.specs.Answers.{moded_answer_as_of}
 use Rattle.mode_answers.specs.Planned.{looks_at_modes}
 use Rattle.mode_queries.specs.Lawful.{without_modes}
+use Rattle.mode_queries.specs.Proper.{IsProperByModes}
 use Rattle.mode_queries.specs.declared.query.ModeCond.{ModeCond}
 use Rattle.mode_queries.specs.declared.query.ModeQuery.{ModeQuery}
-use Rattle.warehouse.specs.ByModes.{IsAskedByModes, RefusesByModes}
-use Rattle.mode_reports.proofs.CallerLemmas.{answered_without_ship_modes, asked_as_modes, refuses_as_modes}
+use Rattle.mode_queries.proofs.CallerLemmas.{proper_without}
+use Rattle.warehouse.specs.ByModes.{IsAskedByModes}
+use Rattle.warehouse.proofs.Asking.{asks_alike}
+use Rattle.warehouse.proofs.OnlyReading.{reads_alike}
+use Rattle.mode_reports.proofs.CallerLemmas.{answered_without_ship_modes, asked_as_modes}
 use Rattle.mode_reports.proofs.answering.answered.Goals as goal
 
 -- a query that is not one of the dimensions alone looks at ship modes
@@ -17,16 +22,19 @@ looks query (Some place) conditions never = refl
 looks query None (condition ∷ conditions) never = search rules
 looks query None [] never = absurd (never query refl)
 
+-- it is proper exactly where it is as a query of the dimensions alone
+proper_by_modes : (query : Query) (asked : ModeQuery) → asked ≡ without_modes query → IsProper query
+    → IsProperByModes asked
+proper_by_modes query asked same proper = subst IsProperByModes (sym same) (proper_without query proper)
+
+proper_plain : (query : Query) (asked : ModeQuery) → asked ≡ without_modes query → IsProperByModes asked
+    → IsProper query
+proper_plain query asked same proper = (subst IsProperByModes same proper).without
+
 pub moded_groups-requires : goal.moded_groups-requires
 moded_groups-requires g c =
     let asked = c.args.asked.now in
     record { looks = looks asked.query asked.place asked.conditions c.in-None.ensures.none }
-
-pub returns-in-Ok-clause-stays : goal.returns-in-Ok-clause-stays
-returns-in-Ok-clause-stays g c other w at = c.in-Ok.ensures.stays (λ is. absurd cc) w at
-
-pub returns-in-Ok-moded_groups-clause-stays : goal.returns-in-Ok-moded_groups-clause-stays
-returns-in-Ok-moded_groups-clause-stays g c other w at = c.in-Ok-moded_groups.ensures.stays (λ is. absurd cc) w at
 
 pub returns-in-Ok-clause-answer : goal.returns-in-Ok-clause-answer
 returns-in-Ok-clause-answer g c w at k =
@@ -39,8 +47,28 @@ returns-in-Ok-clause-answer g c w at k =
       c.without_modes.ensures ∙ found.1 ∙ sym (answered_without_ship_modes query c.args.as_of w.rows w.batches),
     )
 
-pub returns-in-Err-clause-refused : goal.returns-in-Err-clause-refused
-returns-in-Err-clause-refused g c other w at k =
+pub returns-in-Ok-clause-reads : goal.returns-in-Ok-clause-reads
+returns-in-Ok-clause-reads g c =
+    reads_alike g.D.Sectors c.args.session.now c.query_groups.new.self _ _ (λ is. absurd cc, λ is. absurd cc)
+    (λ is. absurd cc, λ is. absurd cc) c.in-Ok.ensures.reads
+
+pub returns-in-Ok-moded_groups-clause-reads : goal.returns-in-Ok-moded_groups-clause-reads
+returns-in-Ok-moded_groups-clause-reads g c =
+    reads_alike g.D.Sectors c.args.session.now c.moded_groups.new.self _ _ (λ is. absurd cc, λ is. absurd cc)
+    (λ is. absurd cc, λ is. absurd cc) c.in-Ok-moded_groups.ensures.reads
+
+pub returns-in-Ok-clause-refused : goal.returns-in-Ok-clause-refused
+returns-in-Ok-clause-refused g c =
     let query = c.in-Some.query.now in
-    subst (λ (asked : ModeQuery). RefusesByModes w c.args.as_of asked c.in-Err.fault) (sym c.in-Some.ensures.some)
-    (refuses_as_modes w c.args.as_of query c.in-Err.fault (c.in-Err.ensures.refused other w at k))
+    asks_alike g.D.Sectors c.args.as_of _ _ _ _ c.args.session.now c.query_groups.new.self
+    (proper_by_modes query c.args.asked.now c.in-Some.ensures.some)
+    (proper_plain query c.args.asked.now c.in-Some.ensures.some) (λ fault is. absurd cc) (λ fault is. absurd cc)
+    c.in-Ok.ensures.refused
+
+pub returns-in-Err-clause-refused : goal.returns-in-Err-clause-refused
+returns-in-Err-clause-refused g c =
+    let query = c.in-Some.query.now in
+    asks_alike g.D.Sectors c.args.as_of _ _ _ _ c.args.session.now c.query_groups.new.self
+    (proper_by_modes query c.args.asked.now c.in-Some.ensures.some)
+    (proper_plain query c.args.asked.now c.in-Some.ensures.some) (λ fault is. cc) (λ fault is. inl cc)
+    c.in-Err.ensures.refused

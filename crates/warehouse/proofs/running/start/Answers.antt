@@ -18,18 +18,18 @@ returns-in-Ok-clause-ran g c w started at are of k =
     subst (λ (l : List (Option RunningState)). DoesWith g.D.Sectors c.args.session.now w started
     (Start c.args.slot c.args.as_of c.args.query.now) Done c.start.new.self l) (sym c.put.ensures)
     (start_done g.D.Sectors c.args.session.now c.start.new.self w started c.args.slots.now.queries.items c.args.slot are
-    of c.args.as_of c.args.query.now (c.start.ensures.leaves w at)
+    of c.args.as_of c.args.query.now (c.start.ensures.reads.leaves w at)
     (omega (arith, c.from.ensures, c.if-from-ge-MOST_RUNNING.false))
-    c.in-Ok.running (c.in-Ok.ensures.started w at k) (c.in-Ok.ensures.reads (λ is. absurd cc))
-    (c.in-Ok.ensures.stays (λ is. absurd cc) w at))
+    c.in-Ok.running (c.in-Ok.ensures.started w at k) (c.in-Ok.ensures.reads.reads (λ is. absurd cc))
+    (c.in-Ok.ensures.reads.stays (λ is. absurd cc) w at))
 
 pub returns-in-Err-clause-ran : goal.returns-in-Err-clause-ran
 returns-in-Err-clause-ran g c w started at are of k =
     start_refused g.D.Sectors c.args.session.now c.start.new.self w started c.args.slots.now.queries.items c.args.slot
-    are of c.args.as_of c.args.query.now (c.start.ensures.leaves w at)
+    are of c.args.as_of c.args.query.now (c.start.ensures.reads.leaves w at)
     (omega (arith, c.from.ensures, c.if-from-ge-MOST_RUNNING.false)) c.in-Err.fault
-    (λ e. (c.in-Err.ensures.device (ap (λ f. Err f) e)).failed)
+    (λ e. (c.in-Err.ensures.reads.device (ap (λ f. Err f) e)).failed)
     (λ no. (
-      (c.in-Err.ensures.refused no w at k, c.in-Err.ensures.reads (λ is. no cc)),
-      c.in-Err.ensures.stays (λ is. no cc) w at,
+      (c.in-Err.ensures.refused.causes c.in-Err.fault refl no w at k, c.in-Err.ensures.reads.reads (λ is. no cc)),
+      c.in-Err.ensures.reads.stays (λ is. no cc) w at,
     ))

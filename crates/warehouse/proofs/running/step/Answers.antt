@@ -28,9 +28,9 @@ returns-in-More-clause-ran g c w started at are of k =
     (sym (c.put.ensures ∙ ap (λ (l : List (Option RunningState)). slice_set l c.args.slot (Some c.in-More.running))
     c.take.ensures.empty))
     (step_more g.D.Sectors old new w started c.args.slots.now.queries.items c.args.slot are of
-    (c.step.ensures.leaves w at) c.in-Some.running (sym c.take.ensures.taken ∙ c.in-Some.is) c.in-More.running
+    (c.step.ensures.reads.leaves w at) c.in-Some.running (sym c.take.ensures.taken ∙ c.in-Some.is) c.in-More.running
     (λ s extends is. subst (λ (x : Stepped). StepsTo s x) c.in-More.is (c.step.ensures.steps w at k s extends is))
-    (c.step.ensures.reads none) (c.step.ensures.stays none w at))
+    (c.step.ensures.reads.reads none) (c.step.ensures.reads.stays none w at))
 
 pub returns-in-Done-clause-ran : goal.returns-in-Done-clause-ran
 returns-in-Done-clause-ran g c w started at are of k =
@@ -41,9 +41,9 @@ returns-in-Done-clause-ran g c w started at are of k =
     subst (λ (l : List (Option RunningState)). DoesWith g.D.Sectors old w started (Step c.args.slot)
     (Answer c.in-Done.found) new l) (sym c.take.ensures.empty)
     (step_done g.D.Sectors old new w started c.args.slots.now.queries.items c.args.slot are of
-    (c.step.ensures.leaves w at) c.in-Some.running (sym c.take.ensures.taken ∙ c.in-Some.is) c.in-Done.found
+    (c.step.ensures.reads.leaves w at) c.in-Some.running (sym c.take.ensures.taken ∙ c.in-Some.is) c.in-Done.found
     (λ s extends is. subst (λ (x : Stepped). StepsTo s x) c.in-Done.is (c.step.ensures.steps w at k s extends is))
-    (c.step.ensures.reads none) (c.step.ensures.stays none w at))
+    (c.step.ensures.reads.reads none) (c.step.ensures.reads.stays none w at))
 
 pub returns-in-Refused-clause-ran : goal.returns-in-Refused-clause-ran
 returns-in-Refused-clause-ran g c w started at are of k =
@@ -57,9 +57,9 @@ returns-in-Refused-clause-ran g c w started at are of k =
     ∙ ap (λ (l : List (Option RunningState)). slice_set l c.args.slot (Some c.in-Refused.back))
     c.take.ensures.empty))
     (step_refused g.D.Sectors old new w started c.args.slots.now.queries.items c.args.slot are of
-    (c.step.ensures.leaves w at) c.in-Some.running (sym c.take.ensures.taken ∙ c.in-Some.is) c.in-Refused.back
+    (c.step.ensures.reads.leaves w at) c.in-Some.running (sym c.take.ensures.taken ∙ c.in-Some.is) c.in-Refused.back
     c.in-Refused.fault
     (c.step.ensures.back c.in-Refused.back c.in-Refused.fault c.in-Refused.is)
-    (λ e. (c.step.ensures.device (ap refused_by c.in-Refused.is ∙ ap (λ (f : Fault). Some f) e)).failed)
+    (λ e. (c.step.ensures.reads.device (ap refused_by c.in-Refused.is ∙ ap (λ (f : Fault). Some f) e)).failed)
     (λ no s extends is. subst (λ (x : Stepped). StepsTo s x) c.in-Refused.is (c.step.ensures.steps w at k s extends is))
-    (λ no. (c.step.ensures.reads (other no), c.step.ensures.stays (other no) w at)))
+    (λ no. (c.step.ensures.reads.reads (other no), c.step.ensures.reads.stays (other no) w at)))

@@ -12,7 +12,7 @@ use Rattle.warehouse_copy.proofs.batches.copy_batch.Goals as goal
 pub returns-in_err-found-clause-from_stays : goal.returns-in_err-found-clause-from_stays
 returns-in_err-found-clause-from_stays g c =
     let p = err_from_is_err_and c.from_residual.result c.from_residual.ensures.1 in
-    rw (p.1, p.2) (λ other. c.in_err-found.ensures.stays (λ is. other (cc is)))
+    rw (p.1, p.2) (λ other. c.in_err-found.ensures.reads.stays (λ is. other (cc is)))
 
 pub returns-in_err-found-clause-leaves : goal.returns-in_err-found-clause-leaves
 returns-in_err-found-clause-leaves g c w from to k =
@@ -54,11 +54,11 @@ returns-in-Some-clause-refused g c =
     let here = numbered_here w c.args.before c.in_ok-found.found c.in-Some.rows c.in-Some.is
     (c.in_ok-found.ensures.rows w from k) in
     submit_fault w c.args.before c.in-Some.rows here g.E.Sectors c.args.to.now (content_of g.D.Sectors c.args.from.now)
-    (from.represents (c.rows_of_batch.ensures.word k)) fault
+    (from.represents (c.rows_of_batch.ensures.reads.word k)) fault
     (λ no. rw c.as_slice.ensures at (why no (with_first w c.args.before) to word))) c.submit.ensures.causes
 
 pub returns-in-Some-clause-from_stays : goal.returns-in-Some-clause-from_stays
-returns-in-Some-clause-from_stays g c other w from = c.in_ok-found.ensures.stays (λ is. cc) w from
+returns-in-Some-clause-from_stays g c other w from = c.in_ok-found.ensures.reads.stays (λ is. cc) w from
 
 pub returns-in-None-clause-from_stays : goal.returns-in-None-clause-from_stays
-returns-in-None-clause-from_stays g c other w from = c.in_ok-found.ensures.stays (λ is. cc) w from
+returns-in-None-clause-from_stays g c other w from = c.in_ok-found.ensures.reads.stays (λ is. cc) w from

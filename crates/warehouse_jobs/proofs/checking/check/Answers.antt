@@ -6,7 +6,7 @@ pub returns-in_err-write_sound-in-None-clause-checks : goal.returns-in_err-write
 returns-in_err-write_sound-in-None-clause-checks g c w at k =
     let p = err_from_is_err_and c.from_residual-in_err-write_sound-in-None.result
     c.from_residual-in_err-write_sound-in-None.ensures.1 in
-    let now = c.in_ok-check.ensures.stays (λ is. cc) w at in
+    let now = c.in_ok-check.ensures.reads.stays (λ is. cc) w at in
     let wrote = c.in_err-write_sound-in-None.ensures in
     rw (p.1, p.2) (record {
       ends = inl (
@@ -16,12 +16,12 @@ returns-in_err-write_sound-in-None-clause-checks g c w at k =
         c.in_ok-status-in-None.ensures.ok w now k,
         wrote.1,
       );
-      leaves = c.check.ensures.leaves w at;
+      leaves = c.check.ensures.reads.leaves w at;
     })
 
 pub returns-in_ok-write_sound-in-None-clause-checks : goal.returns-in_ok-write_sound-in-None-clause-checks
 returns-in_ok-write_sound-in-None-clause-checks g c w at k =
-    let now = c.in_ok-check.ensures.stays (λ is. cc) w at in record {
+    let now = c.in_ok-check.ensures.reads.stays (λ is. cc) w at in record {
       ends = (
         refl,
         now,
@@ -29,5 +29,5 @@ returns-in_ok-write_sound-in-None-clause-checks g c w at k =
         c.in_ok-status-in-None.ensures.ok w now k,
         c.in_ok-write_sound-in-None.ensures,
       );
-      leaves = c.check.ensures.leaves w at;
+      leaves = c.check.ensures.reads.leaves w at;
     }

@@ -1,4 +1,4 @@
-use Rattle.std.proofs.Common.{ap, Bool, List, subst, ◌∙◌}
+use Rattle.std.proofs.Common.{ap, Bool, Err, List, refl, subst, ◌∙◌}
 use Rattle.std.proofs.lemmas.Result.{err_from_is_err_and}
 use Rattle.planner.specs.declared.price.Priced.{Priced}
 use Rattle.ssb_reports.specs.Writing.{Writes}
@@ -10,7 +10,8 @@ use Rattle.warehouse_jobs.proofs.explaining.explain_over.Goals as goal
 pub returns-in_err-plans-clause-explains : goal.returns-in_err-plans-clause-explains
 returns-in_err-plans-clause-explains g c w at k =
     explain-refused w c.args.count c.args.asked.now (g.W.Write.contents c.args.out.now) _ _
-    (c.in_err-plans.ensures.refused w at k) (err_from_is_err_and _ c.from_residual.ensures.1)
+    (c.in_err-plans.ensures.refused.causes _ refl (λ is. c.in_err-plans.ensures.apart (ap (λ f. Err f) is)) w at k)
+    (err_from_is_err_and _ c.from_residual.ensures.1)
 
 pub returns-clause-explains : goal.returns-clause-explains
 returns-clause-explains g c w at k =

@@ -29,20 +29,20 @@ pub returns-in_err-has_batch-clause-refused : goal.returns-in_err-has_batch-clau
 returns-in_err-has_batch-clause-refused g c =
     let p = err_from_is_err_and c.from_residual-in_err-has_batch.result c.from_residual-in_err-has_batch.ensures.1 in
     rw (p.1, p.2) (λ w rows at grown k.
-    let status = c.in_ok-status.ensures.ok w at (c.has_batch.ensures.word k) in
+    let status = c.in_ok-status.ensures.ok w at (c.has_batch.ensures.reads.word k) in
     let there : c.args.number ≤ length w.batches = omega (arith, c.if-branch.false, status.batches) in
     refuses g.D.Sectors w c.args.number rows c.args.session.now c.has_batch.new.self c.in_err-has_batch.field-0.0
-    (λ e. (c.in_err-has_batch.ensures.device (ap (λ f. Err f) e)).failed)
+    (λ e. (c.in_err-has_batch.ensures.reads.device (ap (λ f. Err f) e)).failed)
     (λ no. (
       inr (inl (c.in_err-has_batch.ensures.refused no w at, there)),
-      c.in_err-has_batch.ensures.stays (λ is. no (cc)) w at,
+      c.in_err-has_batch.ensures.reads.stays (λ is. no (cc)) w at,
     ))
     (only-read g.D.Sectors w c.args.number rows c.args.session.now c.has_batch.new.self
-    (c.has_batch.ensures.leaves w at)))
+    (c.has_batch.ensures.reads.leaves w at)))
 
 pub returns-then-not-branch-clause-refused : goal.returns-then-not-branch-clause-refused
 returns-then-not-branch-clause-refused g c w rows at grown k =
-    let status = c.in_ok-status.ensures.ok w at (c.has_batch.ensures.word k) in
+    let status = c.in_ok-status.ensures.ok w at (c.has_batch.ensures.reads.word k) in
     let there : c.args.number ≤ length w.batches = omega (arith, c.if-branch.false, status.batches) in
     let no : c.in_ok-has_batch.field-0 ≡ false = search rules in
     refuses g.D.Sectors w c.args.number rows c.args.session.now c.has_batch.new.self _ (λ e. absurd (cc))
@@ -53,17 +53,17 @@ returns-then-not-branch-clause-refused g c w rows at grown k =
         λ same. let yes = (c.in_ok-has_batch.ensures.answer w rows at grown k).1 same in
             absurd (cc),
       ),
-      c.in_ok-has_batch.ensures.stays (λ is. absurd (cc)) w at,
+      c.in_ok-has_batch.ensures.reads.stays (λ is. absurd (cc)) w at,
     ))
     (only-read g.D.Sectors w c.args.number rows c.args.session.now c.has_batch.new.self
-    (c.has_batch.ensures.leaves w at))
+    (c.has_batch.ensures.reads.leaves w at))
 
 pub returns-clause-taken : goal.returns-clause-taken
 returns-clause-taken g c w rows at grown k =
-    let status = c.in_ok-status.ensures.ok w at (c.has_batch.ensures.word k) in
+    let status = c.in_ok-status.ensures.ok w at (c.has_batch.ensures.reads.word k) in
     let there : c.args.number ≤ length w.batches = omega (arith, c.if-branch.false, status.batches) in
     let yes : IsTrue c.in_ok-has_batch.field-0 = search rules in
     takes-skipped g.D.Sectors w c.args.number rows c.args.session.now c.has_batch.new.self there
     ((c.in_ok-has_batch.ensures.answer w rows at grown k).0 yes)
-    (c.in_ok-has_batch.ensures.stays (λ is. absurd (cc)) w at)
-    (c.has_batch.ensures.leaves w at)
+    (c.in_ok-has_batch.ensures.reads.stays (λ is. absurd (cc)) w at)
+    (c.has_batch.ensures.reads.leaves w at)

@@ -1,5 +1,5 @@
 use Rattle.std.proofs.lemmas.Result.{err_from_is_err_and}
-use Rattle.std.proofs.Common.{◌≡◌, ◌∙◌, ◌++◌, ap, Err}
+use Rattle.std.proofs.Common.{refl, ◌≡◌, ◌∙◌, ◌++◌, ap, Err}
 use Rattle.cube_model.specs.declared.rows.DimRows.{DimRows}
 use Rattle.partial_reports.specs.Dimensions.{digest_of}
 use Rattle.partial_reports.specs.Head.{head_text}
@@ -11,33 +11,36 @@ pub returns-in_err-found-clause-ends : goal.returns-in_err-found-clause-ends
 returns-in_err-found-clause-ends g c w at k =
     partial-refused g.D.Sectors w c.args.count c.args.asked.now c.query_groups.new.self
     (g.W.Write.contents c.args.out.now) _ _
-    (λ e. (c.in_err-found.ensures.device (ap (λ f. Err f) e)).failed)
-    (λ no. (c.in_err-found.ensures.refused no w at k, c.in_err-found.ensures.stays (λ is. no (cc)) w at))
+    (λ e. (c.in_err-found.ensures.reads.device (ap (λ f. Err f) e)).failed)
+    (λ no. (
+      c.in_err-found.ensures.refused.causes _ refl no w at k,
+      c.in_err-found.ensures.reads.stays (λ is. no (cc)) w at,
+    ))
     (err_from_is_err_and _ c.from_residual.ensures.1)
 
 pub returns-in_err-found-clause-leaves : goal.returns-in_err-found-clause-leaves
-returns-in_err-found-clause-leaves g c = c.query_groups.ensures.leaves
+returns-in_err-found-clause-leaves g c = c.query_groups.ensures.reads.leaves
 
 pub returns-in_err-found-clause-word : goal.returns-in_err-found-clause-word
-returns-in_err-found-clause-word g c = c.query_groups.ensures.word
+returns-in_err-found-clause-word g c = c.query_groups.ensures.reads.word
 
 pub returns-in_err-head-clause-ends : goal.returns-in_err-head-clause-ends
 returns-in_err-head-clause-ends g c w at k =
     partial-not_begun g.D.Sectors w c.args.count c.args.asked.now c.query_groups.new.self
     (g.W.Write.contents c.args.out.now) c.in_ok-found.found _ _
-    (c.in_ok-found.ensures.stays (λ is. absurd (cc)) w at) (c.in_ok-found.ensures.answer w at k)
+    (c.in_ok-found.ensures.reads.stays (λ is. absurd (cc)) w at) (c.in_ok-found.ensures.answer w at k)
     (rw c.lines-lines.ensures at c.in_err-head.ensures.refused)
     (err_from_is_err_and _ c.from_residual-in_err-head.ensures.1)
 
 pub returns-in_err-head-clause-leaves : goal.returns-in_err-head-clause-leaves
-returns-in_err-head-clause-leaves g c = c.query_groups.ensures.leaves
+returns-in_err-head-clause-leaves g c = c.query_groups.ensures.reads.leaves
 
 pub returns-in_err-head-clause-word : goal.returns-in_err-head-clause-word
-returns-in_err-head-clause-word g c = c.query_groups.ensures.word
+returns-in_err-head-clause-word g c = c.query_groups.ensures.reads.word
 
 pub returns-clause-ends : goal.returns-clause-ends
 returns-clause-ends g c w at k =
-    let there = c.in_ok-found.ensures.stays (λ is. absurd (cc)) w at in
+    let there = c.in_ok-found.ensures.reads.stays (λ is. absurd (cc)) w at in
     let rows : c.dims.result.now ≡ w.rows = c.dims.ensures w there k in
     partial-written g.D.Sectors w c.args.count c.args.asked.now c.query_groups.new.self
     (g.W.Write.contents c.args.out.now) (g.W.Write.contents c.write_partial.new.out) c.in_ok-found.found _
@@ -49,7 +52,7 @@ returns-clause-ends g c w at k =
     (rw c.lines-lines.ensures at c.write_partial.ensures)
 
 pub returns-clause-leaves : goal.returns-clause-leaves
-returns-clause-leaves g c = c.query_groups.ensures.leaves
+returns-clause-leaves g c = c.query_groups.ensures.reads.leaves
 
 pub returns-clause-word : goal.returns-clause-word
-returns-clause-word g c = c.query_groups.ensures.word
+returns-clause-word g c = c.query_groups.ensures.reads.word

@@ -1,34 +1,18 @@
 use Rattle.std.proofs.Common.{⊎_elim, Err, sym, ◌∙◌, ap}
 use Rattle.object_store.specs.Store as stores
 use Rattle.warehouse.proofs.Cuboids.{laid_at, members_are}
-use Rattle.warehouse.proofs.Represented.{store_at, session_at, still_at, content_leaves}
+use Rattle.warehouse.proofs.OnlyReading.{call_reads}
 use Rattle.warehouse.proofs.session.Session.audit.Goals as goal
 
-pub returns-in-Ok-clause-leaves : goal.returns-in-Ok-clause-leaves
-returns-in-Ok-clause-leaves g c w at =
-    let s = c.args.self.now in
-    content_leaves g.D.Sectors w (stores.disk_of g.D.Sectors s.store) (stores.disk_of g.D.Sectors c.audited.new.store)
-    (stores.content_of g.D.Sectors s.store) at.represents c.audited.ensures.reads.leaves
+pub returns-in-Ok-clause-reads : goal.returns-in-Ok-clause-reads
+returns-in-Ok-clause-reads g c =
+    call_reads g.D.Sectors _ c.args.self.now _ (sym c.is_broken.ensures.broken ∙ c.if-is_broken.false)
+    c.in-Ok.ensures.reads tt
 
-pub returns-in-Ok-clause-stays : goal.returns-in-Ok-clause-stays
-returns-in-Ok-clause-stays g c other w at =
-    let s = c.args.self.now in
-    session_at g.D.Sectors w _
-    (still_at g.D.Sectors w s.store c.audited.new.store (store_at g.D.Sectors w s at)
-    (c.in-Ok.ensures.reads.stays other))
-
-pub returns-in-Err-clause-leaves : goal.returns-in-Err-clause-leaves
-returns-in-Err-clause-leaves g c w at =
-    let s = c.args.self.now in
-    content_leaves g.D.Sectors w (stores.disk_of g.D.Sectors s.store) (stores.disk_of g.D.Sectors c.audited.new.store)
-    (stores.content_of g.D.Sectors s.store) at.represents c.audited.ensures.reads.leaves
-
-pub returns-in-Err-clause-stays : goal.returns-in-Err-clause-stays
-returns-in-Err-clause-stays g c other w at =
-    let s = c.args.self.now in
-    session_at g.D.Sectors w _
-    (still_at g.D.Sectors w s.store c.audited.new.store (store_at g.D.Sectors w s at)
-    (c.in-Err.ensures.reads.stays other))
+pub returns-in-Err-clause-reads : goal.returns-in-Err-clause-reads
+returns-in-Err-clause-reads g c =
+    call_reads g.D.Sectors _ c.args.self.now _ (sym c.is_broken.ensures.broken ∙ c.if-is_broken.false)
+    c.in-Err.ensures.reads c.in-Err.ensures.causes
 
 pub returns-in-Ok-clause-answer : goal.returns-in-Ok-clause-answer
 returns-in-Ok-clause-answer g c w at k =

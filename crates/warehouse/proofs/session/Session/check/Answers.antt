@@ -2,36 +2,20 @@ use Rattle.std.proofs.Common.{◌≡◌, ⊎_elim, Err, Option, Some, None, IsTr
 use Rattle.object_store.specs.Store as stores
 use Rattle.cube_model.specs.declared.rows.DimRows.{DimRows}
 use Rattle.warehouse_check.specs.Checked.{HasBatches}
-use Rattle.warehouse.proofs.Represented.{store_at, session_at, still_at, content_leaves}
+use Rattle.warehouse.proofs.OnlyReading.{call_reads}
 use Rattle.warehouse_objects.proofs.CallerLemmas.{laid_of}
 use Rattle.warehouse.proofs.Cuboids.{members_are, members_at}
 use Rattle.warehouse.proofs.session.Session.check.Goals as goal
 
-pub returns-in-Ok-clause-leaves : goal.returns-in-Ok-clause-leaves
-returns-in-Ok-clause-leaves g c w at =
-    let s = c.args.self.now in
-    content_leaves g.D.Sectors w (stores.disk_of g.D.Sectors s.store) (stores.disk_of g.D.Sectors c.checked.new.store)
-    (stores.content_of g.D.Sectors s.store) at.represents c.checked.ensures.reads.leaves
+pub returns-in-Ok-clause-reads : goal.returns-in-Ok-clause-reads
+returns-in-Ok-clause-reads g c =
+    call_reads g.D.Sectors _ c.args.self.now _ (sym c.is_broken.ensures.broken ∙ c.if-is_broken.false)
+    c.in-Ok.ensures.reads tt
 
-pub returns-in-Ok-clause-stays : goal.returns-in-Ok-clause-stays
-returns-in-Ok-clause-stays g c other w at =
-    let s = c.args.self.now in
-    session_at g.D.Sectors w _
-    (still_at g.D.Sectors w s.store c.checked.new.store (store_at g.D.Sectors w s at)
-    (c.in-Ok.ensures.reads.stays other))
-
-pub returns-in-Err-clause-leaves : goal.returns-in-Err-clause-leaves
-returns-in-Err-clause-leaves g c w at =
-    let s = c.args.self.now in
-    content_leaves g.D.Sectors w (stores.disk_of g.D.Sectors s.store) (stores.disk_of g.D.Sectors c.checked.new.store)
-    (stores.content_of g.D.Sectors s.store) at.represents c.checked.ensures.reads.leaves
-
-pub returns-in-Err-clause-stays : goal.returns-in-Err-clause-stays
-returns-in-Err-clause-stays g c other w at =
-    let s = c.args.self.now in
-    session_at g.D.Sectors w _
-    (still_at g.D.Sectors w s.store c.checked.new.store (store_at g.D.Sectors w s at)
-    (c.in-Err.ensures.reads.stays other))
+pub returns-in-Err-clause-reads : goal.returns-in-Err-clause-reads
+returns-in-Err-clause-reads g c =
+    call_reads g.D.Sectors _ c.args.self.now _ (sym c.is_broken.ensures.broken ∙ c.if-is_broken.false)
+    c.in-Err.ensures.reads c.in-Err.ensures.causes
 
 pub returns-in-Ok-clause-sound : goal.returns-in-Ok-clause-sound
 returns-in-Ok-clause-sound g c is k =

@@ -1,46 +1,20 @@
-use Rattle.std.proofs.Common.{inr, ⊎_elim, Err, refl, sym, ◌∙◌, ap}
-use Rattle.cube_model.specs.declared.fault.Fault.{Fault}
+use Rattle.std.proofs.Common.{length, refl, sym, ◌∙◌, ap}
 use Rattle.cube_model.specs.declared.rows.DimRows.{DimRows}
 use Rattle.mode_answers.specs.Answers.{moded_answer_as_of}
-use Rattle.object_store.specs.Store as stores
-use Rattle.warehouse.proofs.ByModes.{asked_within, beyond_none, counted_at, refused_within}
+use Rattle.warehouse.proofs.Asking.{asked_within, check_refuses, counted_at, read_refuses}
 use Rattle.warehouse.proofs.Cuboids.{agrees, members_at}
-use Rattle.warehouse.proofs.Represented.{store_at, session_at, still_at, content_leaves}
+use Rattle.warehouse.proofs.OnlyReading.{call_reads}
 use Rattle.warehouse.proofs.session.Session.moded_groups.Goals as goal
 
-pub returns-in-Err-clause-refused : goal.returns-in-Err-clause-refused
-returns-in-Err-clause-refused g c other w at k =
-    let many = counted_at g.D.Sectors w c.args.self.now at c.kept_is_represented.ensures.agrees k _
-    c.batches.ensures in
-    refused_within w c.args.as_of c.args.asked.now _ many c.in-Err.fault c.in-Err.ensures.causes
+pub returns-in-Ok-clause-reads : goal.returns-in-Ok-clause-reads
+returns-in-Ok-clause-reads g c =
+    call_reads g.D.Sectors _ c.args.self.now _ (sym c.is_broken.ensures.broken ∙ c.if-is_broken.false)
+    c.in-Ok.ensures.reads tt
 
-pub returns-in-Ok-clause-leaves : goal.returns-in-Ok-clause-leaves
-returns-in-Ok-clause-leaves g c w at =
-    let s = c.args.self.now in
-    content_leaves g.D.Sectors w (stores.disk_of g.D.Sectors s.store)
-    (stores.disk_of g.D.Sectors c.answer_by_plan.new.store) (stores.content_of g.D.Sectors s.store) at.represents
-    c.answer_by_plan.ensures.reads.leaves
-
-pub returns-in-Err-answer_by_plan-clause-leaves : goal.returns-in-Err-answer_by_plan-clause-leaves
-returns-in-Err-answer_by_plan-clause-leaves g c w at =
-    let s = c.args.self.now in
-    content_leaves g.D.Sectors w (stores.disk_of g.D.Sectors s.store)
-    (stores.disk_of g.D.Sectors c.answer_by_plan.new.store) (stores.content_of g.D.Sectors s.store) at.represents
-    c.answer_by_plan.ensures.reads.leaves
-
-pub returns-in-Ok-clause-stays : goal.returns-in-Ok-clause-stays
-returns-in-Ok-clause-stays g c other w at =
-    let s = c.args.self.now in
-    session_at g.D.Sectors w _
-    (still_at g.D.Sectors w s.store c.answer_by_plan.new.store (store_at g.D.Sectors w s at)
-    (c.in-Ok.ensures.reads.stays other))
-
-pub returns-in-Err-answer_by_plan-clause-stays : goal.returns-in-Err-answer_by_plan-clause-stays
-returns-in-Err-answer_by_plan-clause-stays g c other w at =
-    let s = c.args.self.now in
-    session_at g.D.Sectors w _
-    (still_at g.D.Sectors w s.store c.answer_by_plan.new.store (store_at g.D.Sectors w s at)
-    (c.in-Err-answer_by_plan.ensures.reads.stays other))
+pub returns-in-Err-answer_by_plan-clause-reads : goal.returns-in-Err-answer_by_plan-clause-reads
+returns-in-Err-answer_by_plan-clause-reads g c =
+    call_reads g.D.Sectors _ c.args.self.now _ (sym c.is_broken.ensures.broken ∙ c.if-is_broken.false)
+    c.in-Err-answer_by_plan.ensures.reads c.in-Err-answer_by_plan.ensures.causes
 
 pub returns-in-Ok-clause-answer : goal.returns-in-Ok-clause-answer
 returns-in-Ok-clause-answer g c w at k =
@@ -48,39 +22,32 @@ returns-in-Ok-clause-answer g c w at k =
     let word = c.answer_by_plan.ensures.reads.leaves.word k in
     let agree = agrees g.D.Sectors w s at c.kept_is_represented.ensures.agrees word in
     let many = counted_at g.D.Sectors w s at c.kept_is_represented.ensures.agrees word _ c.batches.ensures in (
-      asked_within w c.args.as_of c.args.asked.now _ many c.in_default.ensures.ok,
+      asked_within _ w c.args.as_of (length c.batches.result.now) many c.in_default.ensures.ok,
       c.in-Ok.ensures.answer k w (at.represents word) (sym agree.root_is)
           (members_at g.D.Sectors w s at c.kept_is_represented.ensures.members _ refl word)
           ∙ ap (λ (rows : DimRows). moded_answer_as_of c.args.asked.now c.args.as_of rows w.batches)
           (sym agree.rows_are),
     )
 
-pub returns-in-Ok-clause-beyond : goal.returns-in-Ok-clause-beyond
-returns-in-Ok-clause-beyond g c w at k proper less =
-    let word = c.answer_by_plan.ensures.reads.leaves.word k in
-    let many = counted_at g.D.Sectors w c.args.self.now at c.kept_is_represented.ensures.agrees word _
-    c.batches.ensures in
-    absurd (beyond_none w c.args.as_of c.args.asked.now _ many c.in_default.ensures.ok.1 less)
+pub returns-in-Err-clause-refused : goal.returns-in-Err-clause-refused
+returns-in-Err-clause-refused g c =
+    check_refuses g.D.Sectors c.args.as_of _ c.args.self.now _ (length c.batches.result.now)
+    (λ w at k. counted_at g.D.Sectors w c.args.self.now at c.kept_is_represented.ensures.agrees k _ c.batches.ensures)
+    (λ k. k) c.in-Err.fault c.in-Err.ensures.causes
 
-pub returns-in-Err-answer_by_plan-clause-beyond : goal.returns-in-Err-answer_by_plan-clause-beyond
-returns-in-Err-answer_by_plan-clause-beyond g c w at k proper less =
-    let word = c.answer_by_plan.ensures.reads.leaves.word k in
-    let many = counted_at g.D.Sectors w c.args.self.now at c.kept_is_represented.ensures.agrees word _
-    c.batches.ensures in
-    absurd (beyond_none w c.args.as_of c.args.asked.now _ many c.in_default.ensures.ok.1 less)
+pub returns-in-Ok-clause-refused : goal.returns-in-Ok-clause-refused
+returns-in-Ok-clause-refused g c =
+    read_refuses g.D.Sectors c.args.as_of _ _ c.args.self.now _ (length c.batches.result.now)
+    (λ w at k. counted_at g.D.Sectors w c.args.self.now at c.kept_is_represented.ensures.agrees k _ c.batches.ensures)
+    c.answer_by_plan.ensures.reads.leaves.word c.in_default.ensures.ok tt (λ w at k bad. absurd cc)
 
 pub returns-in-Err-answer_by_plan-clause-refused : goal.returns-in-Err-answer_by_plan-clause-refused
-returns-in-Err-answer_by_plan-clause-refused g c other w at k =
+returns-in-Err-answer_by_plan-clause-refused g c =
     let s = c.args.self.now in
-    let word = c.answer_by_plan.ensures.reads.leaves.word k in
-    let agree = agrees g.D.Sectors w s at c.kept_is_represented.ensures.agrees word in
-    let many = counted_at g.D.Sectors w s at c.kept_is_represented.ensures.agrees word _ c.batches.ensures in
-    ⊎_elim (λ memory. inr (inr (
-      memory,
-      asked_within w c.args.as_of c.args.asked.now _ many c.in_default.ensures.ok,
-    )))
-    (⊎_elim (λ device. absurd (other device))
-    (λ bad. absurd
-    (c.in-Err-answer_by_plan.ensures.refused (ap (λ (f : Fault). Err f) bad) k w (at.represents word)
-    (sym agree.root_is) (members_at g.D.Sectors w s at c.kept_is_represented.ensures.members _ refl word))))
-    c.in-Err-answer_by_plan.ensures.causes
+    let word = c.answer_by_plan.ensures.reads.leaves.word in
+    read_refuses g.D.Sectors c.args.as_of _ _ s _ (length c.batches.result.now)
+    (λ w at k. counted_at g.D.Sectors w c.args.self.now at c.kept_is_represented.ensures.agrees k _ c.batches.ensures)
+    word c.in_default.ensures.ok c.in-Err-answer_by_plan.ensures.causes
+    (λ w at k bad. c.in-Err-answer_by_plan.ensures.refused bad k w (at.represents (word k))
+    (sym (agrees g.D.Sectors w s at c.kept_is_represented.ensures.agrees (word k)).root_is)
+    (members_at g.D.Sectors w s at c.kept_is_represented.ensures.members _ refl (word k)))

@@ -1,10 +1,9 @@
-use Rattle.std.proofs.Common.{◌≡◌, Option, Some, ⊎_elim, inl, inr, Err, sym, ap, subst}
+use Rattle.std.proofs.Common.{◌≡◌, ◌∙◌, Option, None, Some, ⊎_elim, inl, inr, Err, sym, ap, subst}
 use Rattle.cube_model.specs.declared.answer.Answer.{Answer}
 use Rattle.cube_model.specs.declared.fault.Fault.{Fault}
-use Rattle.cube_model.specs.declared.fault.Fault.TheVariants.{Device}
 use Rattle.object_store.specs.Store as stores
 use Rattle.planned_queries.specs.Stepping.{Advances, IsRunning, RunningState}
-use Rattle.warehouse.proofs.Represented.{store_at, session_at, still_at, content_leaves}
+use Rattle.warehouse.proofs.OnlyReading.{call_reads, reads_alike, store_read}
 use Rattle.warehouse.proofs.session.Session.step.Goals as goal
 use Rattle.warehouse.proofs.Represented.{reads_loaded}
 
@@ -16,44 +15,24 @@ invariant_of-self g c = record {
       c.advance.ensures.reads fine k s.loaded;
 }
 
-pub returns-in-None-clause-leaves : goal.returns-in-None-clause-leaves
-returns-in-None-clause-leaves g c w at =
-    let s = c.args.self.now in
-    content_leaves g.D.Sectors w (stores.disk_of g.D.Sectors s.store) (stores.disk_of g.D.Sectors c.advance.new.store)
-    (stores.content_of g.D.Sectors s.store) at.represents c.advance.ensures.reads.leaves
+pub returns-in-None-clause-reads : goal.returns-in-None-clause-reads
+returns-in-None-clause-reads g c =
+    store_read g.D.Sectors _ (λ fault. None ≡ Some fault) c.args.self.now _
+    (sym c.is_broken.ensures.broken ∙ c.if-is_broken.false) c.in-Ok.ensures.reads (λ is. absurd cc, λ is. absurd cc)
+    (λ is. cc)
 
-pub returns-in-Some-clause-leaves : goal.returns-in-Some-clause-leaves
-returns-in-Some-clause-leaves g c w at =
-    let s = c.args.self.now in
-    content_leaves g.D.Sectors w (stores.disk_of g.D.Sectors s.store) (stores.disk_of g.D.Sectors c.advance.new.store)
-    (stores.content_of g.D.Sectors s.store) at.represents c.advance.ensures.reads.leaves
+pub returns-in-Some-clause-reads : goal.returns-in-Some-clause-reads
+returns-in-Some-clause-reads g c =
+    store_read g.D.Sectors _ (λ fault. None ≡ Some fault) c.args.self.now _
+    (sym c.is_broken.ensures.broken ∙ c.if-is_broken.false) c.in-Ok.ensures.reads (λ is. absurd cc, λ is. absurd cc)
+    (λ is. cc)
 
-pub returns-in-Err-clause-leaves : goal.returns-in-Err-clause-leaves
-returns-in-Err-clause-leaves g c w at =
-    let s = c.args.self.now in
-    content_leaves g.D.Sectors w (stores.disk_of g.D.Sectors s.store) (stores.disk_of g.D.Sectors c.advance.new.store)
-    (stores.content_of g.D.Sectors s.store) at.represents c.advance.ensures.reads.leaves
-
-pub returns-in-None-clause-stays : goal.returns-in-None-clause-stays
-returns-in-None-clause-stays g c other w at =
-    let s = c.args.self.now in
-    session_at g.D.Sectors w _
-    (still_at g.D.Sectors w s.store c.advance.new.store (store_at g.D.Sectors w s at)
-    (c.in-Ok.ensures.reads.stays (λ is. absurd cc)))
-
-pub returns-in-Some-clause-stays : goal.returns-in-Some-clause-stays
-returns-in-Some-clause-stays g c other w at =
-    let s = c.args.self.now in
-    session_at g.D.Sectors w _
-    (still_at g.D.Sectors w s.store c.advance.new.store (store_at g.D.Sectors w s at)
-    (c.in-Ok.ensures.reads.stays (λ is. absurd cc)))
-
-pub returns-in-Err-clause-stays : goal.returns-in-Err-clause-stays
-returns-in-Err-clause-stays g c other w at =
-    let s = c.args.self.now in
-    session_at g.D.Sectors w _ (still_at g.D.Sectors w s.store c.advance.new.store (store_at g.D.Sectors w s at)
-    (c.in-Err.ensures.reads.stays
-    (λ is. let e : c.in-Err.fault ≡ Device = cc is in other (ap (λ (f : Fault). Some f) e))))
+pub returns-in-Err-clause-reads : goal.returns-in-Err-clause-reads
+returns-in-Err-clause-reads g c =
+    let reads = call_reads g.D.Sectors _ c.args.self.now _ (sym c.is_broken.ensures.broken ∙ c.if-is_broken.false)
+    c.in-Err.ensures.reads c.in-Err.ensures.causes in
+    reads_alike g.D.Sectors c.args.self.now _ _ (λ fault. Some c.in-Err.fault ≡ Some fault)
+    (λ is. cc, λ is. cc) (λ is. cc, λ is. cc) reads
 
 pub returns-in-None-clause-steps : goal.returns-in-None-clause-steps
 returns-in-None-clause-steps g c w at k started extends is =
