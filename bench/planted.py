@@ -10,6 +10,7 @@ assertion, not for want of time. Printed are the tests that failed, and how long
 """
 import os
 import re
+import shutil
 import subprocess
 import sys
 import time
@@ -34,6 +35,7 @@ def keep_modules(source):
     for path in source.glob("*.rt"):
         if path.stem not in ["lib", *MODULES]:
             path.unlink()
+            shutil.rmtree(source / path.stem, ignore_errors=True)
             root = source / "lib.rt"
             root.write_text(root.read_text().replace(f"#[cfg(test)]\nmod {path.stem};\n", ""))
 

@@ -20,7 +20,7 @@ use Rattle.cube_model.specs.Limits.{most_batch_rows, most_batches}
 use Rattle.cube_model.specs.Measures.{measure_of}
 use Rattle.batch_admission.specs.Found.{Found, cause_of, found_in}
 use Rattle.batch_admission.specs.Totals.{sum_limit, total_cause, totals_cause, totals_of, plus_rows}
-use Rattle.batch_admission.specs.declared.totals.Totals.{Totals}
+use Rattle.cube_model.specs.declared.totals.Totals.{Totals}
 use Rattle.batch_admission.proofs.AcceptedLaws as laws
 use Rattle.batch_admission.proofs.FoundLaws.{below-clean}
 

@@ -21,7 +21,7 @@ use Rattle.cube_model.specs.Places.{row_index_of, row_count_of}
 use Rattle.batch_admission.specs.Found.{Found, cause_of, lacks, found_in, found_with}
 use Rattle.batch_admission.specs.Totals.{AreBelow, plus_rows, plus_row, measure_size, sum_limit, total_cause}
 use Rattle.batch_admission.specs.Totals.{totals_cause}
-use Rattle.batch_admission.specs.declared.totals.Totals.{Totals}
+use Rattle.cube_model.specs.declared.totals.Totals.{Totals}
 
 one_more : (n m : ℕ) → (1 + n == suc m) ≡ (n == m)
 one_more n m = grind (arith, nat_tests)

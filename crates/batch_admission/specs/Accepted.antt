@@ -7,7 +7,7 @@ use Rattle.cube_model.specs.declared.rows.LineOrder.{LineOrder}
 use Rattle.cube_model.specs.Admission.{all_rows, long_text, refusal}
 use Rattle.cube_model.specs.Causes.{first_cause, cause_if}
 use Rattle.cube_model.specs.Limits.{most_batch_rows, most_batches}
-use Rattle.batch_admission.specs.declared.totals.Totals.{Totals}
+use Rattle.cube_model.specs.declared.totals.Totals.{Totals}
 use Rattle.batch_admission.specs.Totals.{totals_of}
 
 -- the number of accepted batches, and the totals of their rows

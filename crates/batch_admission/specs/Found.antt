@@ -8,7 +8,7 @@ use Rattle.cube_model.specs.declared.rows.LineOrder.{LineOrder}
 use Rattle.cube_model.specs.Admission.{long_text, unknown_key, long_field, unknown_axis}
 use Rattle.cube_model.specs.Attributes.{customer_of, supplier_of, part_of, date_of}
 use Rattle.cube_model.specs.Causes.{first_cause}
-use Rattle.batch_admission.specs.declared.totals.Totals.{Totals}
+use Rattle.cube_model.specs.declared.totals.Totals.{Totals}
 use Rattle.batch_admission.specs.Totals.{plus_rows, plus_row, totals_cause}
 
 -- no row of a dimension has a key

@@ -9,7 +9,7 @@ use Rattle.cube_model.specs.declared.rows.LineOrder.{LineOrder}
 use Rattle.cube_model.specs.Admission.{absolute_total}
 use Rattle.cube_model.specs.Causes.{first_cause, cause_if}
 use Rattle.cube_model.specs.Measures.{measure_of}
-use Rattle.batch_admission.specs.declared.totals.Totals.{Totals}
+use Rattle.cube_model.specs.declared.totals.Totals.{Totals}
 
 -- a measure's absolute value at a fact row
 abbrev pub measure_size : Measure → LineOrder → ℕ

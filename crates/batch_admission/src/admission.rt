@@ -9,9 +9,8 @@ ghost use Rattle.batch_admission.specs.Found.{cause_of, found_in};
 ghost use Rattle.batch_admission.specs.Totals.{AreBelow, sum_limit};
 
 use crate::findings::Findings;
-use crate::totals::Totals;
 use cube_model::limits::{MOST_BATCH_ROWS, MOST_BATCHES};
-use cube_model::{Fault, LineOrder};
+use cube_model::{Fault, LineOrder, Totals};
 use dimensions::Dims;
 use std::marker::Model;
 

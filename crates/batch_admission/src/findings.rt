@@ -7,12 +7,11 @@ ghost use Rattle.cube_model.specs.Causes.{first_cause};
 ghost use Rattle.cube_model.specs.Limits.{most_batch_rows};
 ghost use Rattle.batch_admission.specs.Found.{cause_of, found_in, found_with};
 ghost use Rattle.batch_admission.specs.Totals.{AreBelow, sum_limit};
-ghost use Rattle.batch_admission.specs.declared.totals.Totals.{Totals};
+ghost use Rattle.cube_model.specs.declared.totals.Totals.{Totals};
 
 use crate::rows::{long_field, unknown_axis};
 use crate::sums::Sums;
-use crate::totals::Totals;
-use cube_model::{Fault, LineOrder};
+use cube_model::{Fault, LineOrder, Totals};
 use dimensions::Dims;
 use std::marker::Model;
 

@@ -6,9 +6,7 @@ mod findings;
 mod rows;
 mod ship_modes;
 mod sums;
-mod totals;
 
 pub use admission::Admission;
 pub use findings::Findings;
 pub use ship_modes::{add_modes, reserved_row};
-pub use totals::Totals;

@@ -3,8 +3,7 @@ ghost use Rattle.std.specs.Prelude.{◌≡◌, ℕ, ◌+◌, ◌<◌, ◌^◌, I
 ghost use Rattle.std.specs.Result.{result_err};
 ghost use Rattle.batch_admission.specs.Totals.{AreBelow, plus_row, sum_limit, total_cause, totals_cause};
 
-use crate::totals::Totals;
-use cube_model::{Fault, LineOrder, Measure};
+use cube_model::{Fault, LineOrder, Measure, Totals};
 use std::marker::Model;
 
 // The least sum that passes the limit.
@@ -22,7 +21,7 @@ pub struct Sums {
 }
 
 impl Model for Sums {
-    ghost use Rattle.batch_admission.specs.declared.totals.Totals.{Totals};
+    ghost use Rattle.cube_model.specs.declared.totals.Totals.{Totals};
 
     ghost Value = { Totals };
 

@@ -45,82 +45,107 @@ impl fmt::Display for MemberPlace {
     }
 }
 
-/// Why a call was refused, and where. It prints as `fault N NAME PLACE`.
+/// Why a call was refused, and where. It prints as `fault N NAME PLACE`, where N is its code.
 ///
 /// Lines, fields and rows count from 1. Field 0 means a whole line.
 #[derive(Clone, Copy, Debug, PartialEq, Eq, Drop, Error)]
 pub enum Fault {
     /// A growth of memory was refused.
+    #[error("fault 1 Memory")]
     Memory,
     /// The device failed in this call.
+    #[error("fault 2 Device")]
     Device,
     /// The session met `Device` before.
+    #[error("fault 3 Failed")]
     Failed,
     /// No free run of sectors is long enough.
+    #[error("fault 4 Full")]
     Full,
     /// The device has no valid superblock.
+    #[error("fault 5 NotFormatted")]
     NotFormatted,
     /// The device has a valid superblock already.
+    #[error("fault 6 AlreadyFormatted")]
     AlreadyFormatted,
     /// The bytes are not of the layout.
+    #[error("fault 7 BadLayout")]
     BadLayout,
     /// The number of sectors is out of range, or not that of the superblock.
+    #[error("fault 8 DeviceSize")]
     DeviceSize,
     /// A line has too few or too many parts.
+    #[error("fault 9 FieldCount line {line}")]
     FieldCount { line: u64 },
     /// A field is no number, or one that is out of range.
+    #[error("fault 10 BadNumber line {line} field {field}")]
     BadNumber { line: u64, field: u8 },
     /// A field or a line is too long.
+    #[error("fault 11 FieldTooLong {place} field {field}")]
     FieldTooLong { place: Place, field: u8 },
     /// The key of a dimension row was seen before.
+    #[error("fault 12 DuplicateKey {axis} row {row}")]
     DuplicateKey { axis: Axis, row: u32 },
     /// A member has two upper members.
+    #[error("fault 13 HierarchyBroken {axis} row {row}")]
     HierarchyBroken { axis: Axis, row: u32 },
     /// A member is the text `ALL`, which means every member.
+    #[error("fault 14 ReservedMember {place}")]
     ReservedMember { place: MemberPlace },
     /// No customer has the key.
+    #[error("fault 15 UnknownCustomer row {row}")]
     UnknownCustomer { row: u32 },
     /// No supplier has the key.
+    #[error("fault 16 UnknownSupplier row {row}")]
     UnknownSupplier { row: u32 },
     /// No part has the key.
+    #[error("fault 17 UnknownPart row {row}")]
     UnknownPart { row: u32 },
     /// No day has the key.
+    #[error("fault 18 UnknownDate row {row}")]
     UnknownDate { row: u32 },
     /// The sum of the absolute values of a measure passes its limit.
+    #[error("fault 19 SumRange {measure}")]
     SumRange { measure: Measure },
     /// A batch or a dimension has too many rows.
+    #[error("fault 20 TooManyRows")]
     TooManyRows,
     /// The warehouse has as many batches as it can hold.
+    #[error("fault 21 TooManyBatches")]
     TooManyBatches,
     /// A batch with the number is there already.
+    #[error("fault 22 Repeated")]
     Repeated,
     /// The number leaves out batches that are not there yet.
+    #[error("fault 23 Gap")]
     Gap,
     /// The query is not proper, or its words cannot be read.
+    #[error("fault 24 BadQuery")]
     BadQuery,
     /// There are fewer batches than the query asks for.
+    #[error("fault 25 NoSuchPrefix")]
     NoSuchPrefix,
     /// A cuboid would have too many cells.
+    #[error("fault 26 TooManyCells view {view}")]
     TooManyCells { view: u16 },
     /// A level of a dimension, or the axis of ship modes, has too many members.
+    #[error("fault 27 TooManyMembers {place}")]
     TooManyMembers { place: MemberPlace },
     /// The last generation is reached.
+    #[error("fault 28 Worn")]
     Worn,
     /// A reader failed.
+    #[error("fault 29 Input")]
     Input,
     /// A writer failed, or took no byte.
+    #[error("fault 30 Output")]
     Output,
     /// No query runs in the slot.
+    #[error("fault 31 NotRunning")]
     NotRunning,
     /// Rows were added to the dimensions as often as the warehouse can count.
+    #[error("fault 32 TooManyAdditions")]
     TooManyAdditions,
-}
-
-impl fmt::Display for Fault {
-    fn fmt<W: fmt::Write>(&self, f: &mut fmt::Formatter<W>) -> fmt::Result {
-        write!(f, "fault {} {}", self.code(), self.name())?;
-        self.show_place(f)
-    }
 }
 
 // So that `?` answers `Memory` where a growth was refused.
@@ -182,66 +207,6 @@ impl Fault {
             Fault::Output => 30,
             Fault::NotRunning => 31,
             Fault::TooManyAdditions => 32,
-        }
-    }
-
-    // The name of the fault, as it is printed.
-    fn name(&self) -> &'static str {
-        match self {
-            Fault::Memory => "Memory",
-            Fault::Device => "Device",
-            Fault::Failed => "Failed",
-            Fault::Full => "Full",
-            Fault::NotFormatted => "NotFormatted",
-            Fault::AlreadyFormatted => "AlreadyFormatted",
-            Fault::BadLayout => "BadLayout",
-            Fault::DeviceSize => "DeviceSize",
-            Fault::FieldCount { .. } => "FieldCount",
-            Fault::BadNumber { .. } => "BadNumber",
-            Fault::FieldTooLong { .. } => "FieldTooLong",
-            Fault::DuplicateKey { .. } => "DuplicateKey",
-            Fault::HierarchyBroken { .. } => "HierarchyBroken",
-            Fault::ReservedMember { .. } => "ReservedMember",
-            Fault::UnknownCustomer { .. } => "UnknownCustomer",
-            Fault::UnknownSupplier { .. } => "UnknownSupplier",
-            Fault::UnknownPart { .. } => "UnknownPart",
-            Fault::UnknownDate { .. } => "UnknownDate",
-            Fault::SumRange { .. } => "SumRange",
-            Fault::TooManyRows => "TooManyRows",
-            Fault::TooManyBatches => "TooManyBatches",
-            Fault::Repeated => "Repeated",
-            Fault::Gap => "Gap",
-            Fault::BadQuery => "BadQuery",
-            Fault::NoSuchPrefix => "NoSuchPrefix",
-            Fault::TooManyCells { .. } => "TooManyCells",
-            Fault::TooManyMembers { .. } => "TooManyMembers",
-            Fault::Worn => "Worn",
-            Fault::Input => "Input",
-            Fault::Output => "Output",
-            Fault::NotRunning => "NotRunning",
-            Fault::TooManyAdditions => "TooManyAdditions",
-        }
-    }
-
-    // Shows where, each part after a blank.
-    fn show_place<W: fmt::Write>(&self, f: &mut fmt::Formatter<W>) -> fmt::Result {
-        match self {
-            Fault::FieldCount { line } => write!(f, " line {line}"),
-            Fault::BadNumber { line, field } => write!(f, " line {line} field {field}"),
-            Fault::FieldTooLong { place, field } => write!(f, " {place} field {field}"),
-            Fault::DuplicateKey { axis, row } | Fault::HierarchyBroken { axis, row } => {
-                write!(f, " {axis} row {row}")
-            }
-            Fault::ReservedMember { place } | Fault::TooManyMembers { place } => {
-                write!(f, " {place}")
-            }
-            Fault::UnknownCustomer { row }
-            | Fault::UnknownSupplier { row }
-            | Fault::UnknownPart { row }
-            | Fault::UnknownDate { row } => write!(f, " row {row}"),
-            Fault::SumRange { measure } => write!(f, " {measure}"),
-            Fault::TooManyCells { view } => write!(f, " view {view}"),
-            _ => Ok(()),
         }
     }
 }

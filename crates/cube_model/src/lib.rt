@@ -12,6 +12,7 @@ mod measure;
 mod query;
 mod row_text;
 mod rows;
+mod totals;
 
 pub use amount::Amount;
 pub use answer::{Answer, Fraction, Line, Member, Value};
@@ -26,3 +27,4 @@ pub use measure::{Agg, Measure};
 pub use query::{Cond, Kind, Order, Query};
 pub use row_text::RowText;
 pub use rows::{CustomerRow, DateRow, DimRows, LineOrder, PartRow, SupplierRow};
+pub use totals::Totals;

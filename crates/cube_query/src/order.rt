@@ -56,11 +56,7 @@ fn ranked(
 fn unranked(alloc: Global, ranked: &[Ranked]) -> Result<Vec<(u128, u32)>, AllocError>
     ensures { IfOk result (λ groups. groups.items ≡ map (λ rank. rank.2) ranked.now) }
 {
-    let mut groups = Vec::with_capacity(alloc, ranked.len())?;
-    for rank in ranked {
-        groups.push(rank.2)?;
-    }
-    Ok(groups)
+    ranked.iter().map(|rank| rank.2).collect(alloc)
 }
 
 /// Groups in the order that a query asks for. It compares numbers alone.

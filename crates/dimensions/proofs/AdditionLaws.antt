@@ -15,7 +15,8 @@ use Rattle.cube_model.specs.Validity.{part_rules, date_rules, dimension_cause}
 use Rattle.dimensions.specs.declared.dimension.Dimension.{Dimension}
 use Rattle.dimensions.specs.Added.{added_cause, addition_cause, counted_after, joined}
 use Rattle.dimensions.specs.Shapes.{text_rules}
-use Rattle.dimensions.specs.Shown.{ExtendsDimension, HoldsDimension, IsDimension, rows_on}
+use Rattle.dimensions.specs.Dimensions.{ExtendsDimension, HoldsDimension, HoldsRows, IsDimension}
+use Rattle.dimensions.specs.Shown.{rows_on}
 use Rattle.dimensions.specs.TextRows.{TextRow, row_of_customer, row_of_supplier, row_of_part, row_of_date}
 use Rattle.dimensions.proofs.KeptLaws.{rows_on-joined}
 use Rattle.dimensions.proofs.ShownLaws.{Passes, customer_cause, supplier_cause, part_cause, date_cause}
@@ -73,19 +74,19 @@ module _ (old new : DimRows) where
   module _ (axis : Axis) (own : Dimension) (more : List TextRow) (is : more ≡ rows_on new axis) (valid : IsValid old)
       (on : IsDimension axis (rows_on old axis) own) where
     pub extends_ok : (dimension : Dimension)
-        → ((rows : List TextRow) → HoldsDimension axis rows own → ExtendsDimension axis rows more (Ok dimension))
+        → ((rows : List TextRow) → HoldsRows axis rows own → ExtendsDimension axis rows more (Ok dimension))
         → HoldsDimension axis (rows_on (joined old new) axis) dimension
     extends_ok dimension extends =
         extended axis dimension
         (subst (λ l. ExtendsDimension axis (rows_on old axis) l (Ok dimension)) is
-        (extends (rows_on old axis) (on, passes_valid old axis valid)))
+        (extends (rows_on old axis) (on.stores, passes_valid old axis valid)))
 
     pub extends_err : (fault : Fault)
-        → ((rows : List TextRow) → HoldsDimension axis rows own → ExtendsDimension axis rows more (Err fault))
+        → ((rows : List TextRow) → HoldsRows axis rows own → ExtendsDimension axis rows more (Err fault))
         → (fault ≡ Memory) ⊎ (added_cause (text_rules axis) (rows_on old axis) (rows_on new axis) ≡ Some fault)
     extends_err fault extends =
         subst (λ l. ExtendsDimension axis (rows_on old axis) l (Err fault)) is
-        (extends (rows_on old axis) (on, passes_valid old axis valid))
+        (extends (rows_on old axis) (on.stores, passes_valid old axis valid))
 
   -- the cause of a dimension, by texts
   abbrev pub added_on : Axis → Option Fault

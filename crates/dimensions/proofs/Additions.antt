@@ -1,9 +1,10 @@
--- Rows that come after others: their causes, and tables that hold them.
+-- Rows that come after others: their causes, and dimensions that hold them.
 use Rattle.std.proofs.Common.{◌≡◌, ◌<◌, ◌≤◌, ◌+◌, ◌-◌, ◌∙◌, ◌⊎◌, inl, inr, suc, sym, ap, refl, subst, arith, ℕ, true}
 use Rattle.std.proofs.Common.{nat_lt, List, [], ◌∷◌, ◌++◌, length, take, drop, get_or, Option, Some, None, Ok, Err}
+use Rattle.std.proofs.Common.{Result, OnOk, IfErr, map, vec_len}
 use Rattle.std.proofs.Common.{append_assoc, length-append}
 use Rattle.std.specs.Option.{option_map}
-use Rattle.std.proofs.lemmas.List.{append-nil, length-map, length-take-le}
+use Rattle.std.proofs.lemmas.List.{append-nil, get_or-map, length-map}
 use Rattle.cube_model.specs.declared.attr.Axis.{Axis}
 use Rattle.cube_model.specs.declared.fault.Fault.{Fault}
 use Rattle.cube_model.specs.declared.fault.Fault.TheVariants.{DuplicateKey, HierarchyBroken, ReservedMember}
@@ -11,12 +12,13 @@ use Rattle.cube_model.specs.declared.fault.Fault.TheVariants.{TooManyMembers, To
 use Rattle.cube_model.specs.declared.fault.MemberPlace.TheVariants.{InDimension}
 use Rattle.cube_model.specs.Causes.{first_cause, cause_if}
 use Rattle.cube_model.specs.Validity.{Rules, row_cause, rows_cause, dimension_cause}
-use Rattle.dimensions.specs.declared.table.Table.{Table}
+use Rattle.dimensions.specs.declared.dimension.Dimension.{Dimension}
 use Rattle.dimensions.specs.Added.{counted_after, added_cause}
-use Rattle.dimensions.specs.TextRows.{TextRow, column_of}
-use Rattle.dimensions.specs.Shapes.{row_limit_of, text_rules}
-use Rattle.dimensions.specs.Columns.{IsColumn}
-use Rattle.dimensions.specs.Tables.{no_column, lower_texts, IsTable, HoldsRows, AddsRow, AddsRows, BuildsTable}
+use Rattle.dimensions.specs.TextRows.{TextRow}
+use Rattle.dimensions.specs.Shapes.{lowers_of, row_limit_of, text_rules}
+use Rattle.dimensions.specs.Columns.{code_place, ranked, unranked}
+use Rattle.dimensions.specs.Dimensions.{column_at, no_column, lower_texts, StoresRows, HoldsRows, AddsRow, AddsRows}
+use Rattle.dimensions.specs.Dimensions.{BuildsDimension}
 use Rattle.dimensions.proofs.BuildSteps.{SoFar, few_rows, goes_on, stops, done}
 
 -- ---- causes
@@ -72,18 +74,7 @@ all_from_none : (cause : Option Fault) → option_map (counted_after 0) cause �
 all_from_none None = refl
 all_from_none (Some fault) = ap (λ f. Some f) (from_none fault)
 
--- a fault that names no row of a dimension
-pub names_no_row : (count : ℕ) (fault : Fault) → ((axis : Axis) (row : ℕ) → fault ≡ DuplicateKey axis row → ⊥)
-    → ((axis : Axis) (row : ℕ) → fault ≡ HierarchyBroken axis row → ⊥)
-    → ((axis : Axis) (row : ℕ) → fault ≡ ReservedMember (InDimension axis row) → ⊥)
-    → ((axis : Axis) (row : ℕ) → fault ≡ TooManyMembers (InDimension axis row) → ⊥) → fault ≡ counted_after count fault
-names_no_row count (DuplicateKey axis row) key link name room = absurd (key axis row refl)
-names_no_row count (HierarchyBroken axis row) key link name room = absurd (link axis row refl)
-names_no_row count (ReservedMember (InDimension axis row)) key link name room = absurd (name axis row refl)
-names_no_row count (TooManyMembers (InDimension axis row)) key link name room = absurd (room axis row refl)
-names_no_row count _ key link name room = refl
-
--- ---- tables
+-- ---- dimensions
 
 take_front : {X : Type 0} (xs ys : List X) → take (length xs) (xs ++ ys) ≡ xs
 take_front [] ys = refl
@@ -98,36 +89,59 @@ get_after [] ys i d = let e : 0 + i ≡ i = omega arith in ap (λ n. get_or ys n
 get_after (x ∷ xs) ys i d = let e : length (x ∷ xs) + i ≡ suc (length xs + i) = omega arith in
     ap (λ n. get_or (x ∷ xs ++ ys) n d) e ∙ get_after xs ys i d
 
-pub holds_count : (axis : Axis) (rows : List TextRow) (table : Table) → IsTable axis rows table
-    → length table.keys ≡ length rows
-holds_count axis rows table is = ap length is.keys ∙ length-map rows (λ r. r.key)
+pub holds_count : (axis : Axis) (rows : List TextRow) (dimension : Dimension) → StoresRows axis rows dimension
+    → length dimension.keys ≡ length rows
+holds_count axis rows dimension is = ap length is.keys ∙ length-map rows (λ r. r.key)
 
--- a table does not hang on where its parts are
-pub same_table : (axis : Axis) (rows : List TextRow) (old new : Table) → new.keys ≡ old.keys
-    → new.columns.items ≡ old.columns.items → IsTable axis rows old → IsTable axis rows new
-same_table axis rows old new keys columns is = record {
-  keys = keys ∙ is.keys;
-  count = ap length columns ∙ is.count;
-  lowers = λ i lt. ap (λ l. (get_or l i no_column).lower) columns ∙ is.lowers i lt;
-  columns = λ i lt. subst (λ l. IsColumn (column_of i rows) (lower_texts axis i rows) (get_or l i no_column))
-      (sym columns) (is.columns i lt);
-}
+-- the rows are stored by the keys, and by the columns whatever their ranks
+pub same_rows : (axis : Axis) (rows : List TextRow) (old new : Dimension) → new.keys ≡ old.keys
+    → length new.columns.items ≡ length old.columns.items
+    → ((i : ℕ) → i < length old.columns.items → unranked (column_at new i) ≡ unranked (column_at old i))
+    → StoresRows axis rows old → StoresRows axis rows new
+same_rows axis rows old new keys count same is =
+    let same_column : (i : ℕ) → i < length (lowers_of axis) → unranked (column_at new i) ≡ unranked (column_at old i) =
+    λ i lt. same i (omega (arith, lt, is.count)) in
+    record {
+      keys = keys ∙ is.keys;
+      count = count ∙ is.count;
+      lowers = λ i lt. ap (λ c. c.lower) (same_column i lt) ∙ is.lowers i lt;
+      columns = λ i lt. record {
+        limit = ap (λ c. c.texts.limit) (same_column i lt) ∙ (is.columns i lt).limit;
+        texts_are = ap (λ c. c.texts.texts) (same_column i lt) ∙ (is.columns i lt).texts_are;
+        room = (is.columns i lt).room;
+        count = ap (λ c. length c.codes) (same_column i lt) ∙ (is.columns i lt).count;
+        reads = λ row below. ap (λ c. get_or c.codes (code_place (lower_texts axis i rows) row) 0) (same_column i lt)
+            ∙ (is.columns i lt).reads row below;
+      };
+    }
+
+-- a copy with no ranks stores the same rows
+pub copied_rows : (axis : Axis) (rows : List TextRow) (old new : Dimension) → new.keys ≡ old.keys
+    → new.columns.items ≡ map unranked old.columns.items → HoldsRows axis rows old → HoldsRows axis rows new
+copied_rows axis rows old new keys columns holds = (
+  same_rows axis rows old new keys (ap length columns ∙ length-map old.columns.items unranked)
+      (λ i lt. ap (λ l. unranked (get_or l i no_column)) columns
+      ∙ ap unranked (get_or-map unranked old.columns.items i no_column no_column lt)) holds.0,
+  holds.1,
+)
+
+-- each column has room for its texts
+pub few_texts : (axis : Axis) (rows : List TextRow) (dimension : Dimension) → StoresRows axis rows dimension → (i : ℕ)
+    → i < length dimension.columns.items → length (column_at dimension i).texts.texts ≤ 65535
+few_texts axis rows dimension is i lt =
+    let column = is.columns i (omega (arith, lt, is.count)) in omega (arith, column.room, ap length column.texts_are)
 
 -- before the first of the rows added
-pub so_far_first : (axis : Axis) (old new : List TextRow) (table : Table) → HoldsRows axis old table
-    → SoFar axis (old ++ new) (length old + 0) table
-so_far_first axis old new table holds =
+pub so_far_first : (axis : Axis) (old new : List TextRow) (dimension : Dimension) → HoldsRows axis old dimension
+    → SoFar axis (old ++ new) (length old + 0) dimension
+so_far_first axis old new dimension holds =
     let here : length old + 0 ≡ length old = omega arith in
     let front : take (length old + 0) (old ++ new) ≡ old = ap (λ n. take n (old ++ new)) here ∙ take_front old new in
     let rest : drop (length old + 0) (old ++ new) ≡ new = ap (λ n. drop n (old ++ new)) here ∙ drop_front old new in (
-      subst (λ l. IsTable axis l table) (sym front) holds.0,
+      subst (λ l. StoresRows axis l dimension) (sym front) holds.0,
       rows_cause-append (text_rules axis) [] old new (no_rows_cause (text_rules axis) old holds.1)
           ∙ (λ i. rows_cause (text_rules axis) (sym front i) (sym rest i)),
     )
-
-pub so_far_count : (axis : Axis) (all : List TextRow) (i : ℕ) (table : Table) → i ≤ length all → SoFar axis all i table
-    → length table.keys ≡ i
-so_far_count axis all i table le so_far = holds_count axis (take i all) table so_far.0 ∙ length-take-le i all le
 
 -- the cause of a row that was added
 pub counted_cause : (axis : Axis) (old new : List TextRow) (count : ℕ) (fault : Fault) → count ≡ length old
@@ -140,7 +154,7 @@ counted_cause axis old new count fault is (inr cause) =
 
 -- one more of the rows added
 module _ (axis : Axis) (old new : List TextRow) (few : length old + length new ≤ row_limit_of axis) (i : ℕ)
-    (before : Table) (so_far : SoFar axis (old ++ new) (length old + i) before)
+    (before : Dimension) (so_far : SoFar axis (old ++ new) (length old + i) before)
     (row : TextRow) (lt : i < length new) (at : get_or new i row ≡ row) where
   all_few : length (old ++ new) ≤ row_limit_of axis
   all_few = omega (arith, few, length-append old new)
@@ -148,7 +162,7 @@ module _ (axis : Axis) (old new : List TextRow) (few : length old + length new �
   all_lt : length old + i < length (old ++ new)
   all_lt = omega (arith, lt, length-append old new)
 
-  pub goes_on_after : (after : Table) → AddsRow axis (take (length old + i) (old ++ new)) row after (Ok tt)
+  pub goes_on_after : (after : Dimension) → AddsRow axis (take (length old + i) (old ++ new)) row after (Ok tt)
       → SoFar axis (old ++ new) (length old + (i + 1)) after
   goes_on_after after adds =
       let next : length old + i + 1 ≡ length old + (i + 1) = omega arith in
@@ -156,7 +170,7 @@ module _ (axis : Axis) (old new : List TextRow) (few : length old + length new �
       (goes_on axis (old ++ new) all_few (length old + i) before so_far row all_lt (get_after old new i row ∙ at)
       after adds)
 
-  pub stops_after : (after : Table) (count : ℕ) (fault : Fault) → count ≡ length old
+  pub stops_after : (after : Dimension) (count : ℕ) (fault : Fault) → count ≡ length old
       → AddsRow axis (take (length old + i) (old ++ new)) row after (Err fault)
       → (counted_after count fault ≡ Memory)
       ⊎ (added_cause (text_rules axis) old new ≡ Some (counted_after count fault))
@@ -166,20 +180,39 @@ module _ (axis : Axis) (old new : List TextRow) (few : length old + length new �
       fault adds)
 
 -- after the last of them
-pub done_after : (axis : Axis) (old new : List TextRow) (i : ℕ) (before after : Table)
-    → length old + length new ≤ row_limit_of axis → i ≡ length new → SoFar axis (old ++ new) (length old + i) before
-    → after.keys ≡ before.keys → after.columns ≡ before.columns → AddsRows axis old new after (Ok tt)
-done_after axis old new i before after few last so_far keys columns =
+pub done_after : (axis : Axis) (old new : List TextRow) (i : ℕ) (dimension : Dimension)
+    → length old + length new ≤ row_limit_of axis → i ≡ length new
+    → SoFar axis (old ++ new) (length old + i) dimension → HoldsRows axis (old ++ new) dimension
+done_after axis old new i dimension few last so_far =
     let all_few : length (old ++ new) ≤ row_limit_of axis = omega (arith, few, length-append old new) in
     let whole : length old + i ≡ length (old ++ new) = omega (arith, last, length-append old new) in
-    done axis (old ++ new) all_few (length old + i) before after whole so_far keys columns
+    done axis (old ++ new) all_few (length old + i) dimension whole so_far
+
+-- the ranks, which are made at last
+pub ranks_made : (axis : Axis) (old new : List TextRow) (before after : Dimension) (result : Result (Unit {0}) Fault)
+    → HoldsRows axis (old ++ new) before → after.keys ≡ before.keys
+    → vec_len after.columns ≡ vec_len before.columns
+    → OnOk result ((i : ℕ) → i < vec_len before.columns → column_at after i ≡ ranked (column_at before i))
+    → IfErr result (λ fault. fault ≡ Memory) → AddsRows axis old new after result
+ranks_made axis old new before after (Ok unit) holds keys count ranked_all memory = (
+  record {
+    stores = same_rows axis (old ++ new) before after keys
+        (omega (arith, count, before.columns.ok.0, after.columns.ok.0))
+        (λ i lt. ap unranked (ranked_all i (omega (arith, lt, before.columns.ok.0)))) holds.0;
+    ranks = λ i lt. subst (λ c. c.ranks ≡ c.texts.texts)
+        (sym (ranked_all i (omega (arith, lt, count, before.columns.ok.0, after.columns.ok.0)))) refl;
+  },
+  holds.1,
+)
+ranks_made axis old new before after (Err fault) holds keys count ranked_all memory = inl memory
 
 -- ---- rows from nothing
 
 pub none_at_first : (axis : Axis) → dimension_cause (text_rules axis) [] ≡ None
 none_at_first axis = few_rows (text_rules axis) [] (omega arith)
 
-pub not_built : (axis : Axis) (rows : List TextRow) (table : Table) (fault : Fault)
-    → AddsRows axis [] rows table (Err fault) → BuildsTable axis rows (Err fault)
-not_built axis rows table fault (inl memory) = inl memory
-not_built axis rows table fault (inr cause) = inr (sym (all_from_none (dimension_cause (text_rules axis) rows)) ∙ cause)
+pub not_built : (axis : Axis) (rows : List TextRow) (dimension : Dimension) (fault : Fault)
+    → AddsRows axis [] rows dimension (Err fault) → BuildsDimension axis rows (Err fault)
+not_built axis rows dimension fault (inl memory) = inl memory
+not_built axis rows dimension fault (inr cause) =
+    inr (sym (all_from_none (dimension_cause (text_rules axis) rows)) ∙ cause)

@@ -1,4 +1,4 @@
--- Building a table row by row.
+-- Building a dimension row by row.
 use Rattle.std.proofs.Common.{◌≡◌, ◌<◌, ◌≤◌, ◌+◌, ◌∙◌, ◌⊎◌, inl, inr, sym, ap, refl, subst, arith, ℕ, false, nat_lt}
 use Rattle.std.proofs.Common.{List, [], ◌∷◌, ◌++◌, length, take, drop, get_or, Option, Some, None, Ok, Err}
 use Rattle.std.proofs.lemmas.List.{take_more, drop_more}
@@ -7,10 +7,10 @@ use Rattle.cube_model.specs.declared.fault.Fault.{Fault}
 use Rattle.cube_model.specs.declared.fault.Fault.TheVariants.{TooManyRows, Memory}
 use Rattle.cube_model.specs.Causes.{first_cause, cause_if}
 use Rattle.cube_model.specs.Validity.{Rules, row_cause, rows_cause, dimension_cause}
-use Rattle.dimensions.specs.declared.table.Table.{Table}
+use Rattle.dimensions.specs.declared.dimension.Dimension.{Dimension}
 use Rattle.dimensions.specs.TextRows.{TextRow}
 use Rattle.dimensions.specs.Shapes.{row_limit_of, text_rules}
-use Rattle.dimensions.specs.Tables.{IsTable, AddsRow, BuildsTable}
+use Rattle.dimensions.specs.Dimensions.{StoresRows, AddsRow, HoldsRows}
 
 first_alone : (cause : Option Fault) → first_cause (cause ∷ []) ≡ cause
 first_alone None = refl
@@ -56,21 +56,21 @@ take_all : {X : Type 0} (xs : List X) → take (length xs) xs ≡ xs
 take_all [] = refl
 take_all (x ∷ xs) = ap (λ l. x ∷ l) (take_all xs)
 
--- so far the rows are in the table, and the cause is that of the others
-abbrev pub SoFar : Axis → List TextRow → ℕ → Table → Type 0
-SoFar axis all i table = IsTable axis (take i all) table
+-- so far the rows are in the dimension, and the cause is that of the others
+abbrev pub SoFar : Axis → List TextRow → ℕ → Dimension → Type 0
+SoFar axis all i dimension = StoresRows axis (take i all) dimension
     × (rows_cause (text_rules axis) [] all ≡ rows_cause (text_rules axis) (take i all) (drop i all))
 
 module _ (axis : Axis) (all : List TextRow) (few : length all ≤ row_limit_of axis) where
-  module _ (i : ℕ) (old : Table) (so_far : SoFar axis all i old) (row : TextRow) (lt : i < length all)
+  module _ (i : ℕ) (old : Dimension) (so_far : SoFar axis all i old) (row : TextRow) (lt : i < length all)
       (at : get_or all i row ≡ row) where
-    pub goes_on : (new : Table) → AddsRow axis (take i all) row new (Ok tt) → SoFar axis all (i + 1) new
+    pub goes_on : (new : Dimension) → AddsRow axis (take i all) row new (Ok tt) → SoFar axis all (i + 1) new
     goes_on new adds = (
-      subst (λ l. IsTable axis l new) (sym (front_is (text_rules axis) all i row lt at)) adds.0,
+      subst (λ l. StoresRows axis l new) (sym (front_is (text_rules axis) all i row lt at)) adds.0,
       so_far.1 ∙ cause_goes_on (text_rules axis) all i row lt at adds.1,
     )
 
-    pub stops : (new : Table) (fault : Fault) → AddsRow axis (take i all) row new (Err fault) → (fault ≡ Memory)
+    pub stops : (new : Dimension) (fault : Fault) → AddsRow axis (take i all) row new (Err fault) → (fault ≡ Memory)
         ⊎ (dimension_cause (text_rules axis) all ≡ Some fault)
     stops new fault adds = elim adds [
       | inl memory ↦ inl memory
@@ -79,13 +79,12 @@ module _ (axis : Axis) (all : List TextRow) (few : length all ≤ row_limit_of a
           ∙ cause_stops (text_rules axis) all i row lt at fault cause)
     ]
 
-  -- the keys of a table do not hang on its columns
-  pub done : (i : ℕ) (old new : Table) → i ≡ length all → SoFar axis all i old → new.keys ≡ old.keys
-      → new.columns ≡ old.columns → BuildsTable axis all (Ok new)
-  done i old new last so_far keys columns =
+  -- after the last of them
+  pub done : (i : ℕ) (dimension : Dimension) → i ≡ length all → SoFar axis all i dimension
+      → HoldsRows axis all dimension
+  done i dimension last so_far =
       let whole : take i all ≡ all = ap (λ n. take n all) last ∙ take_all all in
-      let rest : drop i all ≡ [] = ap (λ n. drop n all) last ∙ drop_all all in
-      let same : old ≡ new = λ k. record { keys = sym keys k; columns = sym columns k } in (
-        subst (λ t. IsTable axis all t) same (subst (λ l. IsTable axis l old) whole so_far.0),
+      let rest : drop i all ≡ [] = ap (λ n. drop n all) last ∙ drop_all all in (
+        subst (λ l. StoresRows axis l dimension) whole so_far.0,
         few_rows (text_rules axis) all few ∙ so_far.1 ∙ ap (rows_cause (text_rules axis) (take i all)) rest,
       )

@@ -13,21 +13,21 @@ use Rattle.dictionary.specs.Dictionary.{firsts}
 use Rattle.dictionary.specs.Columns.{AreCodes}
 use Rattle.dictionary.proofs.CallerLemmas.{list_any_here, place_within, text_at_place, bytes_eq-refl}
 use Rattle.dimensions.specs.declared.coded.CodedRows.{CodedRows}
-use Rattle.dimensions.specs.declared.table.Table.{Table}
+use Rattle.dimensions.specs.declared.dimension.Dimension.{Dimension}
 use Rattle.dimensions.specs.TextRows.{TextRow, text_in, column_of}
 use Rattle.dimensions.specs.Shapes.{lowers_of, lower_of, row_limit_of, text_rules, texts_from, links_from}
 use Rattle.dimensions.specs.ShortTexts.{IsShortRow}
 use Rattle.dimensions.specs.Coded.{text_next_to, place_texts, texts_below, texts_at_places, coded_at, AreCodedRows}
 use Rattle.dimensions.specs.Coded.{AreGoodRows, place_total, HaveProperColumns, KeysAreDistinct}
-use Rattle.dimensions.specs.Tables.{column_at}
-use Rattle.dimensions.specs.Shown.{text_up, each_row, table_row, rows_of_table}
+use Rattle.dimensions.specs.Dimensions.{column_at}
+use Rattle.dimensions.specs.Shown.{text_up, each_row, text_row, rows_of_dimension}
 use Rattle.dimensions.proofs.MemberLaws.{length-members}
 use Rattle.dimensions.proofs.ShapeLaws.{lower_below}
 use Rattle.dimensions.proofs.ShortLaws.{all_at, all_map}
 use Rattle.dimensions.proofs.CodeLaws.{coded}
 use Rattle.dimensions.proofs.CodedTexts.{all_from_get, all_firsts, IsDetermined, firsts_at_places}
-use Rattle.dimensions.proofs.CodedTables.{each_row-length, each_row-get, each_row-map, each_row-of, AreInOrder}
-use Rattle.dimensions.proofs.CodedTables.{column_up, column_is, image, image_column, good}
+use Rattle.dimensions.proofs.CodedDimensions.{each_row-length, each_row-get, each_row-map, each_row-of, AreInOrder}
+use Rattle.dimensions.proofs.CodedDimensions.{column_up, column_is, image, image_column, good}
 
 -- ---- pairs
 
@@ -144,64 +144,65 @@ module _ (P : ((TextRow → List ℕ) × (TextRow → List ℕ)) → Type 0) whe
 abbrev no_row : TextRow
 no_row = record { key = 0; texts = [] }
 
-module _ (axis : Axis) (table : Table) (are : AreInOrder axis table) where
+module _ (axis : Axis) (dimension : Dimension) (are : AreInOrder axis dimension) where
   abbrev rows : List TextRow
-  rows = rows_of_table axis table
+  rows = rows_of_dimension axis dimension
 
-  row_count : length rows ≡ length table.keys
-  row_count = each_row-length (table_row axis table) (length table.keys)
+  row_count : length rows ≡ length dimension.keys
+  row_count = each_row-length (text_row axis dimension) (length dimension.keys)
 
   -- what holds of each text of a column holds of each row's text there
   in_each_row : (P : List ℕ → Type 0) (i : ℕ) → i < length (lowers_of axis)
-      → AllByRecursion P (column_at table i).texts.texts → (k : ℕ) → k < length rows
+      → AllByRecursion P (column_at dimension i).texts.texts → (k : ℕ) → k < length rows
       → P (text_in i (get_or rows k no_row))
   in_each_row P i lt all k k_lt =
-      let k_n : k < length table.keys = omega (arith, k_lt, row_count) in
-      let at : text_in i (get_or rows k no_row) ≡ text_up table i k =
-      ap (text_in i) (each_row-get (table_row axis table) (length table.keys) k no_row k_n)
-      ∙ each_row-get (λ column. text_up table column k) (length (lowers_of axis)) i [] lt in
-      subst P (sym at) (all_at P (column_at table i).texts.texts _ [] ((good axis table are i lt).within k k_n) all)
+      let k_n : k < length dimension.keys = omega (arith, k_lt, row_count) in
+      let at : text_in i (get_or rows k no_row) ≡ text_up dimension i k =
+      ap (text_in i) (each_row-get (text_row axis dimension) (length dimension.keys) k no_row k_n)
+      ∙ each_row-get (λ column. text_up dimension column k) (length (lowers_of axis)) i [] lt in
+      subst P (sym at)
+      (all_at P (column_at dimension i).texts.texts _ [] ((good axis dimension are i lt).within k k_n) all)
 
   module _ (short : (i : ℕ) → i < length (lowers_of axis)
-      → AllByRecursion (λ text. length text ≤ longest_text) (column_at table i).texts.texts)
+      → AllByRecursion (λ text. length text ≤ longest_text) (column_at dimension i).texts.texts)
       (members : (i : ℕ) → i < length (lowers_of axis)
-      → AllByRecursion (λ text. text ≢ codes "ALL") (column_at table i).texts.texts)
-      (few : length table.keys ≤ row_limit_of axis) (distinct : KeysAreDistinct table.keys) where
+      → AllByRecursion (λ text. text ≢ codes "ALL") (column_at dimension i).texts.texts)
+      (few : length dimension.keys ≤ row_limit_of axis) (distinct : KeysAreDistinct dimension.keys) where
     short_row : (k : ℕ) → k < length rows → IsShortRow (get_or rows k no_row)
     short_row k k_lt =
-        let k_n : k < length table.keys = omega (arith, k_lt, row_count) in
-        subst IsShortRow (sym (each_row-get (table_row axis table) (length table.keys) k no_row k_n))
+        let k_n : k < length dimension.keys = omega (arith, k_lt, row_count) in
+        subst IsShortRow (sym (each_row-get (text_row axis dimension) (length dimension.keys) k no_row k_n))
         (all_from_get (λ text. length text ≤ longest_text)
-        (each_row (λ column. text_up table column k) (length (lowers_of axis))) [] (λ i i_lt.
+        (each_row (λ column. text_up dimension column k) (length (lowers_of axis))) [] (λ i i_lt.
         let lt : i < length (lowers_of axis) =
-        omega (arith, i_lt, each_row-length (λ column. text_up table column k) (length (lowers_of axis))) in
+        omega (arith, i_lt, each_row-length (λ column. text_up dimension column k) (length (lowers_of axis))) in
         subst (λ text. length text ≤ longest_text)
-        (sym (each_row-get (λ column. text_up table column k) (length (lowers_of axis)) i [] lt))
-        (all_at (λ text. length text ≤ longest_text) (column_at table i).texts.texts _ []
-        ((good axis table are i lt).within k k_n) (short i lt))))
+        (sym (each_row-get (λ column. text_up dimension column k) (length (lowers_of axis)) i [] lt))
+        (all_at (λ text. length text ≤ longest_text) (column_at dimension i).texts.texts _ []
+        ((good axis dimension are i lt).within k k_n) (short i lt))))
 
     few_members : (i : ℕ) → i < length (lowers_of axis) → length (members_of (map (text_in i) rows)) ≤ most_members
     few_members i lt =
         omega (
           arith,
-          ap (λ l. length (members_of l)) (column_is axis table are i lt),
-          length-members (column_up axis table are i),
-          ap length (good axis table are i lt).firsts_are,
+          ap (λ l. length (members_of l)) (column_is axis dimension are i lt),
+          length-members (column_up axis dimension are i),
+          ap length (good axis dimension are i lt).firsts_are,
           (are.columns i lt).room,
         )
 
     above : (i j : ℕ) (lt : i < length (lowers_of axis)) → lower_of axis i ≡ Some j → (k : ℕ) → k < length rows
-        → text_in i (get_or rows k no_row) ≡ image axis table are i j (text_in j (get_or rows k no_row))
+        → text_in i (get_or rows k no_row) ≡ image axis dimension are i j (text_in j (get_or rows k no_row))
     above i j lt e k k_lt =
         let before = lower_below axis i j e in
         let j_lt : j < length (lowers_of axis) = omega (arith, before, lt) in
-        let columns : column_of i rows ≡ map (image axis table are i j) (column_of j rows) =
-        column_is axis table are i lt ∙ image_column axis table are i j lt e (good axis table are j j_lt)
-        ∙ ap (map (image axis table are i j)) (sym (column_is axis table are j j_lt)) in
+        let columns : column_of i rows ≡ map (image axis dimension are i j) (column_of j rows) =
+        column_is axis dimension are i lt ∙ image_column axis dimension are i j lt e (good axis dimension are j j_lt)
+        ∙ ap (map (image axis dimension are i j)) (sym (column_is axis dimension are j j_lt)) in
         sym (get_or-map (text_in i) rows k no_row [] k_lt) ∙ ap (λ l. get_or l k []) columns
-        ∙ get_or-map (image axis table are i j) (column_of j rows) k [] []
+        ∙ get_or-map (image axis dimension are i j) (column_of j rows) k [] []
         (omega (arith, k_lt, length-map rows (text_in j)))
-        ∙ ap (image axis table are i j) (get_or-map (text_in j) rows k no_row [] k_lt)
+        ∙ ap (image axis dimension are i j) (get_or-map (text_in j) rows k no_row [] k_lt)
 
     pub good_rows : AreGoodRows axis rows
     good_rows = record {
@@ -210,7 +211,8 @@ module _ (axis : Axis) (table : Table) (are : AreInOrder axis table) where
         keys_differ =
             pairs_unmap (λ key other. key ≢ other) (λ row. row.key) rows
             (subst KeysAreDistinct
-            (sym (each_row-map (λ row. row.key) (table_row axis table) (length table.keys) ∙ each_row-of table.keys 0))
+            (sym (each_row-map (λ row. row.key) (text_row axis dimension) (length dimension.keys)
+            ∙ each_row-of dimension.keys 0))
             distinct);
         none_reserved =
             all_from_get (λ row. AllByRecursion (λ text. text row ≢ codes "ALL") (texts_from 0 (lowers_of axis))) rows
@@ -222,10 +224,10 @@ module _ (axis : Axis) (table : Table) (are : AreInOrder axis table) where
         one_upper =
             all_links (λ link. EachPair (λ row other. link.0 row ≡ link.0 other → link.1 row ≡ link.1 other) rows)
             (lowers_of axis) (λ i j lt e.
-            pairs_of (λ row. text_in i row ≡ image axis table are i j (text_in j row))
+            pairs_of (λ row. text_in i row ≡ image axis dimension are i j (text_in j row))
             (λ row other. text_in j row ≡ text_in j other → text_in i row ≡ text_in i other) rows
-            (λ row other p q same. p ∙ ap (image axis table are i j) same ∙ sym q)
-            (all_from_get (λ row. text_in i row ≡ image axis table are i j (text_in j row)) rows no_row
+            (λ row other p q same. p ∙ ap (image axis dimension are i j) same ∙ sym q)
+            (all_from_get (λ row. text_in i row ≡ image axis dimension are i j (text_in j row)) rows no_row
             (above i j lt e)));
       };
       short = all_from_get IsShortRow rows no_row short_row;

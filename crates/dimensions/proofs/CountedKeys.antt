@@ -1,15 +1,10 @@
 -- The places of keys that count on.
-use Rattle.std.proofs.Common.{◌≡◌, sym, inl, inr, ap, ◌∙◌, ℕ, ◌+◌, ◌-◌, ◌<◌, ◌≤◌, ◌==◌, true, false, List, [], ◌∷◌}
-use Rattle.std.proofs.Common.{◌++◌, length, get_or, arith}
+use Rattle.std.proofs.Common.{◌≡◌, sym, ℕ, ◌+◌, ◌-◌, ◌<◌, ◌≤◌, ◌==◌, true, false, List, length, get_or, arith}
 use Rattle.std.specs.List.{position_or_len}
-use Rattle.std.proofs.Math.ListN.{get_or-append}
-use Rattle.std.proofs.Math.Seq.{get_or-append_seam}
-use Rattle.std.proofs.lemmas.Bool.{cases_lt}
 use Rattle.std.proofs.lemmas.Bool.Decides.{nat_tests}
-use Rattle.std.proofs.lemmas.List.{length-append}
 use Rattle.std.proofs.lemmas.List.Sums.{position_or_len_is}
 use Rattle.dimensions.specs.Coded.{KeysAreDistinct}
-use Rattle.dimensions.specs.KeyMaps.{CountOn}
+use Rattle.dimensions.specs.RowIndexes.{CountOn}
 use Rattle.dimensions.proofs.KeyLaws.{places_distinct}
 
 other : (a b : ℕ) → a < b → (a == b) ≡ false
@@ -45,15 +40,3 @@ counted_distinct first keys counted =
     let at : get_or keys row 0 ≡ first + row = counted row lt in
     sym (place_from first (get_or keys row 0) keys counted (omega (arith, at)) row (omega (arith, lt))
     (omega (arith, at)) (λ below. omega (arith, at))))
-
--- and they count on with the next key after them
-pub count_one_more : (first : ℕ) (keys : List ℕ) (key : ℕ) → CountOn first keys → key ≡ first + length keys
-    → CountOn first (keys ++ key ∷ [])
-count_one_more first keys key counted next = λ row lt.
-    elim (cases_lt row (length keys)) [
-      | inl here ↦ get_or-append keys (key ∷ []) 0 row here ∙ counted row here
-      | inr after ↦
-          let last : row ≡ length keys = omega (arith, length-append keys (key ∷ []), lt, after) in
-          ap (λ i. get_or (keys ++ key ∷ []) i 0) last ∙ get_or-append_seam keys key [] 0 ∙ next
-          ∙ ap (λ n. first + n) (sym last)
-    ]

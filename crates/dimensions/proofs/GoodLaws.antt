@@ -20,7 +20,7 @@ use Rattle.dimensions.proofs.ColumnLaws.{code_at-within}
 use Rattle.dimensions.proofs.MemberLaws.{length-members}
 use Rattle.dimensions.proofs.CodedTexts.{all_from_get}
 use Rattle.dimensions.proofs.CodedRules.{all_texts, firsts_placed, one_column}
-use Rattle.dimensions.proofs.TableCodes.{short_column, short_of}
+use Rattle.dimensions.proofs.DimensionCodes.{short_column, short_of}
 
 row_limit-few : (axis : Axis) → row_limit_of axis ≤ most_dimension_rows
 row_limit-few Customer = omega arith

@@ -1,14 +1,16 @@
 -- Keys that are all different, and the rows of keys that are read one by one.
-use Rattle.std.proofs.Common.{◌≡◌, ◌≢◌, ◌<◌, ◌+◌, ◌∙◌, ◌==◌, zero, suc, sym, ap, refl, arith, cond, not, ℕ, Bool, true}
-use Rattle.std.proofs.Common.{false, nat_eq, nat_lt, List, [], ◌∷◌, ◌++◌, length, get_or, take, position, unwrap_or}
-use Rattle.std.proofs.Common.{Option, Some, None, MatchOption, if◌then◌else◌}
+use Rattle.std.proofs.Common.{◌≡◌, ◌≢◌, ◌<◌, ◌+◌, ◌-◌, ◌∙◌, ◌==◌, zero, suc, sym, ap, refl, arith, cond, not, ℕ, Bool}
+use Rattle.std.proofs.Common.{true, false, nat_eq, List, [], ◌∷◌, ◌++◌, length, get_or, set, take, position, subst}
+use Rattle.std.proofs.Common.{Option, Some, None, unwrap_or, is_some, if◌then◌else◌}
 use Rattle.std.specs.List.{position_or_len}
 use Rattle.std.proofs.lemmas.Bool.{eqb-true, eq-eqb}
 use Rattle.std.proofs.lemmas.Grind.{common_steps}
 use Rattle.std.proofs.lemmas.List.{take_more}
 use Rattle.dimensions.specs.Coded.{KeysAreDistinct}
+use Rattle.dimensions.specs.RowIndexes.{AreRowIndexes, has_entry, row_entered}
 use Rattle.dimensions.proofs.CodedTexts.{all_from_get}
-use Rattle.dimensions.proofs.KeyMapLaws.{position-push_kept, position-push_new, position-push_same}
+use Rattle.dimensions.proofs.EntryLaws.{position-push_kept, position-push_new, position-push_same, put_at}
+use Rattle.dimensions.proofs.Keys.{place_or_len}
 use Rattle.dimensions.proofs.ShortLaws.{all_at}
 
 abbrev has : ℕ → ℕ → Bool
@@ -22,14 +24,6 @@ other_key one key differ = elim (has key one) as (λ b. has key one ≡ b → b 
   | true ↦ λ e. absurd (differ (eqb-true one key e))
   | false ↦ λ e. refl
 ] refl
-
--- ---- a place as an option
-
-pub some_of_place : {X : Type 0} (p : X → Bool) (xs : List X) (k : ℕ) → position_or_len p xs ≡ k → k < length xs
-    → position p xs ≡ Some k
-some_of_place p xs k is lt =
-    let test : nat_lt k (length xs) ≡ true = grind arith in
-    (λ i. cond (nat_lt (is i) (length xs)) (Some (is i)) None) ∙ ap (λ b. cond b (Some k) None) test
 
 -- ---- keys that differ
 
@@ -72,54 +66,73 @@ places_distinct (key ∷ keys) own = (
         sym (ap (λ b. cond (not b) (1 + position_or_len (has (get_or keys row 0)) keys) 0) apart) ∙ at in
         omega (arith, next)
 
--- the first row that was found is a row
-pub own_first : (o : Option ℕ) (row : ℕ) → unwrap_or o 4294967295 ≡ row → row < 4294967295 → o ≡ Some row
-own_first None row is lt = absurd (omega (arith, is, lt))
-own_first (Some first) row is lt = ap (λ n. Some n) is
+-- ---- the row indexes of keys, and of one more
 
--- ---- the rows of keys, and of one more
+-- a new key has the next one
+pub rows_pushed : (keys : List ℕ) (key place : ℕ) (rows after : ℕ → Option ℕ) → AreRowIndexes rows keys
+    → position (has key) keys ≡ None → place ≡ length keys
+    → ((other : ℕ) → after other ≡ (if nat_eq key other then Some place else rows other))
+    → AreRowIndexes after (keys ++ key ∷ [])
+rows_pushed keys key place rows after are none here put = λ other.
+    put other
+    ∙ elim (nat_eq key other) as (λ b. nat_eq key other ≡ b
+    → (if b then Some place else rows other) ≡ position (has other) (keys ++ key ∷ [])) [
+      | true ↦ λ e.
+          let same : key ≡ other = eqb-true key other e in
+          let absent : position (has other) keys ≡ None = ap (λ k. position (has k) keys) (sym same) ∙ none in
+          ap (λ n. Some n) here ∙ sym (position-push_new (has other) keys key absent e)
+      | false ↦ λ e. are other ∙ sym (position-push_same (has other) keys key e)
+    ] refl
+
+-- a key that occurred before keeps its own
+rows_kept : (keys : List ℕ) (key first : ℕ) (rows : ℕ → Option ℕ) → AreRowIndexes rows keys → rows key ≡ Some first
+    → AreRowIndexes rows (keys ++ key ∷ [])
+rows_kept keys key first rows are some = λ other.
+    elim (nat_eq key other) as (λ b. nat_eq key other ≡ b → rows other ≡ position (has other) (keys ++ key ∷ [])) [
+      | true ↦ λ e.
+          let there : rows other ≡ Some first = ap rows (sym (eqb-true key other e)) ∙ some in
+          there ∙ sym (position-push_kept (has other) keys key first (sym (are other) ∙ there))
+      | false ↦ λ e. are other ∙ sym (position-push_same (has other) keys key e)
+    ] refl
+
+none_of : (o : Option ℕ) → is_some o ≡ false → o ≡ None
+none_of None e = refl
+none_of (Some n) e = absurd cc
+
+some_of : (o : Option ℕ) → is_some o ≡ true → (n : ℕ) × (o ≡ Some n)
+some_of None e = absurd cc
+some_of (Some n) e = (n, refl)
 
 module _ (keys : List ℕ) (row : ℕ) (lt : row < length keys) (rows : ℕ → Option ℕ)
-    (are : (key : ℕ) → rows key ≡ position (has key) (take row keys)) where
+    (are : AreRowIndexes rows (take row keys)) where
   abbrev own : ℕ
   own = get_or keys row 0
 
-  front : take (row + 1) keys ≡ take row keys ++ own ∷ []
-  front = take_more keys row 0 lt
+  front : take row keys ++ own ∷ [] ≡ take (row + 1) keys
+  front = sym (take_more keys row 0 lt)
 
-  front_count : length (take row keys) ≡ row
-  front_count = let l = lt in grind (arith, common_steps)
+  pub new_row : (after : ℕ → Option ℕ) → is_some (rows own) ≡ false
+      → ((key : ℕ) → after key ≡ (if nat_eq own key then Some row else rows key))
+      → AreRowIndexes after (take (row + 1) keys)
+  new_row after none put =
+      let count : row ≡ length (take row keys) = let l = lt in grind (arith, common_steps) in
+      subst (AreRowIndexes after) front
+      (rows_pushed (take row keys) own row rows after are (sym (are own) ∙ none_of (rows own) none) count put)
 
-  other_row : (key : ℕ) → nat_eq own key ≡ false → rows key ≡ position (has key) (take (row + 1) keys)
-  other_row key apart = are key ∙ sym (position-push_same (has key) (take row keys) own apart)
-      ∙ ap (position (has key)) (sym front)
+  pub old_row : is_some (rows own) ≡ true → AreRowIndexes rows (take (row + 1) keys)
+  old_row some = let found = some_of (rows own) some in
+      subst (AreRowIndexes rows) front (rows_kept (take row keys) own found.0 rows are found.1)
 
-  pub new_row : (after : ℕ → Option ℕ) → rows own ≡ None
-      → ((key : ℕ) → after key ≡ (if nat_eq own key then Some row else rows key)) → (key : ℕ)
-      → after key ≡ position (has key) (take (row + 1) keys)
-  new_row after none put key = put key
-      ∙ elim (nat_eq own key) as
-      (λ b. nat_eq own key ≡ b → (if b then Some row else rows key) ≡ position (has key) (take (row + 1) keys)) [
-        | true ↦ λ e.
-            let same : own ≡ key = eqb-true own key e in
-            let absent : position (has key) (take row keys) ≡ None = sym (are key) ∙ ap rows (sym same) ∙ none in
-            ap (λ n. Some n) (sym front_count) ∙ sym (position-push_new (has key) (take row keys) own absent e)
-            ∙ ap (position (has key)) (sym front)
-        | false ↦ λ e. other_row key e
-      ] refl
+-- an entry is put for a new key
+pub entry_pushed : (keys : List ℕ) (key first : ℕ) (entries : List ℕ) → AreRowIndexes (row_entered first entries) keys
+    → position (has key) keys ≡ None → has_entry first entries key ≡ true
+    → AreRowIndexes (row_entered first (set entries (key - first) (length keys + 1))) (keys ++ key ∷ [])
+entry_pushed keys key first entries are none here =
+    rows_pushed keys key (length keys) (row_entered first entries)
+    (row_entered first (set entries (key - first) (length keys + 1))) are none refl
+    (put_at first entries key (length keys) here)
 
-  pub old_row : (first : ℕ) → rows own ≡ Some first → (key : ℕ) → rows key ≡ position (has key) (take (row + 1) keys)
-  old_row first some key =
-      elim (nat_eq own key) as (λ b. nat_eq own key ≡ b → rows key ≡ position (has key) (take (row + 1) keys)) [
-        | true ↦ λ e.
-            let same : own ≡ key = eqb-true own key e in
-            let there : rows key ≡ Some first = ap rows (sym same) ∙ some in
-            there ∙ sym (position-push_kept (has key) (take row keys) own first (sym (are key) ∙ there))
-            ∙ ap (position (has key)) (sym front)
-        | false ↦ λ e. other_row key e
-      ] refl
-
--- where no first key is kept, the map has the rows
-pub none_rows : (o : Option ℕ) (A : Type 0) (B : ℕ → Type 0) → o ≡ None → MatchOption o A B → A
-none_rows None A B e rows = rows
-none_rows (Some first) A B e rows = absurd cc
+-- a row index as found, or the number of keys
+pub row_or_len : (rows : ℕ → Option ℕ) (keys : List ℕ) (key : ℕ) → AreRowIndexes rows keys
+    → unwrap_or (rows key) (length keys) ≡ position_or_len (has key) keys
+row_or_len rows keys key are = ap (λ o. unwrap_or o (length keys)) (are key) ∙ place_or_len (has key) keys

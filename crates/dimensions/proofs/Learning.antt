@@ -41,14 +41,16 @@ kept old text seen =
       | false ↦ λ e. absurd (seen (place_after (bytes_eq text) old.texts e))
     ] refl
 
-pub enters_ok : (old mid : Column) (place : ℕ) (text : List ℕ) (code : ℕ) (result : Result Bool Fault) (codes : List ℕ)
+pub enters_ok : (old mid : Column) (ranks : List (List ℕ)) (place : ℕ) (text : List ℕ) (code : ℕ)
+    (result : Result Bool Fault) (codes : List ℕ)
     → mid.lower ≡ old.lower → mid.texts ≡ learned old.texts text → mid.codes ≡ old.codes
     → IfOk result (λ linked. PutsUpper mid.codes place code linked codes)
     → IfOk result
-    (λ fits. Enters old place text code fits (record { lower = mid.lower; texts = mid.texts; codes = codes }))
-enters_ok old mid place text code (Ok fits) codes lower texts same puts = record {
+    (λ fits. Enters old place text code fits
+    (record { lower = mid.lower; texts = mid.texts; codes = codes; ranks = ranks }))
+enters_ok old mid ranks place text code (Ok fits) codes lower texts same puts = record {
   lower = lower;
   texts = texts;
   codes = subst (λ l. PutsUpper l place code fits codes) same puts;
 }
-enters_ok old mid place text code (Err fault) codes lower texts same puts = puts
+enters_ok old mid ranks place text code (Err fault) codes lower texts same puts = puts

@@ -4,15 +4,18 @@ pub mod AttributeLaws
 pub mod BuildSteps
 pub mod CallerLemmas
 pub mod CodeLaws
+pub mod CodedDimensions
 pub mod CodedRules
-pub mod CodedTables
 pub mod CodedTexts
 pub mod ColumnLaws
 pub mod CountedKeys
+pub mod DimensionCodes
+pub mod DimensionLaws
+pub mod DimensionReads
+pub mod EntryLaws
 pub mod GoodLaws
 pub mod KeptLaws
 pub mod KeyLaws
-pub mod KeyMapLaws
 pub mod Keys
 pub mod Learning
 pub mod MadeLaws
@@ -23,6 +26,3 @@ pub mod Refusals
 pub mod ShapeLaws
 pub mod ShortLaws
 pub mod ShownLaws
-pub mod TableCodes
-pub mod TableLaws
-pub mod TableReads

@@ -1,4 +1,4 @@
--- Tables and dimensions that are made of rows by codes.
+-- Dimensions that are made of rows by codes.
 use Rattle.std.proofs.Common.{◌≡◌, ◌≢◌, ◌<◌, ◌≤◌, ◌+◌, ◌∙◌, ◌⊎◌, inl, inr, zero, suc, sym, ap, refl, subst, arith, ℕ}
 use Rattle.std.proofs.Common.{List, [], ◌∷◌, ◌++◌, map, length, get_or, codes, Some, None}
 use Rattle.std.specs.List.{AllByRecursion}
@@ -22,44 +22,37 @@ use Rattle.dimensions.specs.declared.coded.CodedDims.{CodedDims}
 use Rattle.dimensions.specs.declared.coded.CodedRows.{CodedRows}
 use Rattle.dimensions.specs.declared.column.Column.{Column}
 use Rattle.dimensions.specs.declared.dimension.Dimension.{Dimension}
-use Rattle.dimensions.specs.declared.table.Table.{Table}
 use Rattle.dimensions.specs.TextRows.{row_of_customer, row_of_supplier, row_of_part, row_of_date}
 use Rattle.dimensions.specs.Shapes.{lowers_of, lower_of, text_rules}
 use Rattle.dimensions.specs.ShortTexts.{IsShortRow}
+use Rattle.dimensions.specs.Columns.{column_of_coded}
 use Rattle.dimensions.specs.Coded.{no_coded, coded_at, AreCodedRows, AreGoodRows, ColumnsHaveTexts, place_total}
 use Rattle.dimensions.specs.Coded.{HaveProperColumns, KeysAreDistinct}
-use Rattle.dimensions.specs.Made.{IsTableOf, IsDimensionOf, IsRefusal, AreCodedDims, EncodeNone, EncodeNoRows}
-use Rattle.dimensions.specs.Tables.{no_column, column_at, columns_from, IsTable}
-use Rattle.dimensions.specs.Shown.{IsDimension, rows_on, rows_of_table, shown_customer, shown_supplier, shown_part}
+use Rattle.dimensions.specs.Made.{IsDimensionOf, IsRefusal, AreCodedDims, EncodeNone, EncodeNoRows}
+use Rattle.dimensions.specs.Dimensions.{no_column, column_at, columns_from, IsDimension, StoresRows}
+use Rattle.dimensions.specs.Shown.{rows_on, rows_of_dimension, shown_customer, shown_supplier, shown_part}
 use Rattle.dimensions.specs.Shown.{shown_date, shown_rows, AreDimensions}
 use Rattle.dimensions.proofs.Refusals.{rules_through}
 use Rattle.dimensions.proofs.ShapeLaws.{lower_below}
 use Rattle.dimensions.proofs.ShortLaws.{all_at, all_map, all_unmap}
 use Rattle.dimensions.proofs.CodedRules.{pairs_map, pairs_unmap, good_rows, proper_columns, distinct_keys}
-use Rattle.dimensions.proofs.CodedTables.{each_row-map, places_in, IsInOrder, AreInOrder, placed_firsts, placed_codes}
-use Rattle.dimensions.proofs.CodedTables.{places_are, table_is}
+use Rattle.dimensions.proofs.CodedDimensions.{each_row-map, places_in, IsInOrder, AreInOrder, placed_firsts}
+use Rattle.dimensions.proofs.CodedDimensions.{placed_codes}
+use Rattle.dimensions.proofs.CodedDimensions.{places_are, dimension_is}
 use Rattle.dimensions.proofs.ShownLaws.{are_dimensions}
 
--- ---- a table
+-- ---- a dimension
 
 columns_from-get : (axis : Axis) (n : ℕ) (coded : List CodedColumn) (i : ℕ) → i < length coded
-    → get_or (columns_from axis n coded) i no_column ≡ record {
-      lower = lower_of axis (n + i);
-      texts = (get_or coded i no_coded).texts;
-      codes = (get_or coded i no_coded).codes;
-    }
+    → get_or (columns_from axis n coded) i no_column
+    ≡ column_of_coded (lower_of axis (n + i)) (get_or coded i no_coded)
 columns_from-get axis n [] i lt = absurd (omega (arith, lt))
 columns_from-get axis n (column ∷ others) zero lt =
-    let here : n ≡ n + 0 = omega arith in
-    ap (λ k. record { lower = lower_of axis k; texts = column.texts; codes = column.codes }) here
+    let here : n ≡ n + 0 = omega arith in ap (λ k. column_of_coded (lower_of axis k) column) here
 columns_from-get axis n (column ∷ others) (suc i) lt =
     let next : suc n + i ≡ n + suc i = omega arith in
     columns_from-get axis (suc n) others i (omega (arith, lt))
-    ∙ ap (λ k. record {
-      lower = lower_of axis k;
-      texts = (get_or others i no_coded).texts;
-      codes = (get_or others i no_coded).codes;
-    }) next
+    ∙ ap (λ k. column_of_coded (lower_of axis k) (get_or others i no_coded)) next
 
 pub columns_from-length : (axis : Axis) (n : ℕ) (coded : List CodedColumn)
     → length (columns_from axis n coded) ≡ length coded
@@ -67,66 +60,66 @@ columns_from-length axis n [] = refl
 columns_from-length axis n (column ∷ others) = ap suc (columns_from-length axis (suc n) others)
 
 pub columns_from-push : (axis : Axis) (n : ℕ) (coded : List CodedColumn) (column : CodedColumn) (new : Column)
-    → new ≡ record { lower = lower_of axis (n + length coded); texts = column.texts; codes = column.codes }
+    → new ≡ column_of_coded (lower_of axis (n + length coded)) column
     → columns_from axis n coded ++ new ∷ [] ≡ columns_from axis n (coded ++ column ∷ [])
 columns_from-push axis n [] column new is =
     let here : n + 0 ≡ n = omega arith in
-    (λ i. is i ∷ []) ∙ ap (λ k. record { lower = lower_of axis k; texts = column.texts; codes = column.codes } ∷ [])
-    here
+    ap (λ c. c ∷ []) (is ∙ ap (λ k. column_of_coded (lower_of axis k) column) here)
 columns_from-push axis n (other ∷ coded) column new is =
     let next : n + suc (length coded) ≡ suc n + length coded = omega arith in
-    ap (λ l. record { lower = lower_of axis n; texts = other.texts; codes = other.codes } ∷ l)
-    (columns_from-push axis (suc n) coded column new
-    (is ∙ ap (λ k. record { lower = lower_of axis k; texts = column.texts; codes = column.codes }) next))
+    ap (λ l. column_of_coded (lower_of axis n) other ∷ l)
+    (columns_from-push axis (suc n) coded column new (is ∙ ap (λ k. column_of_coded (lower_of axis k) column) next))
+
+-- each column by codes has room for its texts
+pub few_coded : (columns : List CodedColumn) (k : ℕ) (column : CodedColumn) → ColumnsHaveTexts columns
+    → k < length columns → column ≡ get_or columns k column → length column.texts.texts ≤ most_members
+few_coded columns k column have lt is =
+    let proper = all_at (λ c. AreProper most_members c.texts.texts) columns k column lt have.proper in
+    omega (arith, proper.most, ap (λ c. length c.texts.texts) is)
 
 module _ (axis : Axis) (coded : CodedRows) (have : ColumnsHaveTexts coded.columns)
     (proper : HaveProperColumns axis coded)
     (distinct : KeysAreDistinct coded.keys)
-    (table : Table) (keys : table.keys ≡ coded.keys) (columns : table.columns.items ≡ columns_from axis 0 coded.columns)
+    (dimension : Dimension) (keys : dimension.keys ≡ coded.keys)
+    (columns : dimension.columns.items ≡ columns_from axis 0 coded.columns)
   where
-    column_is : (i : ℕ) → i < length (lowers_of axis) → column_at table i ≡ record {
-      lower = lower_of axis i;
-      texts = (coded_at coded i).texts;
-      codes = (coded_at coded i).codes;
-    }
+    column_is : (i : ℕ) → i < length (lowers_of axis)
+        → column_at dimension i ≡ column_of_coded (lower_of axis i) (coded_at coded i)
     column_is i lt =
         let same : 0 + i ≡ i = omega arith in
         ap (λ l. get_or l i no_column) columns
         ∙ columns_from-get axis 0 coded.columns i (omega (arith, lt, proper.count))
-        ∙ ap (λ k. record {
-          lower = lower_of axis k;
-          texts = (coded_at coded i).texts;
-          codes = (coded_at coded i).codes;
-        })
-        same
+        ∙ ap (λ k. column_of_coded (lower_of axis k) (coded_at coded i)) same
 
-    texts_is : (i : ℕ) → i < length (lowers_of axis) → (column_at table i).texts ≡ (coded_at coded i).texts
+    texts_is : (i : ℕ) → i < length (lowers_of axis) → (column_at dimension i).texts ≡ (coded_at coded i).texts
     texts_is i lt = ap (λ c. c.texts) (column_is i lt)
 
     places_same : (i : ℕ) → i < length (lowers_of axis)
-        → place_total coded (lower_of axis i) ≡ places_in table (lower_of axis i)
-    places_same i lt = elim (lower_of axis i) as (λ o. lower_of axis i ≡ o → place_total coded o ≡ places_in table o) [
-      | None ↦ λ e. ap length (sym keys)
-      | Some j ↦ λ e. let before = lower_below axis i j e in
-          ap (λ t. length t.texts) (sym (texts_is j (omega (arith, before, lt))))
-    ] refl
+        → place_total coded (lower_of axis i) ≡ places_in dimension (lower_of axis i)
+    places_same i lt =
+        elim (lower_of axis i) as (λ o. lower_of axis i ≡ o → place_total coded o ≡ places_in dimension o) [
+          | None ↦ λ e. ap length (sym keys)
+          | Some j ↦ λ e. let before = lower_below axis i j e in
+              ap (λ t. length t.texts) (sym (texts_is j (omega (arith, before, lt))))
+        ] refl
 
     proper_at : (i : ℕ) → i < length (lowers_of axis) → AreProper most_members (coded_at coded i).texts.texts
     proper_at i lt = all_at (λ column. AreProper most_members column.texts.texts) coded.columns i no_coded
         (omega (arith, lt, proper.count)) have.proper
 
-    in_order : AreInOrder axis table
+    in_order : AreInOrder axis dimension
     in_order = record {
       count = ap length columns ∙ columns_from-length axis 0 coded.columns ∙ proper.count;
       lowers = λ i lt. ap (λ c. c.lower) (column_is i lt);
-      columns = λ i lt. subst (λ c. IsInOrder (places_in table (lower_of axis i)) c) (sym (column_is i lt)) (record {
-        limit = all_at (λ column. column.texts.limit ≡ most_members) coded.columns i no_coded
-            (omega (arith, lt, proper.count)) have.limits;
-        once = (proper_at i lt).each_once;
-        room = (proper_at i lt).most;
-        places_are = (proper.columns i lt).places_are ∙ places_same i lt;
-        order = (proper.columns i lt).order;
-      });
+      columns = λ i lt. subst (λ c. IsInOrder (places_in dimension (lower_of axis i)) c) (sym (column_is i lt))
+          (record {
+            limit = all_at (λ column. column.texts.limit ≡ most_members) coded.columns i no_coded
+                (omega (arith, lt, proper.count)) have.limits;
+            once = (proper_at i lt).each_once;
+            room = (proper_at i lt).most;
+            places_are = (proper.columns i lt).places_are ∙ places_same i lt;
+            order = (proper.columns i lt).order;
+          });
     }
 
     short_all : (texts : List (List ℕ)) → AreShort texts → AllByRecursion (λ text. length text ≤ longest_text) texts
@@ -136,10 +129,20 @@ module _ (axis : Axis) (coded : CodedRows) (have : ColumnsHaveTexts coded.column
       short_all texts (All-tail (λ t. length t ≤ longest_text) text texts all),
     )
 
-    pub made : IsTableOf axis coded table
+    pub made : IsDimensionOf axis coded dimension
     made = record {
-      is = table_is axis table in_order;
-      good = good_rows axis table in_order
+      is = record {
+        stores = dimension_is axis dimension in_order;
+        ranks = λ i lt. subst (λ c. c.ranks ≡ c.texts.texts)
+            (sym (column_is i (omega (
+              arith,
+              lt,
+              ap length columns,
+              columns_from-length axis 0 coded.columns,
+              proper.count,
+            )))) refl;
+      };
+      good = good_rows axis dimension in_order
           (λ i lt. subst (λ t. AllByRecursion (λ text. length text ≤ longest_text) t.texts) (sym (texts_is i lt))
           (short_all (coded_at coded i).texts.texts (proper_at i lt).short))
           (λ i lt. subst (λ t. AllByRecursion (λ text. text ≢ codes "ALL") t.texts) (sym (texts_is i lt))
@@ -149,16 +152,16 @@ module _ (axis : Axis) (coded : CodedRows) (have : ColumnsHaveTexts coded.column
         keys_are = sym keys ∙ keys_of_rows;
         count = proper.count;
         columns = λ i lt. record {
-          texts_are = ap (λ t. t.texts) (sym (texts_is i lt)) ∙ sym (placed_firsts axis table in_order i lt)
-              ∙ ap firsts (sym (places_are axis table in_order i lt));
-          codes_are = ap (λ c. c.codes) (sym (column_is i lt)) ∙ sym (placed_codes axis table in_order i lt)
-              ∙ ap codes_of (sym (places_are axis table in_order i lt));
+          texts_are = ap (λ t. t.texts) (sym (texts_is i lt)) ∙ sym (placed_firsts axis dimension in_order i lt)
+              ∙ ap firsts (sym (places_are axis dimension in_order i lt));
+          codes_are = ap (λ c. c.codes) (sym (column_is i lt)) ∙ sym (placed_codes axis dimension in_order i lt)
+              ∙ ap codes_of (sym (places_are axis dimension in_order i lt));
         };
       };
     }
       where
-        keys_of_rows : table.keys ≡ map (λ row. row.key) (rows_of_table axis table)
-        keys_of_rows = (table_is axis table in_order).keys
+        keys_of_rows : dimension.keys ≡ map (λ row. row.key) (rows_of_dimension axis dimension)
+        keys_of_rows = (dimension_is axis dimension in_order).keys
 
 -- codes that break a rule represent no rows
 pub refused_columns : (axis : Axis) (coded : CodedRows) → (HaveProperColumns axis coded → ⊥) → EncodeNone axis coded
@@ -315,21 +318,21 @@ module _ (law : ValidRowsKeepTheRules) (coded : CodedDims) (fault : Fault) where
 
 -- there are no more days than an attribute may have members
 pub few_coded_days : (coded : CodedRows) (dates : Dimension) → IsDimensionOf Date coded dates → (keys : List ℕ)
-    → keys ≡ dates.table.keys → length keys ≤ most_members
+    → keys ≡ dates.keys → length keys ≤ most_members
 few_coded_days coded dates made keys are =
     omega (
       arith,
       ap length are,
-      ap length made.is.table.keys,
-      length-map (rows_of_table Date dates.table)
+      ap length made.is.stores.keys,
+      length-map (rows_of_dimension Date dates)
           (λ row. row.key),
       made.good.keep.few_rows,
     )
 
 -- the days by their keys
-pub days_of : (rows : List DateRow) (table : Table) → IsTable Date (map row_of_date rows) table
-    → map decimal table.keys ≡ map (λ row. decimal row.key) rows
-days_of rows table is = ap (map decimal) is.keys ∙ days rows
+pub days_of : (rows : List DateRow) (dimension : Dimension) → StoresRows Date (map row_of_date rows) dimension
+    → map decimal dimension.keys ≡ map (λ row. decimal row.key) rows
+days_of rows dimension is = ap (map decimal) is.keys ∙ days rows
   where
     days : (rows : List DateRow) → map decimal (map (λ row. row.key) (map row_of_date rows))
         ≡ map (λ row. decimal row.key) rows
@@ -338,22 +341,22 @@ days_of rows table is = ap (map decimal) is.keys ∙ days rows
 
 module _ (customers suppliers parts dates : Dimension) where
   pub on_customers : rows_on (shown_rows customers suppliers parts dates) Customer
-      ≡ rows_of_table Customer customers.table
+      ≡ rows_of_dimension Customer customers
   unfolding shown_rows
-  on_customers = each_row-map row_of_customer (shown_customer customers.table) (length customers.table.keys)
+  on_customers = each_row-map row_of_customer (shown_customer customers) (length customers.keys)
 
   pub on_suppliers : rows_on (shown_rows customers suppliers parts dates) Supplier
-      ≡ rows_of_table Supplier suppliers.table
+      ≡ rows_of_dimension Supplier suppliers
   unfolding shown_rows
-  on_suppliers = each_row-map row_of_supplier (shown_supplier suppliers.table) (length suppliers.table.keys)
+  on_suppliers = each_row-map row_of_supplier (shown_supplier suppliers) (length suppliers.keys)
 
-  pub on_parts : rows_on (shown_rows customers suppliers parts dates) Part ≡ rows_of_table Part parts.table
+  pub on_parts : rows_on (shown_rows customers suppliers parts dates) Part ≡ rows_of_dimension Part parts
   unfolding shown_rows
-  on_parts = each_row-map row_of_part (shown_part parts.table) (length parts.table.keys)
+  on_parts = each_row-map row_of_part (shown_part parts) (length parts.keys)
 
-  pub on_dates : rows_on (shown_rows customers suppliers parts dates) Date ≡ rows_of_table Date dates.table
+  pub on_dates : rows_on (shown_rows customers suppliers parts dates) Date ≡ rows_of_dimension Date dates
   unfolding shown_rows
-  on_dates = each_row-map row_of_date (shown_date dates.table) (length dates.table.keys)
+  on_dates = each_row-map row_of_date (shown_date dates) (length dates.keys)
 
   module _ (coded : CodedDims) (c : IsDimensionOf Customer coded.customers customers)
       (s : IsDimensionOf Supplier coded.suppliers suppliers)
@@ -381,7 +384,7 @@ module _ (customers suppliers parts dates : Dimension) where
         (subst (AreGoodRows Supplier) (sym on_suppliers) s.good)
         (subst (AreGoodRows Part) (sym on_parts) p.good) (subst (AreGoodRows Date) (sym on_dates) d.good)
 
-    pub dimensions_shown : (days : List (List ℕ)) → days ≡ map decimal dates.table.keys → IsValid all
+    pub dimensions_shown : (days : List (List ℕ)) → days ≡ map decimal dates.keys → IsValid all
         → AreDimensions all customers suppliers parts dates days
     dimensions_shown days is valid =
         let date : IsDimension Date (rows_on all Date) dates =
@@ -390,4 +393,4 @@ module _ (customers suppliers parts dates : Dimension) where
         (subst (λ l. IsDimension Customer l customers) (sym on_customers) c.is)
         (subst (λ l. IsDimension Supplier l suppliers) (sym on_suppliers) s.is)
         (subst (λ l. IsDimension Part l parts) (sym on_parts) p.is) date
-        days (is ∙ days_of all.dates dates.table date.table) valid short_shown
+        days (is ∙ days_of all.dates dates date.stores) valid short_shown

@@ -16,14 +16,13 @@ use Rattle.cube_model.specs.declared.rows.DimRows.{DimRows}
 use Rattle.cube_model.specs.Causes.{first_cause, cause_if}
 use Rattle.cube_model.specs.Validity.{HaveShortTexts, customer_rules, supplier_rules, part_rules, date_rules}
 use Rattle.cube_model.specs.Validity.{rows_cause, dimension_cause, invalid_cause, IsValid}
-use Rattle.dimensions.specs.declared.table.Table.{Table}
 use Rattle.dimensions.specs.declared.dimension.Dimension.{Dimension}
 use Rattle.dimensions.specs.TextRows.{TextRow, text_in, column_of, row_of_customer, row_of_supplier, row_of_part}
 use Rattle.dimensions.specs.TextRows.{row_of_date}
 use Rattle.dimensions.specs.Shapes.{lowers_of, lower_of, text_rules}
 use Rattle.dimensions.specs.Columns.{IsColumn, code_at}
-use Rattle.dimensions.specs.Tables.{column_at, IsTable}
-use Rattle.dimensions.specs.Shown.{IsDimension, rows_on, code_up, text_up, each_row, shown_customer, shown_supplier}
+use Rattle.dimensions.specs.Dimensions.{column_at, IsDimension, StoresRows}
+use Rattle.dimensions.specs.Shown.{rows_on, code_up, text_up, each_row, shown_customer, shown_supplier}
 use Rattle.dimensions.specs.Shown.{shown_part, shown_date, shown_rows, AreDimensions}
 use Rattle.dimensions.proofs.ColumnLaws.{code_at-text}
 use Rattle.dimensions.proofs.ShapeLaws.{lower_below}
@@ -32,40 +31,41 @@ use Rattle.dimensions.proofs.Refusals.{dimension_cause-through}
 abbrev no_row : TextRow
 no_row = record { key = 0; texts = [] }
 
--- ---- one table
+-- ---- one dimension
 
-module _ (axis : Axis) (rows : List TextRow) (table : Table) (is : IsTable axis rows table) (row : ℕ)
+module _ (axis : Axis) (rows : List TextRow) (dimension : Dimension) (is : StoresRows axis rows dimension) (row : ℕ)
     (lt : row < length rows) where
   in_column : (column : ℕ) → row < length (column_of column rows)
   in_column column = omega (arith, lt, length-map rows (text_in column))
 
   code_up_is : (steps column : ℕ) → column < steps → column < length (lowers_of axis)
-      → code_up steps table column row ≡ code_at (column_of column rows) row
+      → code_up steps dimension column row ≡ code_at (column_of column rows) row
   code_up_is zero column below column_lt = absurd (omega (arith, below))
   code_up_is (suc steps) column below column_lt =
       let own = is.columns column column_lt in
-      ap (λ o. get_or (column_at table column).codes
-      (unwrap_or (option_map (λ lower. code_up steps table lower row) o) row) 0) (is.lowers column column_lt)
+      ap (λ o. get_or (column_at dimension column).codes
+      (unwrap_or (option_map (λ lower. code_up steps dimension lower row) o) row) 0) (is.lowers column column_lt)
       ∙ elim (lower_of axis column) as (λ o. lower_of axis column ≡ o
-      → IsColumn (column_of column rows) (option_map (λ j. column_of j rows) o) (column_at table column)
-      → get_or (column_at table column).codes (unwrap_or (option_map (λ lower. code_up steps table lower row) o) row) 0
+      → IsColumn (column_of column rows) (option_map (λ j. column_of j rows) o) (column_at dimension column)
+      → get_or (column_at dimension column).codes
+      (unwrap_or (option_map (λ lower. code_up steps dimension lower row) o) row) 0
       ≡ code_at (column_of column rows) row) [
         | None ↦ λ e col. col.reads row (in_column column)
         | Some j ↦ λ e col.
             let before = lower_below axis column j e in
-            ap (λ n. get_or (column_at table column).codes n 0)
+            ap (λ n. get_or (column_at dimension column).codes n 0)
             (code_up_is steps j (omega (arith, before, below)) (omega (arith, before, column_lt)))
             ∙ col.reads row (in_column column)
       ] refl own
 
   pub text_up_is : (column : ℕ) → column < 4 → column < length (lowers_of axis)
-      → text_up table column row ≡ text_in column (get_or rows row no_row)
+      → text_up dimension column row ≡ text_in column (get_or rows row no_row)
   text_up_is column few column_lt =
-      ap (λ n. get_or (column_at table column).texts.texts n []) (code_up_is 4 column few column_lt)
+      ap (λ n. get_or (column_at dimension column).texts.texts n []) (code_up_is 4 column few column_lt)
       ∙ ap (λ l. get_or l (code_at (column_of column rows) row) []) (is.columns column column_lt).texts_are
       ∙ code_at-text (column_of column rows) row (in_column column) ∙ get_or-map (text_in column) rows row no_row [] lt
 
-  pub key_is : get_or table.keys row 0 ≡ (get_or rows row no_row).key
+  pub key_is : get_or dimension.keys row 0 ≡ (get_or rows row no_row).key
   key_is = ap (λ l. get_or l row 0) is.keys ∙ get_or-map (λ r. r.key) rows row no_row 0 lt
 
 each_row_is : {Row : Type 0} (rows : List Row) (row : ℕ → Row)
@@ -74,80 +74,90 @@ each_row_is [] row same = refl
 each_row_is (first ∷ rows) row same =
     λ i. same 0 (omega arith) i ∷ each_row_is rows (λ k. row (suc k)) (λ k lt. same (suc k) (omega (arith, lt))) i
 
-keys_count : (axis : Axis) (rows : List TextRow) (table : Table) → IsTable axis rows table
-    → length table.keys ≡ length rows
-keys_count axis rows table is = ap length is.keys ∙ length-map rows (λ r. r.key)
+keys_count : (axis : Axis) (rows : List TextRow) (dimension : Dimension) → StoresRows axis rows dimension
+    → length dimension.keys ≡ length rows
+keys_count axis rows dimension is = ap length is.keys ∙ length-map rows (λ r. r.key)
 
-customers_shown : (rows : List CustomerRow) (table : Table) → IsTable Customer (map row_of_customer rows) table
-    → each_row (shown_customer table) (length table.keys) ≡ rows
-customers_shown rows table is =
-    ap (each_row (shown_customer table)) (keys_count Customer (map row_of_customer rows) table is
+customers_shown : (rows : List CustomerRow) (dimension : Dimension)
+    → StoresRows Customer (map row_of_customer rows) dimension
+    → each_row (shown_customer dimension) (length dimension.keys) ≡ rows
+customers_shown rows dimension is =
+    ap (each_row (shown_customer dimension)) (keys_count Customer (map row_of_customer rows) dimension is
     ∙ length-map rows row_of_customer)
-    ∙ each_row_is rows (shown_customer table) (λ k lt.
+    ∙ each_row_is rows (shown_customer dimension) (λ k lt.
     let lt' : k < length (map row_of_customer rows) = omega (arith, lt, length-map rows row_of_customer) in
-    let at = get_or-map row_of_customer rows k (shown_customer table k) no_row lt in
+    let at = get_or-map row_of_customer rows k (shown_customer dimension k) no_row lt in
     λ i. record {
-      key = (key_is Customer (map row_of_customer rows) table is k lt' ∙ ap (λ r. r.key) at) i;
-      city = (text_up_is Customer (map row_of_customer rows) table is k lt' 0 (omega arith) (omega arith)
+      key = (key_is Customer (map row_of_customer rows) dimension is k lt' ∙ ap (λ r. r.key) at) i;
+      city = (text_up_is Customer (map row_of_customer rows) dimension is k lt' 0 (omega arith) (omega arith)
           ∙ ap (text_in 0) at) i;
-      nation = (text_up_is Customer (map row_of_customer rows) table is k lt' 1 (omega arith) (omega arith)
+      nation = (text_up_is Customer (map row_of_customer rows) dimension is k lt' 1 (omega arith) (omega arith)
           ∙ ap (text_in 1) at) i;
-      region = (text_up_is Customer (map row_of_customer rows) table is k lt' 2 (omega arith) (omega arith)
+      region = (text_up_is Customer (map row_of_customer rows) dimension is k lt' 2 (omega arith) (omega arith)
           ∙ ap (text_in 2) at) i;
     })
 
-suppliers_shown : (rows : List SupplierRow) (table : Table) → IsTable Supplier (map row_of_supplier rows) table
-    → each_row (shown_supplier table) (length table.keys) ≡ rows
-suppliers_shown rows table is =
-    ap (each_row (shown_supplier table)) (keys_count Supplier (map row_of_supplier rows) table is
+suppliers_shown : (rows : List SupplierRow) (dimension : Dimension)
+    → StoresRows Supplier (map row_of_supplier rows) dimension
+    → each_row (shown_supplier dimension) (length dimension.keys) ≡ rows
+suppliers_shown rows dimension is =
+    ap (each_row (shown_supplier dimension)) (keys_count Supplier (map row_of_supplier rows) dimension is
     ∙ length-map rows row_of_supplier)
-    ∙ each_row_is rows (shown_supplier table) (λ k lt.
+    ∙ each_row_is rows (shown_supplier dimension) (λ k lt.
     let lt' : k < length (map row_of_supplier rows) = omega (arith, lt, length-map rows row_of_supplier) in
-    let at = get_or-map row_of_supplier rows k (shown_supplier table k) no_row lt in
+    let at = get_or-map row_of_supplier rows k (shown_supplier dimension k) no_row lt in
     λ i. record {
-      key = (key_is Supplier (map row_of_supplier rows) table is k lt' ∙ ap (λ r. r.key) at) i;
-      city = (text_up_is Supplier (map row_of_supplier rows) table is k lt' 0 (omega arith) (omega arith)
+      key = (key_is Supplier (map row_of_supplier rows) dimension is k lt' ∙ ap (λ r. r.key) at) i;
+      city = (text_up_is Supplier (map row_of_supplier rows) dimension is k lt' 0 (omega arith) (omega arith)
           ∙ ap (text_in 0) at) i;
-      nation = (text_up_is Supplier (map row_of_supplier rows) table is k lt' 1 (omega arith) (omega arith)
+      nation = (text_up_is Supplier (map row_of_supplier rows) dimension is k lt' 1 (omega arith) (omega arith)
           ∙ ap (text_in 1) at) i;
-      region = (text_up_is Supplier (map row_of_supplier rows) table is k lt' 2 (omega arith) (omega arith)
+      region = (text_up_is Supplier (map row_of_supplier rows) dimension is k lt' 2 (omega arith) (omega arith)
           ∙ ap (text_in 2) at) i;
     })
 
-parts_shown : (rows : List PartRow) (table : Table) → IsTable Part (map row_of_part rows) table
-    → each_row (shown_part table) (length table.keys) ≡ rows
-parts_shown rows table is =
-    ap (each_row (shown_part table)) (keys_count Part (map row_of_part rows) table is ∙ length-map rows row_of_part)
-    ∙ each_row_is rows (shown_part table) (λ k lt.
+parts_shown : (rows : List PartRow) (dimension : Dimension) → StoresRows Part (map row_of_part rows) dimension
+    → each_row (shown_part dimension) (length dimension.keys) ≡ rows
+parts_shown rows dimension is =
+    ap (each_row (shown_part dimension)) (keys_count Part (map row_of_part rows) dimension is
+    ∙ length-map rows row_of_part)
+    ∙ each_row_is rows (shown_part dimension) (λ k lt.
     let lt' : k < length (map row_of_part rows) = omega (arith, lt, length-map rows row_of_part) in
-    let at = get_or-map row_of_part rows k (shown_part table k) no_row lt in
+    let at = get_or-map row_of_part rows k (shown_part dimension k) no_row lt in
     λ i. record {
-      key = (key_is Part (map row_of_part rows) table is k lt' ∙ ap (λ r. r.key) at) i;
-      brand1 = (text_up_is Part (map row_of_part rows) table is k lt' 0 (omega arith) (omega arith) ∙ ap (text_in 0) at)
+      key = (key_is Part (map row_of_part rows) dimension is k lt' ∙ ap (λ r. r.key) at) i;
+      brand1 = (text_up_is Part (map row_of_part rows) dimension is k lt' 0 (omega arith) (omega arith)
+          ∙ ap (text_in 0) at)
           i;
-      category = (text_up_is Part (map row_of_part rows) table is k lt' 1 (omega arith) (omega arith)
+      category = (text_up_is Part (map row_of_part rows) dimension is k lt' 1 (omega arith) (omega arith)
           ∙ ap (text_in 1) at) i;
-      mfgr = (text_up_is Part (map row_of_part rows) table is k lt' 2 (omega arith) (omega arith) ∙ ap (text_in 2) at)
+      mfgr = (text_up_is Part (map row_of_part rows) dimension is k lt' 2 (omega arith) (omega arith)
+          ∙ ap (text_in 2) at)
           i;
     })
 
-dates_shown : (rows : List DateRow) (table : Table) → IsTable Date (map row_of_date rows) table
-    → each_row (shown_date table) (length table.keys) ≡ rows
-dates_shown rows table is =
-    ap (each_row (shown_date table)) (keys_count Date (map row_of_date rows) table is ∙ length-map rows row_of_date)
-    ∙ each_row_is rows (shown_date table) (λ k lt.
+dates_shown : (rows : List DateRow) (dimension : Dimension) → StoresRows Date (map row_of_date rows) dimension
+    → each_row (shown_date dimension) (length dimension.keys) ≡ rows
+dates_shown rows dimension is =
+    ap (each_row (shown_date dimension)) (keys_count Date (map row_of_date rows) dimension is
+    ∙ length-map rows row_of_date)
+    ∙ each_row_is rows (shown_date dimension) (λ k lt.
     let lt' : k < length (map row_of_date rows) = omega (arith, lt, length-map rows row_of_date) in
-    let at = get_or-map row_of_date rows k (shown_date table k) no_row lt in
+    let at = get_or-map row_of_date rows k (shown_date dimension k) no_row lt in
     λ i. record {
-      key = (key_is Date (map row_of_date rows) table is k lt' ∙ ap (λ r. r.key) at) i;
-      year = (text_up_is Date (map row_of_date rows) table is k lt' 1 (omega arith) (omega arith) ∙ ap (text_in 1) at)
+      key = (key_is Date (map row_of_date rows) dimension is k lt' ∙ ap (λ r. r.key) at) i;
+      year = (text_up_is Date (map row_of_date rows) dimension is k lt' 1 (omega arith) (omega arith)
+          ∙ ap (text_in 1) at)
           i;
       yearmonthnum =
-          (text_up_is Date (map row_of_date rows) table is k lt' 0 (omega arith) (omega arith) ∙ ap (text_in 0) at) i;
+          (text_up_is Date (map row_of_date rows) dimension is k lt' 0 (omega arith) (omega arith) ∙ ap (text_in 0) at)
+          i;
       yearmonth =
-          (text_up_is Date (map row_of_date rows) table is k lt' 2 (omega arith) (omega arith) ∙ ap (text_in 2) at) i;
+          (text_up_is Date (map row_of_date rows) dimension is k lt' 2 (omega arith) (omega arith) ∙ ap (text_in 2) at)
+          i;
       weeknuminyear =
-          (text_up_is Date (map row_of_date rows) table is k lt' 3 (omega arith) (omega arith) ∙ ap (text_in 3) at) i;
+          (text_up_is Date (map row_of_date rows) dimension is k lt' 3 (omega arith) (omega arith) ∙ ap (text_in 3) at)
+          i;
     })
 
 -- ---- the causes
@@ -240,10 +250,10 @@ module _ (rows : DimRows) (customers suppliers parts dates : Dimension)
   pub shown_is : shown_rows customers suppliers parts dates ≡ rows
   unfolding shown_rows
   shown_is = λ i. record {
-    customers = customers_shown rows.customers customers.table c.table i;
-    suppliers = suppliers_shown rows.suppliers suppliers.table s.table i;
-    parts = parts_shown rows.parts parts.table p.table i;
-    dates = dates_shown rows.dates dates.table d.table i;
+    customers = customers_shown rows.customers customers c.stores i;
+    suppliers = suppliers_shown rows.suppliers suppliers s.stores i;
+    parts = parts_shown rows.parts parts p.stores i;
+    dates = dates_shown rows.dates dates d.stores i;
   }
 
   pub are_dimensions : (days : List (List ℕ)) → days ≡ map (λ row. decimal row.key) rows.dates → IsValid rows

@@ -7,6 +7,7 @@ use Rattle.std.specs.Str.{bytes_eq}
 use Rattle.cube_model.specs.Limits.{most_members}
 use Rattle.dictionary.specs.Dictionary.{Texts, firsts, with_text}
 use Rattle.hierarchy.specs.Hierarchy.{PutsUpper}
+use Rattle.dimensions.specs.declared.coded.CodedColumn.{CodedColumn}
 use Rattle.dimensions.specs.declared.column.Column.{Column}
 
 -- the code of the text at a row: its place in the order of first use
@@ -48,3 +49,15 @@ pub record Enters (old : Column) (place : ℕ) (text : List ℕ) (code : ℕ) (f
   pub lower : new.lower ≡ old.lower
   pub texts : new.texts ≡ learned old.texts text
   pub codes : PutsUpper old.codes place code fits new.codes
+
+-- a column by codes, with the ranks of its texts
+abbrev pub column_of_coded : Option ℕ → CodedColumn → Column
+column_of_coded lower coded =
+    record { lower = lower; texts = coded.texts; codes = coded.codes; ranks = coded.texts.texts }
+
+-- the same column with the ranks of its texts, and with none
+abbrev pub ranked : Column → Column
+ranked column = record column { ranks = column.texts.texts }
+
+abbrev pub unranked : Column → Column
+unranked column = record column { ranks = [] }

@@ -1,13 +1,12 @@
 pub mod Added
 pub mod Coded
 pub mod Columns
-pub mod Entries
+pub mod Dimensions
 pub mod KeptCodes
-pub mod KeyMaps
 pub mod Made
 pub mod Ranked
+pub mod RowIndexes
 pub mod Shapes
 pub mod ShortTexts
 pub mod Shown
-pub mod Tables
 pub mod TextRows

@@ -9,11 +9,10 @@ use Rattle.cube_model.specs.Validity.{HaveShortTexts, IsValid}
 use Rattle.dimensions.specs.declared.coded.CodedDims.{CodedDims}
 use Rattle.dimensions.specs.declared.coded.CodedRows.{CodedRows}
 use Rattle.dimensions.specs.declared.dimension.Dimension.{Dimension}
-use Rattle.dimensions.specs.declared.table.Table.{Table}
 use Rattle.dimensions.specs.TextRows.{TextRow}
 use Rattle.dimensions.specs.Coded.{AreCodedRows, AreGoodRows, ColumnsHaveTexts}
-use Rattle.dimensions.specs.Shown.{IsDimension, rows_on, rows_of_table}
-use Rattle.dimensions.specs.Tables.{IsTable}
+use Rattle.dimensions.specs.Dimensions.{IsDimension}
+use Rattle.dimensions.specs.Shown.{rows_on, rows_of_dimension}
 
 -- no rows that keep the rules are those of the codes
 abbrev pub EncodeNone : Axis → CodedRows → Type 0
@@ -23,21 +22,11 @@ EncodeNone axis coded = (rows : List TextRow) → AreGoodRows axis rows → ¬ A
 abbrev pub IsRefusal : Axis → CodedRows → Fault → Type 0
 IsRefusal axis coded fault = (fault ≡ Memory) ⊎ ((fault ≡ BadLayout) × EncodeNone axis coded)
 
--- a table is that of rows by codes, which keep the rules
-pub record IsTableOf (axis : Axis) (coded : CodedRows) (table : Table) : Type 0 where
-  pub is : IsTable axis (rows_of_table axis table) table
-  pub good : AreGoodRows axis (rows_of_table axis table)
-  pub codes_are : AreCodedRows axis (rows_of_table axis table) coded
-
--- a table of rows by codes, or why they are refused
-abbrev pub MakesTable : Axis → CodedRows → Result Table Fault → Type 0
-MakesTable axis coded result = MatchResult result (IsTableOf axis coded) (IsRefusal axis coded)
-
 -- a dimension is that of rows by codes, which keep the rules
 pub record IsDimensionOf (axis : Axis) (coded : CodedRows) (dimension : Dimension) : Type 0 where
-  pub is : IsDimension axis (rows_of_table axis dimension.table) dimension
-  pub good : AreGoodRows axis (rows_of_table axis dimension.table)
-  pub codes_are : AreCodedRows axis (rows_of_table axis dimension.table) coded
+  pub is : IsDimension axis (rows_of_dimension axis dimension) dimension
+  pub good : AreGoodRows axis (rows_of_dimension axis dimension)
+  pub codes_are : AreCodedRows axis (rows_of_dimension axis dimension) coded
 
 -- a dimension of rows by codes, or why they are refused
 abbrev pub MakesDimension : Axis → CodedRows → Result Dimension Fault → Type 0

@@ -3,7 +3,6 @@ ghost use Rattle.std.specs.Prelude.{◌≡◌, ◌≢◌, ◌<◌, ◌↔◌, le
 ghost use Rattle.std.specs.List.{AllByRecursion, list_all};
 ghost use Rattle.dictionary.specs.Columns.{AreCodes};
 
-use crate::members::is_all;
 use crate::shape::{column_count, lower_column, row_limit};
 use cube_model::{Axis, Items};
 use dictionary::Dictionary;

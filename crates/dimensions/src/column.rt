@@ -1,21 +1,25 @@
 //! A column of texts by codes.
-ghost use Rattle.std.specs.Prelude.{◌≡◌, ◌<◌, [], length, MatchOption, slice_index_or, IfOk, IfErr};
+ghost use Rattle.std.specs.Prelude.{◌≡◌, ◌<◌, ◌≤◌, [], length, MatchOption, slice_index_or, IfOk, OnOk, IfErr};
 ghost use Rattle.cube_model.specs.Limits.{most_members};
 
 use crate::coded::CodedColumn;
+use crate::ranks::Ranks;
 use cube_model::Fault;
 use cube_model::limits::MOST_MEMBERS;
 use dictionary::Dictionary;
 use hierarchy::Hierarchy;
 use std::alloc::Global;
 
-/// The texts of a column in the order of their first use, and the code of the text at each place.
+/// The texts of a column in the order of their first use, the code of the text at each place, and the rank of each
+/// text.
 ///
-/// The places are the rows, or the codes of a lower column whose texts determine those of this one.
+/// The places are the rows, or the codes of a lower column whose texts determine those of this one. The ranks are made
+/// once, after all rows are there.
 pub struct Column {
     lower: Option<usize>,
     texts: Dictionary,
     codes: Hierarchy,
+    ranks: Ranks,
 }
 
 // Written out, so that a proof has one call to follow where a column is let go.
@@ -25,43 +29,52 @@ impl Drop for Column {
             lower: _,
             texts: _,
             codes: _,
+            ranks: _,
         } = self;
     }
 }
 
 impl Column {
-    ghost use Rattle.dimensions.specs.Columns.{HasCode, HasNoCodeLeft, Enters};
+    ghost use Rattle.dimensions.specs.Columns.{HasCode, HasNoCodeLeft, Enters, column_of_coded, ranked, unranked};
 
     /// The column with no text, above the rows or above a lower column.
     pub fn new(alloc: Global, lower: Option<usize>) -> Column
         ensures lower { result.lower ≡ lower }
         ensures texts { result.texts ≡ record { texts = []; limit = most_members } }
         ensures codes { result.codes ≡ [] }
+        ensures ranks { result.ranks ≡ [] }
     {
         Column {
             lower,
             texts: Dictionary::new(alloc, MOST_MEMBERS as u32),
             codes: Hierarchy::new(alloc),
+            ranks: Ranks::none(alloc),
         }
     }
 
-    /// A column by codes, above the rows or above a lower column.
-    pub fn of_coded(lower: Option<usize>, coded: CodedColumn) -> Column
-        ensures lower { result.lower ≡ lower }
-        ensures texts { result.texts ≡ coded.texts }
-        ensures codes { result.codes ≡ coded.codes }
+    /// A column by codes, above the rows or above a lower column. It can only fail when out of memory.
+    pub fn of_coded(
+        alloc: Global,
+        lower: Option<usize>,
+        coded: CodedColumn,
+    ) -> Result<Column, Fault>
+        requires { length coded.texts.texts ≤ most_members }
+        ensures ok { IfOk result (λ column. column ≡ column_of_coded lower coded) }
+        ensures memory { IfErr result (λ fault. fault ≡ Fault.Memory) }
     {
         let CodedColumn { texts, codes } = coded;
-        Column {
+        let ranks = Ranks::of_dictionary(alloc, &texts)?;
+        Ok(Column {
             lower,
             texts,
             codes: Hierarchy::of(codes.into_vec()),
-        }
+            ranks,
+        })
     }
 
-    /// The same column again. It can only fail when out of memory.
+    /// The same column again, with no ranks. It can only fail when out of memory.
     pub fn copied(&self, alloc: Global) -> Result<Column, Fault>
-        ensures ok { IfOk result (λ copy. copy ≡ self.now) }
+        ensures ok { IfOk result (λ copy. copy ≡ unranked self.now) }
         ensures memory { IfErr result (λ fault. fault ≡ Fault.Memory) }
     {
         let texts = self.texts.copied(alloc)?;
@@ -70,7 +83,18 @@ impl Column {
             lower: self.lower,
             texts,
             codes: Hierarchy::of(codes),
+            ranks: Ranks::none(alloc),
         })
+    }
+
+    /// Ranks the texts. It can only fail when out of memory.
+    pub fn rank_members(&mut self, alloc: Global) -> Result<(), Fault>
+        requires { length self.old.texts.texts ≤ most_members }
+        ensures ok { OnOk result (self.new ≡ ranked self.old) }
+        ensures memory { IfErr result (λ fault. fault ≡ Fault.Memory) }
+    {
+        self.ranks = Ranks::of_dictionary(alloc, &self.texts)?;
+        Ok(())
     }
 
     /// The lower column, if there is one.
@@ -85,6 +109,13 @@ impl Column {
         ensures { result.now ≡ self.now.texts }
     {
         &self.texts
+    }
+
+    /// The ranks of the texts.
+    pub fn ranks(&self) -> &Ranks
+        ensures { result.now ≡ self.now.ranks }
+    {
+        &self.ranks
     }
 
     /// The code that a text has, or that it would get. Nothing where it is new and there is no room for it.

@@ -1,7 +1,7 @@
 //! Keys that are consecutive from a first one, as those of the generator's customers, suppliers and parts are.
 ghost use Rattle.std.specs.Prelude.{◌≡◌, ◌==◌, ◌+◌, ◌^◌, ◌≤◌, ℕ, List, IfSome, IsTrue, length};
 ghost use Rattle.std.specs.List.{position_or_len};
-ghost use Rattle.dimensions.specs.KeyMaps.{CountOn};
+ghost use Rattle.dimensions.specs.RowIndexes.{CountOn};
 
 /// The first of some keys, if each other is one more than the one before it.
 pub fn first_counted(keys: &[u32]) -> Option<u32>

@@ -13,7 +13,8 @@ ghost use Rattle.dimensions.specs.KeptCodes.{KeepCodes};
 ghost use Rattle.dimensions.specs.Shapes.{lowers_of};
 ghost use Rattle.dimensions.specs.Coded.{ColumnsHaveTexts, texts_at_places};
 ghost use Rattle.dimensions.specs.Made.{AreCodedDims, HaveAllTexts, IsDimensionOf, IsRefusal, EncodeNoRows};
-ghost use Rattle.dimensions.specs.Shown.{IsDimension, rows_on};
+ghost use Rattle.dimensions.specs.Dimensions.{IsDimension};
+ghost use Rattle.dimensions.specs.Shown.{rows_on};
 
 use crate::coded::{CodedDims, CodedRows};
 use crate::dimension::Dimension;
@@ -72,7 +73,7 @@ impl Dims {
         let suppliers = Dimension::build(alloc, Axis::Supplier, rows.suppliers.as_slice())?;
         let parts = Dimension::build(alloc, Axis::Part, rows.parts.as_slice())?;
         let dates = Dimension::build(alloc, Axis::Date, rows.dates.as_slice())?;
-        let days = Ranks::of_days(alloc, dates.keys())?;
+        let days = Ranks::of_days(alloc, dates.keys.keys())?;
         Ok(Dims {
             customers,
             suppliers,
@@ -104,7 +105,7 @@ impl Dims {
         let dates = self
             .dates
             .with_rows(alloc, Axis::Date, rows.dates.as_slice())?;
-        let days = Ranks::of_days(alloc, dates.keys())?;
+        let days = Ranks::of_days(alloc, dates.keys.keys())?;
         Ok(Dims {
             customers,
             suppliers,
@@ -139,7 +140,7 @@ impl Dims {
             suppliers,
         )?;
         let (parts, dates) = two_of_coded(alloc, Axis::Part, parts, Axis::Date, dates)?;
-        let days = Ranks::of_days(alloc, dates.keys())?;
+        let days = Ranks::of_days(alloc, dates.keys.keys())?;
         Ok(Dims {
             customers,
             suppliers,
@@ -154,7 +155,7 @@ impl Dims {
         ensures keys { result.now ≡ map (λ row. row.key) (rows_on self.now axis) }
         ensures few { length result.now < 2 ^ 32 }
     {
-        self.dimension(axis).keys()
+        self.dimension(axis).keys.keys()
     }
 
     /// The texts of a column of a dimension, each at its code: in the order of their first use by the column's places.
@@ -163,7 +164,7 @@ impl Dims {
         ensures texts { result.now.texts ≡ firsts (texts_at_places axis column (rows_on self.now axis)) }
         ensures short { AreShort result.now.texts }
     {
-        self.dimension(axis).column(column).texts()
+        self.dimension(axis).columns[column].texts()
     }
 
     /// The code of the text at each place of a column of a dimension: in each row, or next to each text of the lower
@@ -172,7 +173,7 @@ impl Dims {
         requires { column < length (lowers_of axis) }
         ensures { result.now ≡ codes_of (texts_at_places axis column (rows_on self.now axis)) }
     {
-        self.dimension(axis).column(column).codes()
+        self.dimension(axis).columns[column].codes()
     }
 
     /// How many rows a dimension has.
@@ -181,7 +182,7 @@ impl Dims {
         ensures valid { IsValid self.now }
         ensures short { HaveShortTexts self.now }
     {
-        self.dimension(axis).len()
+        self.dimension(axis).keys.len()
     }
 
     /// The row index of a key: that of the row with the key, or the number of rows where no row has it. They count from
@@ -190,7 +191,7 @@ impl Dims {
     pub fn row_index(&self, axis: Axis, key: u32) -> usize
         ensures { result ≡ row_index_of self.now axis key }
     {
-        self.dimension(axis).row_index(key)
+        self.dimension(axis).keys.row_index(key)
     }
 
     /// The attribute of the row with a key, if there is such a row and the attribute is of the dimension. That of a
@@ -257,7 +258,7 @@ impl Dims {
     {
         match column_of_attr(attr) {
             None => &self.days,
-            Some(column) => self.dimension(attr.axis()).ranks(column),
+            Some(column) => self.dimension(attr.axis()).columns[column].ranks(),
         }
     }
 }

@@ -6,14 +6,13 @@ mod column;
 mod counted;
 mod dimension;
 mod dims;
-mod key_index;
-mod key_map;
+mod entries;
+mod key_rows;
 mod members;
 mod ranks;
 mod row;
 mod shape;
 mod short;
-mod table;
 
 pub use coded::{CodedColumn, CodedDims, CodedRows};
 pub use dims::Dims;

@@ -36,6 +36,16 @@ impl Model for Ranks {
 }
 
 impl Ranks {
+    /// The ranks of no texts.
+    pub fn none(alloc: Global) -> Ranks
+        ensures { result ≡ [] }
+    {
+        Ranks {
+            members: Vec::new(alloc),
+            ranks: Vec::new(alloc),
+        }
+    }
+
     /// The ranks of texts. It can only fail when out of memory.
     pub fn of(alloc: Global, texts: Vec<Text>) -> Result<Ranks, Fault>
         requires { length texts.items ≤ most_members }

@@ -1,12 +1,15 @@
 //! The rows of the dimensions as texts by column.
-ghost use Rattle.std.specs.Prelude.{◌≡◌, ◌<◌, length};
+ghost use Rattle.std.specs.Prelude.{◌≡◌, ◌<◌, ℕ, true, false, length, codes};
+ghost use Rattle.std.specs.Bool.{OnTrue, OnFalse};
+ghost use Rattle.std.specs.Str.{bytes_eq};
 ghost use Rattle.dimensions.specs.TextRows.{TextRow, text_in, row_of_customer, row_of_supplier, row_of_part};
 ghost use Rattle.dimensions.specs.TextRows.{row_of_date};
 
+use crate::members::is_all;
 use cube_model::{CustomerRow, DateRow, PartRow, SupplierRow};
 
 /// A row of a dimension, with a text in each column.
-pub trait TableRow {
+pub trait DimensionRow {
     /// Contracts see it as its key and its texts.
     ghost shown: { Self → TextRow };
 
@@ -20,7 +23,7 @@ pub trait TableRow {
         ensures { result.now ≡ text_in column (shown self.now) };
 }
 
-impl TableRow for CustomerRow {
+impl DimensionRow for CustomerRow {
     ghost shown = { row_of_customer };
 
     fn key(&self) -> u32 {
@@ -36,7 +39,7 @@ impl TableRow for CustomerRow {
     }
 }
 
-impl TableRow for SupplierRow {
+impl DimensionRow for SupplierRow {
     ghost shown = { row_of_supplier };
 
     fn key(&self) -> u32 {
@@ -52,7 +55,7 @@ impl TableRow for SupplierRow {
     }
 }
 
-impl TableRow for PartRow {
+impl DimensionRow for PartRow {
     ghost shown = { row_of_part };
 
     fn key(&self) -> u32 {
@@ -68,7 +71,7 @@ impl TableRow for PartRow {
     }
 }
 
-impl TableRow for DateRow {
+impl DimensionRow for DateRow {
     ghost shown = { row_of_date };
 
     fn key(&self) -> u32 {
@@ -83,4 +86,19 @@ impl TableRow for DateRow {
             _ => self.weeknuminyear.as_slice(),
         }
     }
+}
+
+/// Whether one of a row's texts is the one that means all members.
+pub fn names_all<R: DimensionRow>(row: &R, count: usize) -> bool
+    requires { length (R.shown row.now).texts ≡ count }
+    ensures some { OnTrue result
+        ((i : ℕ) × (i < count) × (bytes_eq (codes "ALL") (text_in i (R.shown row.now)) ≡ true)) }
+    ensures none { OnFalse result ((i : ℕ) → i < count → bytes_eq (codes "ALL") (text_in i (R.shown row.now)) ≡ false) }
+{
+    for i in 0..count {
+        if is_all(row.text(i)) {
+            return true;
+        }
+    }
+    false
 }

@@ -1,5 +1,6 @@
 //! The columns of the dimensions: which determines which, and where an attribute is.
-ghost use Rattle.std.specs.Prelude.{◌≡◌, ◌≤◌, length};
+ghost use Rattle.std.specs.Prelude.{◌≡◌, ◌<◌, ◌≤◌, ◌+◌, length};
+ghost use Rattle.std.specs.Bool.{OnTrue, OnFalse};
 ghost use Rattle.cube_model.specs.Limits.{most_dimension_rows};
 ghost use Rattle.dimensions.specs.Shapes.{attr_column, lower_of, lowers_of, row_limit_of};
 
@@ -61,4 +62,13 @@ pub fn column_of_attr(attr: Attr) -> Option<usize>
         Attr::DateWeeknuminyear => Some(3),
         Attr::DateKey => None,
     }
+}
+
+/// Whether a dimension that has so many rows may have so many more.
+pub fn has_room(axis: Axis, before: usize, more: usize) -> bool
+    ensures room { OnTrue result (before + more ≤ row_limit_of axis) }
+    ensures full { OnFalse result (row_limit_of axis < before + more) }
+{
+    let limit = row_limit(axis);
+    before <= limit && more <= limit - before
 }

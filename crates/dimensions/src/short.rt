@@ -4,7 +4,7 @@ ghost use Rattle.std.specs.Bool.{OnTrue, OnFalse};
 ghost use Rattle.cube_model.specs.Validity.{HaveShortTexts};
 ghost use Rattle.dimensions.specs.ShortTexts.{IsShortRow, AreShortRows};
 
-use crate::row::TableRow;
+use crate::row::DimensionRow;
 use crate::shape::column_count;
 use cube_model::limits::LONGEST_TEXT;
 use cube_model::{Axis, DimRows};
@@ -27,7 +27,7 @@ pub fn have_short_texts(rows: &DimRows) -> bool
 }
 
 // The same of the rows of one dimension.
-fn are_short<R: TableRow>(rows: &[R], columns: usize) -> bool
+fn are_short<R: DimensionRow>(rows: &[R], columns: usize) -> bool
     requires { (row : R) → length (R.shown row).texts ≡ columns }
     ensures yes { OnTrue result (AreShortRows (map R.shown rows.now)) }
     ensures no { OnFalse result (AreShortRows (map R.shown rows.now) → ⊥) }
@@ -41,7 +41,7 @@ fn are_short<R: TableRow>(rows: &[R], columns: usize) -> bool
 }
 
 // The same of one row.
-fn is_short<R: TableRow>(row: &R, columns: usize) -> bool
+fn is_short<R: DimensionRow>(row: &R, columns: usize) -> bool
     requires { length (R.shown row.now).texts ≡ columns }
     ensures yes { OnTrue result (IsShortRow (R.shown row.now)) }
     ensures no { OnFalse result (IsShortRow (R.shown row.now) → ⊥) }

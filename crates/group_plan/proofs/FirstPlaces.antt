@@ -4,8 +4,7 @@ use Rattle.std.proofs.Common.{false, cond, inl, inr, List, [], ◌∷◌, ◌++�
 use Rattle.std.specs.List.{range_with_len}
 use Rattle.std.proofs.lemmas.Bool.{cases_lt, ltb-true}
 use Rattle.std.proofs.lemmas.List.{drop_more, get_or-map, get_or_append_left, get_or_push, length-map, length_push}
-use Rattle.std.proofs.lemmas.List.{map-id}
-use Rattle.std.proofs.lemmas.List.FromFn.{get_or-range_with_len, length-range_with_len, map-range_with_len_more}
+use Rattle.std.proofs.lemmas.List.FromFn.{get_or-range_with_len, length-range_with_len}
 use Rattle.std.proofs.lemmas.Bool.Decides.{nat_tests}
 use Rattle.cube_model.specs.declared.attr.Attr.{Attr}
 use Rattle.cube_model.specs.declared.attr.Attr.TheVariants.{CustomerCity, SupplierCity, PartBrand1}
@@ -213,9 +212,3 @@ pub in_first_order : (texts : List (List ℕ)) (codes : List ℕ) (count : ℕ) 
 in_first_order texts codes count is many =
     subst (λ n. AreCodes n codes) (sym many)
     (subst (AreCodes (length (firsts texts))) (sym is) (column_has_codes texts).0)
-
--- one number more
-pub range_next : (count : ℕ) → range_with_len 0 (count + 1) ≡ range_with_len 0 count ++ count ∷ []
-range_next count =
-    sym (map-id (range_with_len 0 (count + 1))) ∙ map-range_with_len_more (λ n. n) 0 count count (omega arith)
-    ∙ ap (λ (l : List ℕ). l ++ count ∷ []) (map-id (range_with_len 0 count))

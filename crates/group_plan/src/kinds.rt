@@ -74,9 +74,5 @@ fn first_places(alloc: Global, codes: &[u16], count: usize) -> Result<Vec<usize>
 fn all_places(alloc: Global, count: usize) -> Result<Vec<usize>, AllocError>
     ensures { IfOk result (λ rows. rows.items ≡ range_with_len 0 count) }
 {
-    let mut rows = Vec::with_capacity(alloc, count)?;
-    for row in 0..count {
-        rows.push(row)?;
-    }
-    Ok(rows)
+    (0..count).collect(alloc)
 }

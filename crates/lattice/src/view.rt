@@ -69,13 +69,6 @@ impl View {
         }
     }
 
-    /// Whether the view groups by ship mode.
-    pub fn groups_ship_mode(self) -> bool
-        ensures { result ≡ self.ship_mode }
-    {
-        self.ship_mode
-    }
-
     /// Whether the view answers another: it groups each axis as finely or finer, and by ship mode where the other does.
     pub fn answers(self, other: View) -> bool
         ensures test { result ≡ answers self other }

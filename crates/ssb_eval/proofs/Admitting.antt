@@ -14,7 +14,7 @@ use Rattle.cube_model.specs.Limits.{most_batch_rows, most_batches}
 use Rattle.cube_model.specs.ShipModes.{modes_cause, modes_in}
 use Rattle.batch_admission.specs.Accepted.{Accepted, Admits, HasAccepted}
 use Rattle.batch_admission.specs.Found.{Found, found_in}
-use Rattle.batch_admission.specs.declared.totals.Totals.{Totals}
+use Rattle.cube_model.specs.declared.totals.Totals.{Totals}
 use Rattle.batch_admission.proofs.CallerLemmas.{long_before}
 use Rattle.ssb_eval.specs.ShipModes.{HasMet, HasMetRows, Met, early_cause}
 use Rattle.ssb_eval.proofs.Modes.{HasMet-next, cause_is}

@@ -1,10 +1,6 @@
-//! Tests of dimensions, built from rows and stored, of batches as columns, and of the loops over them.
+//! Tests of dimensions and of batches as they are stored, and of what is read of a batch.
 #![tactic(auto)]
 
-#[cfg(test)]
-mod built;
-#[cfg(test)]
-mod masks;
 #[cfg(test)]
 mod segments;
 #[cfg(test)]

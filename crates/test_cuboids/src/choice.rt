@@ -1,3 +1,4 @@
 //! Tests of the choice of cuboids.
 mod chosen;
 mod demanded;
+mod numbered;

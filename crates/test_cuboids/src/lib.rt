@@ -1,5 +1,5 @@
-//! Tests of `lattice`, `view_choice`, `cuboid_cells` and `cuboid_upkeep`: views, their sizes, which queries they
-//! serve, greedy choices, and cells.
+//! Tests of `lattice`, `view_choice`, `cuboid_cells` and `cuboid_upkeep`: how views print, which views queries need,
+//! greedy choices, and cells.
 #![tactic(auto)]
 
 #[cfg(test)]
@@ -8,7 +8,5 @@ mod cells;
 mod choice;
 #[cfg(test)]
 mod served;
-#[cfg(test)]
-mod sizes;
 #[cfg(test)]
 mod views;

@@ -3,8 +3,8 @@ ghost use Rattle.std.specs.Prelude.{◌^◌, IsTrue};
 ghost use Rattle.batch_admission.specs.Totals.{AreBelow};
 
 use crate::running::dims_of;
-use batch_admission::{Admission, Findings, Totals};
-use cube_model::{Fault, LineOrder, Measure, Place};
+use batch_admission::{Admission, Findings};
+use cube_model::{Fault, LineOrder, Measure, Place, Totals};
 use dimensions::Dims;
 use sample_star::{FIRST_FACT, Fact, SECOND_FACT, STAR, line_orders};
 use std::alloc::Global;

@@ -1,35 +1,21 @@
 //! Cells of the sample star, worked out by hand and counted into folds. The answers were worked out by hand too.
-ghost use Rattle.std.specs.Prelude.{◌≡◌, ◌≤◌, [], length, IfOk, IsTrue, OnOk};
-ghost use Rattle.cube_model.specs.Limits.{most_batch_rows};
+ghost use Rattle.std.specs.Prelude.{◌≡◌, [], OnOk};
 ghost use Rattle.cube_query.specs.Groups.{IsOver, RepresentsRows};
 ghost use Rattle.lattice.specs.Determined.{Serves};
 
-use super::cells_at_limits::{LIMITS, OTHER_LIMITS};
-use super::printing::has_lines;
-use super::refusals::batch_of;
+use super::printing::{has_lines, report_of};
+use super::running::{batch_of, dims_of};
 use super::written_cells::{
-    ALL, Case, FIRST_ALONE, FIRST_DAY, NONE, Offer, REFUSED, SAMPLE, SECOND, SECOND_DAY,
-    THIRD_ALONE, Written, cells_of,
+    ALL, Case, FIRST, FIRST_ALONE, FIRST_DAY, Kept, NONE, Offer, REFUSED, SAMPLE, SECOND,
+    SECOND_DAY, THIRD_ALONE, Written, cells_of,
 };
 use column_segment::{Segment, TextColumn};
-use cube_model::{Agg, Answer, Attr, Fault, LineOrder, Measure, Query};
+use cube_model::{Agg, Attr, Fault, Measure, Query};
 use cube_query::Fold;
-use cuboid_cells::laws::bytes_are_one_run;
-use cuboid_cells::{Cells, Span};
-use cuboid_upkeep::GrowingCells;
-use dictionary::Dictionary;
+use cuboid_cells::Cells;
 use dimensions::Dims;
-use group_plan::RowSlice;
-use sample_star::{
-    Asked, CUBE, Condition, EVERY_ROW, FACTS, FIRST_FACT, ROLLUP, SECOND_FACT, STAR, THIRD_FACT,
-    dim_rows, line_orders, query,
-};
+use sample_star::{Asked, CUBE, EVERY_ROW, FACTS, FIRST_FACT, SECOND_FACT, STAR, query};
 use std::alloc::Global;
-use std::process::Abort;
-use std::test::Fail;
-
-/// The most rows of a batch.
-const MOST: usize = 65_536;
 
 /// Revenue by year.
 const REVENUES: Asked<'static> = Asked {
@@ -57,51 +43,62 @@ const PROFITS: Asked<'static> = Asked {
     ..EVERY_ROW
 };
 
-/// Discounted prices of 1997.
-const CHOSEN: Asked<'static> = Asked {
-    conditions: &[Condition::OneOf(Attr::DateYear, &["1997"])],
-    aggregates: &[
-        Agg::Count,
-        Agg::Sum(Measure::Discounted),
-        Agg::Avg(Measure::Discounted),
-        Agg::Max(Measure::SupplyCost),
-        Agg::Min(Measure::Quantity),
-    ],
+/// How many rows there are, and the sum of their profits.
+const LOSSES: Asked<'static> = Asked {
+    aggregates: &[Agg::Count, Agg::Sum(Measure::Profit)],
     ..EVERY_ROW
 };
 
 /// The revenues by year of the sample rows, and of the first row.
-const REVENUE_LINES: &str = "1993|1|980|980|980|980/1|\n1997|2|2435|495|1940|2435/2|\n";
+const REVENUE_LINES: &str = "1993|1|980|980|980|980/1\n1997|2|2435|495|1940|2435/2\nrows 2\n";
 
-const FIRST_REVENUE_LINE: &str = "1993|1|980|980|980|980/1|\n";
+const FIRST_REVENUE_LINE: &str = "1993|1|980|980|980|980/1\nrows 1\n";
 
-/// Cells that are taken into an empty fold.
-static TAKEN: [Case; 5] = [
-    Case {
-        asked: REVENUES,
-        before: &[],
-        offers: &[SAMPLE],
-        lines: REVENUE_LINES,
-    },
+/// The greatest loss that there may be: nothing for what costs so much.
+const GREATEST: i64 = 9_223_372_036_854_775_807;
+
+const LOSS: Offer = Offer {
+    cells: &[Written {
+        kept: Kept {
+            revenue: [0, 0, 0],
+            supplycost: [GREATEST, GREATEST, GREATEST],
+            profit: [-GREATEST, -GREATEST, -GREATEST],
+            ..FIRST
+        },
+        ..FIRST_DAY
+    }],
+    ..NONE
+};
+
+/// The sample rows by manufacturer, day and ship mode. Their modes are AIR, RAIL and AIR.
+const BY_MODE: Offer = Offer {
+    view: 504,
+    cells: &[
+        Written {
+            codes: [ALL, ALL, 0, 0, 0],
+            ..FIRST_DAY
+        },
+        Written {
+            codes: [ALL, ALL, 0, 1, 0],
+            ..THIRD_ALONE
+        },
+        Written {
+            codes: [ALL, ALL, 0, 1, 1],
+            count: 1,
+            kept: SECOND,
+        },
+    ],
+    with_modes: true,
+    ..SAMPLE
+};
+
+/// Cells that are taken.
+static TAKEN: [Case; 4] = [
     Case {
         asked: PROFITS,
         before: &[],
         offers: &[SAMPLE],
-        lines: "MFGR#1|Dec1997|335|-60|395|335/2|2|\nMFGR#1|Jan1993|380|380|380|380/1|1|\n",
-    },
-    // The first row fails the condition.
-    Case {
-        asked: CHOSEN,
-        before: &[],
-        offers: &[SAMPLE],
-        lines: "2|6500|3250/1|2000|24|\n",
-    },
-    Case {
-        asked: ROLLUP,
-        before: &[],
-        offers: &[SAMPLE],
-        lines: "1993|199301|980|\n1993|ALL|980|\n1997|199712|2435|\n1997|ALL|2435|\n\
-            ALL|ALL|3415|\n",
+        lines: "MFGR#1|Dec1997|335|-60|395|335/2|2\nMFGR#1|Jan1993|380|380|380|380/1|1\nrows 2\n",
     },
     // By the customer's region and by year: Europe and 1993 have the code 0.
     Case {
@@ -126,21 +123,14 @@ static TAKEN: [Case; 5] = [
             ],
             ..SAMPLE
         }],
-        lines: "AMERICA|1997|1|1940|1940/1|\nAMERICA|ALL|1|1940|1940/1|\n\
-            EUROPE|1993|1|980|980/1|\nEUROPE|1997|1|495|495/1|\nEUROPE|ALL|2|1475|1475/2|\n\
-            ALL|1993|1|980|980/1|\nALL|1997|2|2435|2435/2|\nALL|ALL|3|3415|3415/3|\n",
+        lines: "AMERICA|1997|1|1940|1940/1\nAMERICA|ALL|1|1940|1940/1\nEUROPE|1993|1|980|980/1\nEUROPE|1997|1|495|495/1\nEUROPE|ALL|2|1475|1475/2\nALL|1993|1|980|980/1\nALL|1997|2|2435|2435/2\nALL|ALL|3|3415|3415/3\nrows 8\n",
     },
-];
-
-/// Cells that are taken after rows and after other cells.
-static TAKEN_BEHIND: [Case; 3] = [
     // After a row that has the group of the second cell.
     Case {
         asked: REVENUES,
         before: &[SECOND_FACT],
         offers: &[Offer {
             cells: &[FIRST_DAY, THIRD_ALONE],
-            rows: &[FIRST_FACT, THIRD_FACT],
             ..NONE
         }],
         lines: REVENUE_LINES,
@@ -157,62 +147,20 @@ static TAKEN_BEHIND: [Case; 3] = [
                     codes: [ALL, ALL, ALL, 1, ALL],
                     ..SECOND_DAY
                 }],
-                rows: &[SECOND_FACT, THIRD_FACT],
                 ..NONE
             },
         ],
         lines: REVENUE_LINES,
     },
-    // The same cells twice, as two rows each.
-    Case {
-        asked: CHOSEN,
-        before: &[],
-        offers: &[SAMPLE, SAMPLE],
-        lines: "4|13000|3250/1|2000|24|\n",
-    },
 ];
 
-/// No cells: over no row, over the sample rows, and before other cells.
-static EMPTY: [Case; 4] = [
+/// Cells of which some are refused, and cells by ship mode.
+static WITH_REFUSALS: [Case; 5] = [
+    // A day after the last one, the last code that is not that of all days, and a manufacturer after a cell that could
+    // be taken. The fold takes other cells then.
     Case {
         asked: REVENUES,
         before: &[],
-        offers: &[NONE],
-        lines: "",
-    },
-    Case {
-        asked: REVENUES,
-        before: &FACTS,
-        offers: &[NONE],
-        lines: REVENUE_LINES,
-    },
-    Case {
-        asked: PROFITS,
-        before: &[FIRST_FACT],
-        offers: &[Offer { view: 0, ..NONE }, NONE],
-        lines: "MFGR#1|Jan1993|380|380|380|380/1|1|\n",
-    },
-    Case {
-        asked: REVENUES,
-        before: &[],
-        offers: &[NONE, SAMPLE, NONE],
-        lines: REVENUE_LINES,
-    },
-];
-
-/// How many rows there are, and the sum of their revenues.
-const ALL_REVENUES: Asked<'static> = Asked {
-    aggregates: &[Agg::Count, Agg::Sum(Measure::Revenue)],
-    ..EVERY_ROW
-};
-
-/// Codes of no member: there are two customers, two suppliers, two parts of one manufacturer, and two days.
-static UNKNOWN: [Case; 4] = [
-    // A day after the last one, the last code that is not that of all days, a manufacturer, and a day after a
-    // cell that could be taken.
-    Case {
-        asked: REVENUES,
-        before: &[FIRST_FACT],
         offers: &[
             Offer {
                 cells: &[Written {
@@ -229,35 +177,10 @@ static UNKNOWN: [Case; 4] = [
                 ..REFUSED
             },
             Offer {
-                cells: &[Written {
-                    codes: [ALL, ALL, 1, 0, ALL],
-                    ..FIRST_DAY
-                }],
-                ..REFUSED
-            },
-            Offer {
-                cells: &[
-                    SECOND_DAY,
-                    Written {
-                        codes: [ALL, ALL, 9, 1, ALL],
-                        ..SECOND_DAY
-                    },
-                ],
-                ..REFUSED
-            },
-        ],
-        lines: FIRST_REVENUE_LINE,
-    },
-    // The fold takes other cells then.
-    Case {
-        asked: REVENUES,
-        before: &[],
-        offers: &[
-            Offer {
                 cells: &[
                     FIRST_DAY,
                     Written {
-                        codes: [ALL, ALL, 0, 2, ALL],
+                        codes: [ALL, ALL, 9, 1, ALL],
                         ..SECOND_DAY
                     },
                 ],
@@ -267,9 +190,9 @@ static UNKNOWN: [Case; 4] = [
         ],
         lines: REVENUE_LINES,
     },
-    // A member that the query does not ask for: of each axis by the lowest level, and a region.
+    // Members for which the query does not ask: of each axis by the lowest level, and a region.
     Case {
-        asked: ALL_REVENUES,
+        asked: LOSSES,
         before: &FACTS,
         offers: &[
             Offer {
@@ -313,169 +236,96 @@ static UNKNOWN: [Case; 4] = [
                 ..REFUSED
             },
         ],
-        lines: "3|3415|\n",
+        lines: "3|715\nrows 1\n",
     },
-    // Over no row.
+    // A loss after the greatest that there may be, a loss past it, more rows than a fold counts, and gains.
     Case {
-        asked: REVENUES,
+        asked: LOSSES,
         before: &[],
-        offers: &[Offer {
-            cells: &[Written {
-                codes: [ALL, ALL, 9, 0, ALL],
-                ..FIRST_DAY
-            }],
-            ..REFUSED
-        }],
-        lines: "",
+        offers: &[
+            LOSS,
+            Offer {
+                is_taken: false,
+                ..LOSS
+            },
+            Offer {
+                cells: &[Written {
+                    kept: Kept {
+                        profit: [-GREATEST - 1, -GREATEST - 1, -GREATEST - 1],
+                        ..FIRST
+                    },
+                    ..FIRST_DAY
+                }],
+                ..REFUSED
+            },
+            Offer {
+                cells: &[Written {
+                    count: 9_223_372_036_854_775_807,
+                    ..FIRST_DAY
+                }],
+                ..REFUSED
+            },
+            SAMPLE,
+        ],
+        lines: "4|-9223372036854775092\nrows 1\n",
     },
-];
-
-/// The sample rows by manufacturer, day and ship mode. Their modes are AIR, RAIL and AIR.
-const BY_MODE: Offer = Offer {
-    view: 504,
-    cells: &[
-        Written {
-            codes: [ALL, ALL, 0, 0, 0],
-            ..FIRST_DAY
-        },
-        Written {
-            codes: [ALL, ALL, 0, 1, 0],
-            ..THIRD_ALONE
-        },
-        Written {
-            codes: [ALL, ALL, 0, 1, 1],
-            count: 1,
-            kept: SECOND,
-        },
-    ],
-    with_modes: true,
-    ..SAMPLE
-};
-
-/// Cells by ship mode with the modes of the sample rows, and with none.
-static MODES: [Case; 4] = [
+    // Cells by ship mode.
     Case {
         asked: REVENUES,
         before: &[],
         offers: &[BY_MODE],
         lines: REVENUE_LINES,
     },
-    // Without the modes they are refused.
+    // Where there is no cell, the modes need not be given. Elsewhere cells are refused without them, and with a mode
+    // after the last.
     Case {
         asked: REVENUES,
         before: &[FIRST_FACT],
         offers: &[
+            Offer { view: 504, ..NONE },
             Offer {
                 with_modes: false,
                 is_taken: false,
-                rows: &[],
                 ..BY_MODE
             },
             Offer {
-                view: 510,
-                cells: &[Written {
-                    codes: [ALL, ALL, ALL, 0, 0],
-                    ..FIRST_DAY
-                }],
-                ..REFUSED
+                cells: &[
+                    Written {
+                        codes: [ALL, ALL, 0, 0, 0],
+                        ..FIRST_DAY
+                    },
+                    Written {
+                        codes: [ALL, ALL, 0, 1, 2],
+                        ..SECOND_DAY
+                    },
+                ],
+                is_taken: false,
+                ..BY_MODE
             },
         ],
-        lines: FIRST_REVENUE_LINE,
-    },
-    // Where there is no cell, none is needed.
-    Case {
-        asked: REVENUES,
-        before: &FACTS,
-        offers: &[
-            Offer { view: 504, ..NONE },
-            Offer { view: 256, ..NONE },
-            Offer {
-                view: 256,
-                with_modes: true,
-                ..NONE
-            },
-        ],
-        lines: REVENUE_LINES,
-    },
-    // A mode after the last.
-    Case {
-        asked: REVENUES,
-        before: &[FIRST_FACT],
-        offers: &[Offer {
-            cells: &[
-                Written {
-                    codes: [ALL, ALL, 0, 0, 0],
-                    ..FIRST_DAY
-                },
-                Written {
-                    codes: [ALL, ALL, 0, 1, 2],
-                    ..SECOND_DAY
-                },
-            ],
-            rows: &[],
-            is_taken: false,
-            ..BY_MODE
-        }],
         lines: FIRST_REVENUE_LINE,
     },
 ];
 
-// Whether cells are the same: then their runs are.
-fn are_same(alloc: Global, one: &Cells, other: &Cells) -> Result<bool, Fault>
-    ensures { IfOk result (λ same. IsTrue same → one.now ≡ other.now) }
-{
-    bytes_are_one_run();
-    let span = Span { from: 0, to: 1 };
-    let left = one.encode(alloc, span)?;
-    let right = other.encode(alloc, span)?;
-    Ok(left.as_slice() == right.as_slice())
-}
-
-// Whether cells are those of rows, with ship modes or with none.
-fn are_of_rows(
-    alloc: Global,
-    dims: &Dims,
-    cells: &Cells,
-    rows: &[LineOrder],
-    modes: Option<&Dictionary>,
-) -> Result<bool, Fault>
-    requires few { length rows.now ≤ most_batch_rows }
-{
-    let mut grouped = GrowingCells::new(alloc, dims, cells.view())?;
-    grouped.add_rows(alloc, dims, &RowSlice(rows), modes)?;
-    let grouped = grouped.finish(alloc)?;
-    are_same(alloc, cells, &grouped)
-}
-
-// Counts cells in, with the modes of a batch or with none. A refusal leaves the fold as it was. Says whether they were
-// counted in. `BadQuery` where they were, and are not those of the rows that they are to represent.
+// Counts cells in, with the modes of a batch or with none, or leaves the fold as it was. Says whether they were counted
+// in.
 fn count_in(
-    alloc: Global,
     dims: &Dims,
     batch: Option<&Segment>,
     fold: &mut Fold,
     cells: &Cells,
-    rows: &[LineOrder],
 ) -> Result<bool, Fault>
-    requires fold { IsOver dims.now fold.old }
+    requires over { IsOver dims.now fold.old }
     requires serves { Serves cells.now.view fold.old.query }
-    requires few { length rows.now ≤ most_batch_rows }
-    ensures fold { OnOk result (IsOver dims.now fold.new) }
-    ensures query { OnOk result (fold.new.query ≡ fold.old.query) }
+    ensures over { IsOver dims.now fold.new }
+    ensures query { fold.new.query ≡ fold.old.query }
 {
     let modes = match batch {
         Some(batch) => Some(batch.coded(TextColumn::ShipMode).0),
         None => None,
     };
-    let is_same = are_of_rows(alloc, dims, cells, rows, modes)?;
     match fold.add_cells(dims, cells, modes) {
-        Ok(()) => {
-            if is_same {
-                Ok(true)
-            } else {
-                Err(Fault::BadQuery)
-            }
-        }
+        Ok(()) => Ok(true),
         Err(Fault::BadLayout) => Ok(false),
         Err(fault) => Err(fault),
     }
@@ -490,19 +340,17 @@ fn is_answered(
     fold: &mut Fold,
     offer: &Offer,
 ) -> Result<bool, Fault>
-    requires fold { IsOver dims.now fold.old }
+    requires over { IsOver dims.now fold.old }
     requires query { fold.old.query ≡ query.now }
-    ensures fold { OnOk result (IsOver dims.now fold.new) }
-    ensures query { OnOk result (fold.new.query ≡ query.now) }
+    ensures over { IsOver dims.now fold.new }
+    ensures query { fold.new.query ≡ query.now }
 {
-    let batch = if offer.with_modes { Some(sample) } else { None };
     let cells = cells_of(alloc, offer)?;
-    let rows = line_orders(alloc, offer.rows)?;
-    if rows.len() > MOST || !cells.view().serves(query) {
+    if !cells.view().serves(query) {
         return Err(Fault::BadQuery);
     }
-    let is_taken = count_in(alloc, dims, batch, fold, &cells, rows.as_slice())?;
-    Ok(is_taken == offer.is_taken)
+    let batch = if offer.with_modes { Some(sample) } else { None };
+    Ok(count_in(dims, batch, fold, &cells)? == offer.is_taken)
 }
 
 // Whether it is so of each offer in turn.
@@ -514,9 +362,9 @@ fn are_answered(
     fold: &mut Fold,
     offers: &[Offer],
 ) -> Result<bool, Fault>
-    requires fold { IsOver dims.now fold.old }
+    requires over { IsOver dims.now fold.old }
     requires query { fold.old.query ≡ query.now }
-    ensures { OnOk result (IsOver dims.now fold.new) }
+    ensures { IsOver dims.now fold.new }
 {
     for place in 0..offers.len() {
         if !is_answered(alloc, dims, sample, query, fold, &offers[place])? {
@@ -526,15 +374,15 @@ fn are_answered(
     Ok(true)
 }
 
-// The answer of a fold that begins, over rows and the offers after them. None where an offer is answered otherwise.
-fn answer_after(
+// The report of a fold that begins, over rows and the offers after them. None where an offer is answered otherwise.
+fn report_after(
     alloc: Global,
     dims: &Dims,
     sample: &Segment,
     query: &Query,
     fold: &mut Fold,
     case: &Case,
-) -> Result<Option<Answer>, Fault>
+) -> Result<Option<Vec<u8>>, Fault>
     requires begins { RepresentsRows dims.now fold.old [] }
     requires query { fold.old.query ≡ query.now }
 {
@@ -543,79 +391,43 @@ fn answer_after(
     if !are_answered(alloc, dims, sample, query, fold, case.offers)? {
         return Ok(None);
     }
-    Ok(Some(fold.finish(dims)?))
+    let answer = fold.finish(dims)?;
+    Ok(Some(report_of(alloc, query, &answer)?))
 }
 
-// The answer of a new fold.
-fn answer_of(
+// The report of a new fold.
+fn report_in(
     alloc: Global,
     dims: &Dims,
     sample: &Segment,
     case: &Case,
-) -> Result<Option<Answer>, Fault> {
+) -> Result<Option<Vec<u8>>, Fault> {
     let query = query(alloc, &case.asked)?;
     let mut fold = Fold::new(alloc, dims, &query)?;
-    answer_after(alloc, dims, sample, &query, &mut fold, case)
+    report_after(alloc, dims, sample, &query, &mut fold, case)
 }
 
-// Whether the answer is the one that was worked out.
-fn is_as_worked(alloc: Global, dims: &Dims, sample: &Segment, case: &Case) -> Result<bool, Fault> {
-    match answer_of(alloc, dims, sample, case)? {
-        None => Ok(false),
-        Some(answer) => Ok(has_lines(alloc, &answer, case.lines)?),
+// Whether the report is the one that was worked out.
+fn is_as_worked(alloc: Global, dims: &Dims, sample: &Segment, case: &Case) -> bool {
+    match report_in(alloc, dims, sample, case) {
+        Ok(Some(report)) => has_lines(report.as_slice(), case.lines),
+        _ => false,
     }
 }
 
-fn each_is_as_worked(
-    rt: &impl Abort,
-    alloc: Global,
-    dims: &Dims,
-    cases: &[Case],
-) -> Result<(), Fail> {
+// The first of some cases in which it is not.
+fn first_other(alloc: Global, cases: &[Case]) -> Result<Option<usize>, Fault> {
+    let dims = dims_of(alloc, &STAR)?;
     let sample = batch_of(alloc, &FACTS)?;
-    for case in cases {
-        assert!(rt; is_as_worked(alloc, dims, &sample, case)?, "{case:?}");
-    }
-    Ok(())
-}
-
-fn all_are_as_worked(rt: &impl Abort, alloc: Global, cases: &[Case]) -> Result<(), Fail> {
-    let rows = dim_rows(alloc, &STAR)?;
-    let dims = Dims::build(alloc, &rows)?;
-    each_is_as_worked(rt, alloc, &dims, cases)
+    Ok(
+        cases
+            .iter()
+            .position(|case| !is_as_worked(alloc, &dims, &sample, case)),
+    )
 }
 
 #[test]
-fn cells_are_counted_in(rt: HostRuntime) -> Result<(), Fail> {
-    all_are_as_worked(&rt, rt.alloc(), &TAKEN)
-}
-
-#[test]
-fn cells_are_counted_in_after_others(rt: HostRuntime) -> Result<(), Fail> {
-    all_are_as_worked(&rt, rt.alloc(), &TAKEN_BEHIND)
-}
-
-#[test]
-fn no_cells_change_nothing(rt: HostRuntime) -> Result<(), Fail> {
-    all_are_as_worked(&rt, rt.alloc(), &EMPTY)
-}
-
-#[test]
-fn cells_of_no_member_are_refused(rt: HostRuntime) -> Result<(), Fail> {
-    all_are_as_worked(&rt, rt.alloc(), &UNKNOWN)
-}
-
-#[test]
-fn cells_past_the_limit_are_refused(rt: HostRuntime) -> Result<(), Fail> {
-    all_are_as_worked(&rt, rt.alloc(), &LIMITS)
-}
-
-#[test]
-fn counts_and_losses_past_the_limit_are_refused(rt: HostRuntime) -> Result<(), Fail> {
-    all_are_as_worked(&rt, rt.alloc(), &OTHER_LIMITS)
-}
-
-#[test]
-fn cells_of_ship_modes_need_the_modes(rt: HostRuntime) -> Result<(), Fail> {
-    all_are_as_worked(&rt, rt.alloc(), &MODES)
+fn cells_are_counted_in_as_worked(rt: HostRuntime) {
+    assert!(rt; first_other(rt.alloc(), &TAKEN) == Ok(None));
+    assert!(rt; first_other(rt.alloc(), &WITH_REFUSALS) == Ok(None));
 }

@@ -1,27 +1,27 @@
 //! Examples that were worked out by hand: a star, fact rows, a query, and the lines of its answer.
 
-use cube_model::{Agg, Attr, Kind, Measure, Order};
+use cube_model::{Agg, Attr, Fault, Kind, Measure, Order};
 use sample_star::{
-    AVERAGES, Asked, CITIES, CUBE, Condition, DISCOUNTED, EVERY_ROW, FACTS, FIRST_CUSTOMER,
-    FIRST_FACT, FIRST_PART, Fact, Location, PROFIT, Product, ROLLUP, SECOND_FACT, STAR, Star,
-    THIRD_FACT,
+    AVERAGES, Asked, CUBE, Condition, DISCOUNTED, EVERY_ROW, FACTS, FIRST_CUSTOMER, FIRST_FACT,
+    FIRST_PART, Fact, Location, Product, ROLLUP, STAR, Star, THIRD_FACT,
 };
 
-/// An example. Its lines are as `printed` has them: a bar after each member and each value.
+/// An example: the lines of an answer, as a report has them after its first one, or why it is
+/// refused.
 #[derive(Clone, Copy)]
 pub struct Example {
     pub star: Star<'static>,
     pub facts: &'static [Fact<'static>],
     pub asked: Asked<'static>,
-    pub lines: &'static str,
+    pub lines: Result<&'static str, Fault>,
 }
 
 /// How many sample rows there are, by which other examples are checked.
-pub const SAMPLE: Example = Example {
+const SAMPLE: Example = Example {
     star: STAR,
     facts: &FACTS,
     asked: EVERY_ROW,
-    lines: "3|\n",
+    lines: Ok("3\nrows 1\n"),
 };
 
 /// Three brands whose texts begin alike.
@@ -50,6 +50,23 @@ const BRANDS: Star<'static> = Star {
     ..STAR
 };
 
+/// Two regions: of one the name is the empty text, and that of the other begins as the word for all.
+const ODD_REGIONS: Star<'static> = Star {
+    customers: &[
+        Location {
+            region: "",
+            ..FIRST_CUSTOMER
+        },
+        Location {
+            key: 2,
+            city: "",
+            nation: "ALLEGORY",
+            region: "ALLIED",
+        },
+    ],
+    ..STAR
+};
+
 /// Revenue and profit by region and year.
 const REGIONS: Asked<'static> = Asked {
     columns: &[Attr::CustomerRegion, Attr::DateYear],
@@ -71,38 +88,6 @@ const PROFITS: Asked<'static> = Asked {
     ..EVERY_ROW
 };
 
-const HALF: u64 = 4_611_686_018_427_387_904;
-
-/// Queries that are not proper.
-pub static IMPROPER: [Asked<'static>; 4] = [
-    Asked {
-        columns: &[Attr::DateYear],
-        aggregates: &[],
-        ..EVERY_ROW
-    },
-    Asked {
-        columns: &[
-            Attr::CustomerCity,
-            Attr::CustomerNation,
-            Attr::CustomerRegion,
-            Attr::SupplierCity,
-            Attr::SupplierNation,
-            Attr::SupplierRegion,
-            Attr::DateYear,
-        ],
-        ..EVERY_ROW
-    },
-    Asked {
-        columns: &[Attr::DateYear, Attr::DateYear],
-        ..EVERY_ROW
-    },
-    Asked {
-        columns: &[Attr::DateYear],
-        conditions: &[Condition::OneOf(Attr::DateYear, &[])],
-        ..EVERY_ROW
-    },
-];
-
 /// An order by year, and then falling by an aggregate.
 const BY_YEAR: Asked<'static> = Asked {
     columns: &[Attr::CustomerRegion, Attr::DateYear],
@@ -113,42 +98,6 @@ const BY_YEAR: Asked<'static> = Asked {
     ..EVERY_ROW
 };
 
-/// Three customers, of whom the third lives in a city of suppliers.
-const MORE_CUSTOMERS: Star<'static> = Star {
-    customers: &[
-        FIRST_CUSTOMER,
-        Location {
-            key: 2,
-            city: "UNITED ST3",
-            nation: "UNITED STATES",
-            region: "AMERICA",
-        },
-        Location {
-            key: 3,
-            city: "UNITED KI5",
-            ..FIRST_CUSTOMER
-        },
-    ],
-    ..STAR
-};
-
-/// Two regions: of one the name is the empty text, and that of the other begins as the word for all.
-const ODD_REGIONS: Star<'static> = Star {
-    customers: &[
-        Location {
-            region: "",
-            ..FIRST_CUSTOMER
-        },
-        Location {
-            key: 2,
-            city: "",
-            nation: "ALLEGORY",
-            region: "ALLIED",
-        },
-    ],
-    ..STAR
-};
-
 /// A cube, or a rollup, by region.
 const BY_REGION: Asked<'static> = Asked {
     kind: Kind::Cube,
@@ -156,18 +105,20 @@ const BY_REGION: Asked<'static> = Asked {
     ..EVERY_ROW
 };
 
-/// A cube of six columns, as many as there may be.
-pub static SIX_COLUMNS: Asked<'static> = Asked {
-    kind: Kind::Cube,
-    columns: &[
-        Attr::CustomerCity,
-        Attr::CustomerRegion,
-        Attr::SupplierCity,
-        Attr::PartBrand1,
-        Attr::DateKey,
-        Attr::DateYear,
-    ],
+/// The prices of each region.
+const PRICES: Asked<'static> = Asked {
+    columns: &[Attr::CustomerRegion],
+    aggregates: &[Agg::Sum(Measure::ExtendedPrice)],
     ..EVERY_ROW
+};
+
+const HALF: u64 = 4_611_686_018_427_387_904;
+
+/// A row whose price is half of the least sum that passes the limit.
+const DEAR: Fact<'static> = Fact {
+    extendedprice: HALF,
+    discount: 0,
+    ..FIRST_FACT
 };
 
 /// Rows of which all but the first have a key that no row has, each in another dimension.
@@ -193,42 +144,45 @@ const STRANGERS: [Fact<'static>; 5] = [
     },
 ];
 
-/// Plain queries with no average and no order.
-pub static PLAIN: [Example; 5] = [
+/// Plain queries: a count, each measure, conditions, and groups.
+pub static PLAIN: [Example; 4] = [
     SAMPLE,
+    // Each measure.
+    Example {
+        asked: Asked {
+            aggregates: &[
+                Agg::Sum(Measure::Quantity),
+                Agg::Sum(Measure::ExtendedPrice),
+                Agg::Sum(Measure::Revenue),
+                Agg::Sum(Measure::SupplyCost),
+                Agg::Sum(Measure::Discounted),
+                Agg::Sum(Measure::Profit),
+            ],
+            ..EVERY_ROW
+        },
+        lines: Ok("66|3500|3415|2700|8500|715\nrows 1\n"),
+        ..SAMPLE
+    },
     Example {
         asked: DISCOUNTED,
-        lines: "2000|\n",
-        ..SAMPLE
-    },
-    Example {
-        asked: CITIES,
-        lines: "UNITED KI1|UNITED KI5|1997|495|\n",
-        ..SAMPLE
-    },
-    Example {
-        asked: PROFIT,
-        lines: "1997|UNITED ST0|MFGR#142|-60|\n",
+        lines: Ok("2000\nrows 1\n"),
         ..SAMPLE
     },
     Example {
         asked: REGIONS,
-        lines: "AMERICA|1997|1940|-60|-60|\nEUROPE|1993|980|380|380|\nEUROPE|1997|495|395|395|\n",
+        lines: Ok(
+            "AMERICA|1997|1940|-60|-60\nEUROPE|1993|980|380|380\nEUROPE|1997|495|395|395\nrows 3\n",
+        ),
         ..SAMPLE
     },
 ];
 
-/// Answers over no row, over a range of brands, and where the absolute values of a sum add up to its limit.
-pub static BOUNDARIES: [Example; 4] = [
+/// Answers over no row, over a range of texts, and where absolute values add up to the limit of a sum.
+pub static BOUNDARIES: [Example; 3] = [
+    // Over no row an answer has no line.
     Example {
         facts: &[],
-        asked: REGIONS,
-        lines: "",
-        ..SAMPLE
-    },
-    Example {
-        facts: &[],
-        lines: "",
+        lines: Ok("rows 0\n"),
         ..SAMPLE
     },
     // A range goes by bytes, and a text is below those that it begins.
@@ -253,9 +207,9 @@ pub static BOUNDARIES: [Example; 4] = [
             conditions: &[Condition::Between(Attr::PartBrand1, "MFGR#2221", "MFGR#2228")],
             ..EVERY_ROW
         },
-        lines: "MFGR#2221|1|\n",
+        lines: Ok("MFGR#2221|1\nrows 1\n"),
     },
-    // The absolute values add up to the limit.
+    // The absolute values of a sum add up to its limit.
     Example {
         facts: &[
             Fact {
@@ -270,16 +224,17 @@ pub static BOUNDARIES: [Example; 4] = [
             },
         ],
         asked: PROFITS,
-        lines: "1|-4611686018427387903|4611686018427387904|\n",
+        lines: Ok("1|-4611686018427387903|4611686018427387904\nrows 1\n"),
         ..SAMPLE
     },
 ];
 
-/// Averages, in lowest terms.
+/// Averages.
 pub static AVERAGED: [Example; 3] = [
+    // Averages are in lowest terms.
     Example {
         asked: AVERAGES,
-        lines: "22/1|715/3|\n",
+        lines: Ok("22/1|715/3\nrows 1\n"),
         ..SAMPLE
     },
     Example {
@@ -287,7 +242,7 @@ pub static AVERAGED: [Example; 3] = [
             conditions: &[Condition::OneOf(Attr::CustomerRegion, &["AMERICA"])],
             ..AVERAGES
         },
-        lines: "24/1|-60/1|\n",
+        lines: Ok("24/1|-60/1\nrows 1\n"),
         ..SAMPLE
     },
     // A gain and a loss of 5.
@@ -308,17 +263,17 @@ pub static AVERAGED: [Example; 3] = [
             aggregates: &[Agg::Avg(Measure::Profit)],
             ..EVERY_ROW
         },
-        lines: "0/1|\n",
+        lines: Ok("0/1\nrows 1\n"),
         ..SAMPLE
     },
 ];
 
 /// Queries with an order.
-pub static ORDERED: [Example; 3] = [
+pub static ORDERED: [Example; 2] = [
     // The counts tie within 1997, so these lines go by their keys.
     Example {
         asked: BY_YEAR,
-        lines: "EUROPE|1993|1|\nAMERICA|1997|1|\nEUROPE|1997|1|\n",
+        lines: Ok("EUROPE|1993|1\nAMERICA|1997|1\nEUROPE|1997|1\nrows 3\n"),
         ..SAMPLE
     },
     Example {
@@ -326,55 +281,31 @@ pub static ORDERED: [Example; 3] = [
             aggregates: &[Agg::Min(Measure::Profit)],
             ..BY_YEAR
         },
-        lines: "EUROPE|1993|380|\nEUROPE|1997|395|\nAMERICA|1997|-60|\n",
+        lines: Ok("EUROPE|1993|380\nEUROPE|1997|395\nAMERICA|1997|-60\nrows 3\n"),
         ..SAMPLE
-    },
-    Example {
-        star: MORE_CUSTOMERS,
-        facts: &[
-            FIRST_FACT,
-            SECOND_FACT,
-            THIRD_FACT,
-            Fact {
-                custkey: 3,
-                revenue: 496,
-                ..THIRD_FACT
-            },
-        ],
-        asked: Asked {
-            columns: &[Attr::CustomerCity, Attr::SupplierCity, Attr::DateYear],
-            conditions: &[
-                Condition::OneOf(Attr::CustomerCity, &["UNITED KI1", "UNITED KI5"]),
-                Condition::OneOf(Attr::SupplierCity, &["UNITED KI1", "UNITED KI5"]),
-                Condition::Between(Attr::DateYear, "1992", "1997"),
-            ],
-            aggregates: &[Agg::Sum(Measure::Revenue)],
-            order: Some(Order {
-                column: 2,
-                aggregate: 0,
-            }),
-            ..EVERY_ROW
-        },
-        lines: "UNITED KI1|UNITED KI5|1993|980|\nUNITED KI5|UNITED KI5|1997|496|\nUNITED KI1|UNITED KI5|1997|495|\n",
     },
 ];
 
 /// Cubes and rollups.
-pub static COARSER: [Example; 5] = [
+pub static COARSER: [Example; 4] = [
     Example {
         asked: CUBE,
-        lines: "AMERICA|1997|1|1940|1940/1|\nAMERICA|ALL|1|1940|1940/1|\nEUROPE|1993|1|980|980/1|\nEUROPE|1997|1|495|495/1|\nEUROPE|ALL|2|1475|1475/2|\nALL|1993|1|980|980/1|\nALL|1997|2|2435|2435/2|\nALL|ALL|3|3415|3415/3|\n",
+        lines: Ok(
+            "AMERICA|1997|1|1940|1940/1\nAMERICA|ALL|1|1940|1940/1\nEUROPE|1993|1|980|980/1\nEUROPE|1997|1|495|495/1\nEUROPE|ALL|2|1475|1475/2\nALL|1993|1|980|980/1\nALL|1997|2|2435|2435/2\nALL|ALL|3|3415|3415/3\nrows 8\n",
+        ),
         ..SAMPLE
     },
     Example {
         asked: ROLLUP,
-        lines: "1993|199301|980|\n1993|ALL|980|\n1997|199712|2435|\n1997|ALL|2435|\nALL|ALL|3415|\n",
+        lines: Ok(
+            "1993|199301|980\n1993|ALL|980\n1997|199712|2435\n1997|ALL|2435\nALL|ALL|3415\nrows 5\n",
+        ),
         ..SAMPLE
     },
     Example {
         facts: &[],
         asked: CUBE,
-        lines: "",
+        lines: Ok("rows 0\n"),
         ..SAMPLE
     },
     Example {
@@ -384,23 +315,14 @@ pub static COARSER: [Example; 5] = [
         },
         ..SAMPLE
     },
-    Example {
-        asked: Asked {
-            kind: Kind::Rollup,
-            ..BY_REGION
-        },
-        lines: "AMERICA|1|\nEUROPE|2|\nALL|3|\n",
-        ..SAMPLE
-    },
 ];
 
-/// Cubes and rollups whose coarser groups are no sums of finer ones, or reach the limit of a sum, or have
-/// odd texts next to them.
-pub static COARSER_BOUNDARIES: [Example; 4] = [
+/// Cubes and rollups with odd texts, and whose coarser groups are no sums of finer ones or reach the limit of a sum.
+pub static COARSER_BOUNDARIES: [Example; 3] = [
     Example {
         star: ODD_REGIONS,
         asked: BY_REGION,
-        lines: "|2|\nALLIED|1|\nALL|3|\n",
+        lines: Ok("|2\nALLIED|1\nALL|3\nrows 3\n"),
         ..SAMPLE
     },
     // The greatest and the least of a coarser group are those of the finer ones, and not their sums.
@@ -410,7 +332,7 @@ pub static COARSER_BOUNDARIES: [Example; 4] = [
             aggregates: &[Agg::Min(Measure::Profit), Agg::Max(Measure::Profit)],
             ..BY_REGION
         },
-        lines: "AMERICA|-60|-60|\nEUROPE|380|395|\nALL|-60|395|\n",
+        lines: Ok("AMERICA|-60|-60\nEUROPE|380|395\nALL|-60|395\nrows 3\n"),
         ..SAMPLE
     },
     // The sum reaches its limit in each coarser set.
@@ -430,31 +352,19 @@ pub static COARSER_BOUNDARIES: [Example; 4] = [
         asked: Asked {
             kind: Kind::Rollup,
             columns: &[Attr::CustomerRegion, Attr::DateYear],
-            aggregates: &[Agg::Sum(Measure::Revenue), Agg::Sum(Measure::Profit)],
+            aggregates: &[Agg::Sum(Measure::Revenue)],
             ..EVERY_ROW
         },
-        lines: "EUROPE|1993|4611686018427387904|4611686018427387904|\nEUROPE|1997|4611686018427387903|4611686018427387903|\nEUROPE|ALL|9223372036854775807|9223372036854775807|\nALL|ALL|9223372036854775807|9223372036854775807|\n",
-        ..SAMPLE
-    },
-    // The average of all is no average of averages: 1475/2 and 1940 would give 5355/4.
-    Example {
-        asked: Asked {
-            kind: Kind::Rollup,
-            aggregates: &[Agg::Avg(Measure::Revenue)],
-            ..BY_REGION
-        },
-        lines: "AMERICA|1940/1|\nEUROPE|1475/2|\nALL|3415/3|\n",
+        lines: Ok(
+            "EUROPE|1993|4611686018427387904\nEUROPE|1997|4611686018427387903\nEUROPE|ALL|9223372036854775807\nALL|ALL|9223372036854775807\nrows 4\n",
+        ),
         ..SAMPLE
     },
 ];
 
-/// Such queries look at no dimension: rows of unknown keys count as the others do.
-pub static UNKNOWN_KEYS: [Example; 2] = [
-    Example {
-        facts: &STRANGERS,
-        lines: "5|\n",
-        ..SAMPLE
-    },
+/// Rows of unknown keys, and rows whose prices add up to more than the limit.
+pub static AT_LIMITS: [Example; 3] = [
+    // Rows of unknown keys count where a query looks at no dimension.
     Example {
         facts: &STRANGERS,
         asked: Asked {
@@ -462,7 +372,66 @@ pub static UNKNOWN_KEYS: [Example; 2] = [
             aggregates: &[Agg::Count, Agg::Sum(Measure::Quantity)],
             ..EVERY_ROW
         },
-        lines: "2|38|\n",
+        lines: Ok("2|38\nrows 1\n"),
+        ..SAMPLE
+    },
+    // Elsewhere they are refused.
+    Example {
+        facts: &STRANGERS,
+        asked: PRICES,
+        lines: Err(Fault::BadLayout),
+        ..SAMPLE
+    },
+    // So are rows whose prices add up to more than the limit.
+    Example {
+        facts: &[DEAR, DEAR],
+        asked: PRICES,
+        lines: Err(Fault::BadLayout),
+        ..SAMPLE
+    },
+];
+
+/// Queries that are not proper: without an aggregate, with seven columns, with one of them twice, and with a list of no
+/// text.
+pub static IMPROPER: [Example; 4] = [
+    Example {
+        asked: Asked {
+            aggregates: &[],
+            ..EVERY_ROW
+        },
+        lines: Err(Fault::BadQuery),
+        ..SAMPLE
+    },
+    Example {
+        asked: Asked {
+            columns: &[
+                Attr::CustomerCity,
+                Attr::CustomerNation,
+                Attr::CustomerRegion,
+                Attr::SupplierCity,
+                Attr::SupplierNation,
+                Attr::SupplierRegion,
+                Attr::DateYear,
+            ],
+            ..EVERY_ROW
+        },
+        lines: Err(Fault::BadQuery),
+        ..SAMPLE
+    },
+    Example {
+        asked: Asked {
+            columns: &[Attr::DateYear, Attr::DateYear],
+            ..EVERY_ROW
+        },
+        lines: Err(Fault::BadQuery),
+        ..SAMPLE
+    },
+    Example {
+        asked: Asked {
+            conditions: &[Condition::OneOf(Attr::DateYear, &[])],
+            ..EVERY_ROW
+        },
+        lines: Err(Fault::BadQuery),
         ..SAMPLE
     },
 ];

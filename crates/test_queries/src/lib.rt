@@ -1,5 +1,5 @@
-//! Tests of `group_plan`, `cube_query`, `batch_admission` and `ssb_reports`: answers that were worked out by
-//! hand, refusals and limits, the check of a batch, and reports.
+//! Tests of `group_plan`, `cube_query`, `batch_admission`, `ssb_reports` and `report_formats`: answers that were worked
+//! out by hand, refusals and limits, the check of a batch, and reports in each format.
 #![tactic(auto)]
 
 #[cfg(test)]
@@ -7,17 +7,13 @@ mod admission;
 #[cfg(test)]
 mod answers;
 #[cfg(test)]
-mod cells_at_limits;
-#[cfg(test)]
 mod cells_by_hand;
 #[cfg(test)]
 mod examples;
 #[cfg(test)]
-mod one_group;
+mod formats;
 #[cfg(test)]
 mod printing;
-#[cfg(test)]
-mod refusals;
 #[cfg(test)]
 mod reports;
 #[cfg(test)]

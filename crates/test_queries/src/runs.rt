@@ -3,10 +3,10 @@
 ghost use Rattle.std.specs.Prelude.{◌≡◌};
 ghost use Rattle.cube_query.specs.Groups.{IsOver};
 
-use super::printing::has_lines;
-use cube_model::{Agg, Answer, Attr, Fault, LineOrder, Measure, Query};
+use super::printing::{has_lines, report_of};
+use cube_model::{Agg, Attr, Fault, Measure, Query};
 use cube_query::Fold;
-use cuboid_cells::{RunReader, Span};
+use cuboid_cells::{Cells, RunReader, Span};
 use cuboid_upkeep::GrowingCells;
 use dimensions::Dims;
 use group_plan::RowSlice;
@@ -29,47 +29,51 @@ const BY_REGION: Asked<'static> = Asked {
 };
 
 /// Conditions on customers, by whose cities the cells ascend, and the lines of the answer.
-static CASES: [(&[Condition], &str); 7] = [
-    (&[], "EUROPE|20520|20109600|\n"),
-    (
-        &[Condition::OneOf(Attr::CustomerCity, &["\0\0\0\0"])],
-        "EUROPE|513|502740|\n",
-    ),
-    // Cities after one another.
+static CASES: [(&[Condition], &str); 5] = [
+    (&[], "EUROPE|20520|20109600\nrows 1\n"),
+    // Cities after one another, and apart from each other.
     (
         &[Condition::OneOf(Attr::CustomerCity, &["\u{13}\0\0\0", "\u{14}\0\0\0"])],
-        "EUROPE|1026|1005480|\n",
-    ),
-    (
-        &[Condition::OneOf(Attr::CustomerCity, &["\u{27}\0\0\0"])],
-        "EUROPE|513|502740|\n",
+        "EUROPE|1026|1005480\nrows 1\n",
     ),
     (
         &[Condition::OneOf(
             Attr::CustomerCity,
             &["\u{27}\0\0\0", "\0\0\0\0", "\u{13}\0\0\0", "PARIS"],
         )],
-        "EUROPE|1539|1508220|\n",
+        "EUROPE|1539|1508220\nrows 1\n",
     ),
-    (&[Condition::OneOf(Attr::CustomerCity, &["PARIS"])], ""),
+    (
+        &[Condition::OneOf(Attr::CustomerCity, &["PARIS"])],
+        "rows 0\n",
+    ),
     // A brand of each city.
     (
         &[Condition::OneOf(Attr::PartBrand1, &["\u{7}\0\0\0"])],
-        "EUROPE|40|39200|\n",
+        "EUROPE|40|39200\nrows 1\n",
     ),
 ];
 
-/// The run of the cells of rows by city and brand.
-fn run_of(alloc: Global, dims: &Dims, rows: &[LineOrder]) -> Result<Vec<u8>, Fault> {
-    let Some(view) = View::new(51) else {
-        return Err(Fault::BadQuery);
-    };
+fn dims_of_pairs(alloc: Global) -> Result<Dims, Fault> {
+    let rows = rows_of_pairs(alloc)?;
+    Dims::build(alloc, &rows)
+}
+
+/// The cells of the rows in a view.
+fn cells_in(alloc: Global, dims: &Dims, view: View) -> Result<Cells, Fault> {
+    let rows = pairs(alloc, 0, PAIRS)?;
     if rows.len() > MOST {
-        return Err(Fault::BadQuery);
+        return Err(Fault::TooManyRows);
     }
     let mut cells = GrowingCells::new(alloc, dims, view)?;
-    cells.add_rows(alloc, dims, &RowSlice(rows), None)?;
-    let cells = cells.finish(alloc)?;
+    cells.add_rows(alloc, dims, &RowSlice(rows.as_slice()), None)?;
+    cells.finish(alloc)
+}
+
+/// The run of their cells by city and brand.
+fn run_of(alloc: Global, dims: &Dims) -> Result<Vec<u8>, Fault> {
+    let view = View::new(51).ok_or(Fault::BadQuery)?;
+    let cells = cells_in(alloc, dims, view)?;
     cells.encode(alloc, Span { from: 0, to: 1 })
 }
 
@@ -92,71 +96,50 @@ fn count_run<S: Source>(
     fold.add_run(dims, source, &mut run, None)
 }
 
-/// The answer by the cells of a run.
-fn answer_of_run(alloc: Global, dims: &Dims, query: &Query, bytes: &[u8]) -> Result<Answer, Fault> {
-    let mut fold = Fold::new(alloc, dims, query)?;
-    let mut source = SliceSource::new(bytes);
-    count_run(alloc, dims, query, &mut fold, &mut source)?;
-    fold.finish(dims)
-}
-
-/// The answer by the rows.
-fn answer_of_rows(
+/// The report of the answer by the cells of a run.
+fn report_of_run(
     alloc: Global,
     dims: &Dims,
     query: &Query,
-    rows: &[LineOrder],
-) -> Result<Answer, Fault> {
+    bytes: &[u8],
+) -> Result<Vec<u8>, Fault> {
     let mut fold = Fold::new(alloc, dims, query)?;
-    fold.add_rows(dims, rows)?;
-    fold.finish(dims)
+    let mut source = SliceSource::new(bytes);
+    count_run(alloc, dims, query, &mut fold, &mut source)?;
+    let answer = fold.finish(dims)?;
+    report_of(alloc, query, &answer)
 }
 
-/// Whether a run and its rows give the same answer, which is the one that was worked out.
-fn are_as_worked(
+/// Whether the cells of a run that have their rows under conditions come to these lines.
+fn is_as_worked(
     alloc: Global,
     dims: &Dims,
-    conditions: &[Condition],
-    rows: &[LineOrder],
     bytes: &[u8],
+    conditions: &[Condition<'_>],
     lines: &str,
 ) -> Result<bool, Fault> {
-    let query = query(
-        alloc,
-        &Asked {
-            conditions,
-            ..BY_REGION
-        },
-    )?;
-    let of_run = answer_of_run(alloc, dims, &query, bytes)?;
-    let of_rows = answer_of_rows(alloc, dims, &query, rows)?;
-    Ok(has_lines(alloc, &of_run, lines)? && has_lines(alloc, &of_rows, lines)?)
+    let asked = Asked {
+        conditions,
+        ..BY_REGION
+    };
+    let query = query(alloc, &asked)?;
+    let report = report_of_run(alloc, dims, &query, bytes)?;
+    Ok(has_lines(report.as_slice(), lines))
 }
 
-/// The lines of the first case in which they are not.
-fn first_wrong_over(
-    alloc: Global,
-    dims: &Dims,
-    rows: &[LineOrder],
-    bytes: &[u8],
-) -> Result<Option<&'static str>, Fault> {
+/// The first case in which they do not.
+fn first_other(alloc: Global) -> Result<Option<&'static str>, Fault> {
+    let dims = dims_of_pairs(alloc)?;
+    let bytes = run_of(alloc, &dims)?;
     for (conditions, lines) in &CASES {
-        if !are_as_worked(alloc, dims, conditions, rows, bytes, lines)? {
+        if !is_as_worked(alloc, &dims, bytes.as_slice(), conditions, lines)? {
             return Ok(Some(*lines));
         }
     }
     Ok(None)
 }
 
-fn first_wrong(alloc: Global) -> Result<Option<&'static str>, Fault> {
-    let rows = rows_of_pairs(alloc)?;
-    let dims = Dims::build(alloc, &rows)?;
-    let rows = pairs(alloc, 0, PAIRS)?;
-    let bytes = run_of(alloc, &dims, rows.as_slice())?;
-    first_wrong_over(alloc, &dims, rows.as_slice(), bytes.as_slice())
-}
-
 #[test]
-fn runs_answer_as_their_rows(rt: HostRuntime) {
-    assert_eq!(rt; first_wrong(rt.alloc()), Ok(None));
+fn runs_answer_as_worked(rt: HostRuntime) {
+    assert!(rt; first_other(rt.alloc()) == Ok(None));
 }

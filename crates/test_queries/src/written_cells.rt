@@ -3,14 +3,14 @@
 use cube_model::Fault;
 use cuboid_cells::Cells;
 use lattice::View;
-use sample_star::{Asked, FACTS, FIRST_FACT, Fact};
+use sample_star::{Asked, Fact};
 use std::alloc::Global;
 
 /// The code on an axis that a view does not group.
 pub const ALL: u16 = 65_535;
 
 /// What is kept of some rows: the sum of each measure, its least number and its greatest.
-#[derive(Clone, Copy, Debug)]
+#[derive(Clone, Copy)]
 pub struct Kept {
     pub quantity: [i64; 3],
     pub extendedprice: [i64; 3],
@@ -21,26 +21,24 @@ pub struct Kept {
 }
 
 /// A cell by hand: the codes of a customer, a supplier, a part, a day and a ship mode, and how many rows it represents.
-#[derive(Clone, Copy, Debug)]
+#[derive(Clone, Copy)]
 pub struct Written {
     pub codes: [u16; 5],
     pub count: u64,
     pub kept: Kept,
 }
 
-/// Cells of a view that are offered to a fold, the rows that they represent, whether the modes of the sample rows
-/// are given with them, and whether the fold takes them. Those that it refuses represent rows that are not given.
-#[derive(Clone, Copy, Debug)]
+/// Cells of a view that are offered to a fold, whether the modes of the sample rows are given with them, and whether
+/// the fold takes them.
+#[derive(Clone, Copy)]
 pub struct Offer {
     pub view: u16,
     pub cells: &'static [Written],
-    pub rows: &'static [Fact<'static>],
     pub with_modes: bool,
     pub is_taken: bool,
 }
 
 /// A query, rows that are counted in first, cells that are offered then, and the lines of the answer.
-#[derive(Clone, Copy, Debug)]
 pub struct Case {
     pub asked: Asked<'static>,
     pub before: &'static [Fact<'static>],
@@ -110,7 +108,6 @@ pub const THIRD_ALONE: Written = Written {
 pub const NONE: Offer = Offer {
     view: 248,
     cells: &[],
-    rows: &[],
     with_modes: false,
     is_taken: true,
 };
@@ -118,13 +115,11 @@ pub const NONE: Offer = Offer {
 /// The sample rows by manufacturer and day.
 pub const SAMPLE: Offer = Offer {
     cells: &[FIRST_DAY, SECOND_DAY],
-    rows: &FACTS,
     ..NONE
 };
 
 pub const FIRST_ALONE: Offer = Offer {
     cells: &[FIRST_DAY],
-    rows: &[FIRST_FACT],
     ..NONE
 };
 
@@ -159,20 +154,20 @@ fn push_cell(out: &mut Vec<u8>, codes: usize, cell: &Written) -> Result<(), Faul
     push_kept(out, &cell.kept)
 }
 
-// The run of cells over the first batch. Those of a view that groups by ship mode have a fifth code.
-fn run(alloc: Global, offer: &Offer) -> Result<Vec<u8>, Fault> {
+// Adds the run of cells over the first batch. Those of a view that groups by ship mode have a fifth code.
+fn push_run(out: &mut Vec<u8>, offer: &Offer) -> Result<(), Fault> {
     let is_by_mode = offer.view >= 256;
     let name: &[u8] = if is_by_mode { b"CEL2" } else { b"CEL1" };
     let codes = if is_by_mode { 5 } else { 4 };
     let count = u32::try_from(offer.cells.len()).unwrap_or(0);
-    let mut out = Vec::from_slice(alloc, name)?;
+    out.extend_from_slice(name)?;
     for number in [u32::from(offer.view), 0, 1, count] {
         out.extend_from_slice(&number.to_le_bytes())?;
     }
     for cell in offer.cells {
-        push_cell(&mut out, codes, cell)?;
+        push_cell(out, codes, cell)?;
     }
-    Ok(out)
+    Ok(())
 }
 
 fn no_cells(alloc: Global, index: u16) -> Result<Cells, Fault> {
@@ -187,7 +182,8 @@ pub fn cells_of(alloc: Global, offer: &Offer) -> Result<Cells, Fault> {
     if offer.cells.is_empty() {
         return no_cells(alloc, offer.view);
     }
-    let bytes = run(alloc, offer)?;
-    let (_, cells) = Cells::decode(alloc, &bytes)?;
+    let mut bytes = Vec::new(alloc);
+    push_run(&mut bytes, offer)?;
+    let (_, cells) = Cells::decode(alloc, bytes.as_slice())?;
     Ok(cells)
 }

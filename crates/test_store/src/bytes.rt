@@ -55,13 +55,9 @@ pub(crate) fn get_four<D: Sectors>(
     if disk.count() < 4 || first > disk.count() - 4 {
         return Err(DeviceError);
     }
-    let mut bytes = [0; 2048];
-    disk.read_run(first, &mut bytes)?;
-    let (sectors, _) = bytes.as_chunks::<512>();
-    match sectors {
-        [one, two, three, four] => Ok([only(one), only(two), only(three), only(four)]),
-        _ => Err(DeviceError),
-    }
+    let mut sectors = [[0; 512]; 4];
+    disk.read_run(first, sectors.as_flattened_mut())?;
+    Ok(sectors.map(|sector| only(&sector)))
 }
 
 /// The same, read one by one.
@@ -69,15 +65,9 @@ pub(crate) fn get_each<D: Sectors>(
     disk: &mut D,
     first: u32,
 ) -> Result<[Option<u8>; 4], DeviceError> {
-    if first > u32::MAX - 3 {
-        return Err(DeviceError);
+    let mut found = [None; 4];
+    for (byte, i) in found.iter_mut().zip(first..u32::MAX) {
+        *byte = get(disk, i)?;
     }
-    let one = get(disk, first)?;
-    let two = get(disk, first + 1)?;
-    Ok([one, two, get(disk, first + 2)?, get(disk, first + 3)?])
-}
-
-/// The bytes of the first three sectors.
-pub(crate) fn first_three<D: Sectors>(disk: &mut D) -> Result<[Option<u8>; 3], DeviceError> {
-    Ok([get(disk, 0)?, get(disk, 1)?, get(disk, 2)?])
+    Ok(found)
 }

@@ -68,17 +68,14 @@ fn refused_and_left(
 
 #[test]
 fn leaves_the_old_or_the_new_object(rt: HostRuntime) {
-    for (calls, picks, object) in &CRASHES {
+    for (place, (calls, picks, object)) in CRASHES.iter().enumerate() {
         let refused = if *calls < 5 {
             Some(Fault::Device)
         } else {
             None
         };
         let found = refused_and_left(rt.alloc(), *calls, picks);
-        assert!(rt;
-            found == Ok((refused, *object)),
-            "after {calls} at {picks:?}"
-        );
+        assert!(rt; found == Ok((refused, *object)), "crash {place}");
     }
 }
 

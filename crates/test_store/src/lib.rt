@@ -1,6 +1,6 @@
-//! Tests of `sector_device`, `sector_cache` and `file_device`: the memory disk, the cache, and the device over a file.
-//! And of `superblock`, `extents` and `object_store`: bytes written down by hand, where the store puts what, crashes at
-//! each call, hostile images, and each refusal.
+//! Tests of `sector_cache` and `file_device`: what the cache reads of its device, and the device over a file. And of
+//! `superblock`, `extents` and `object_store`: bytes written down by hand, where the store puts what, and crashes at
+//! each call.
 #![tactic(auto)]
 
 #[cfg(test)]
@@ -16,23 +16,15 @@ mod fake_file;
 #[cfg(test)]
 mod file;
 #[cfg(test)]
-mod folders;
-#[cfg(test)]
 mod free_sectors;
-#[cfg(test)]
-mod hostile;
 #[cfg(test)]
 mod locks;
 #[cfg(test)]
 mod many;
 #[cfg(test)]
-mod memory;
-#[cfg(test)]
 mod places;
 #[cfg(test)]
-mod planted;
-#[cfg(test)]
-mod refusals;
+mod removal;
 #[cfg(test)]
 mod runs;
 #[cfg(test)]

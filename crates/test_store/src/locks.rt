@@ -1,6 +1,6 @@
 //! Which programs may have a file open at once, and what a device does that is only read.
 use crate::bytes::{get, put};
-use crate::folders::fresh;
+use crate::removal::remove;
 use file_device::{Existing, FileDisk, Host, OpenError, Unread};
 use sector_device::Sectors;
 use std::fs::{self, File};
@@ -51,8 +51,9 @@ fn tries(rt: &HostRuntime, path: &str) -> [Outcome; 3] {
     [opened, read, making(rt, path, Existing::Any).0]
 }
 
-// The tries while a device has the file open to write, while one has it open to read, and after.
-fn excluded(rt: &HostRuntime, path: &str) -> Result<[[Outcome; 3]; 3], Fail> {
+// The tries while a device has a new file open to write, while one has it open to read, and after.
+fn excluded(rt: &HostRuntime, path: &str) -> Result<[[Outcome; 3]; 3], OpenError> {
+    remove(rt, path);
     let during_a_write = {
         let _held = Disk::make(rt, path, 64, Existing::Blank)?;
         tries(rt, path)
@@ -64,22 +65,22 @@ fn excluded(rt: &HostRuntime, path: &str) -> Result<[[Outcome; 3]; 3], Fail> {
     Ok([during_a_write, during_a_read, tries(rt, path)])
 }
 
+static EXCLUDED: [[Outcome; 3]; 3] = [
+    [Outcome::Locked, Outcome::Locked, Outcome::Locked],
+    [Outcome::Locked, Outcome::Opened, Outcome::Locked],
+    [Outcome::Opened, Outcome::Opened, Outcome::Opened],
+];
+
 #[test]
 fn has_one_writer_or_some_readers(rt: HostRuntime) -> Result<(), Fail> {
-    fresh(&rt, "locks")?;
-    assert!(rt;
-        excluded(&rt, "locks/disk")?
-            == [
-                [Outcome::Locked, Outcome::Locked, Outcome::Locked],
-                [Outcome::Locked, Outcome::Opened, Outcome::Locked],
-                [Outcome::Opened, Outcome::Opened, Outcome::Opened]
-            ]
-    );
-    Ok(fs::remove_dir_all(&rt, "locks")?)
+    assert!(rt; excluded(&rt, "locked.disk")? == EXCLUDED);
+    remove(&rt, "locked.disk");
+    Ok(())
 }
 
-// A file whose first sector, or second, or third, is not all zero.
+// A new file of which one sector is not all zero.
 fn marked(rt: &HostRuntime, path: &str, sector: u32) -> Result<(), Fail> {
+    remove(rt, path);
     let mut disk = Disk::make(rt, path, 64, Existing::Any)?.disk;
     put(&mut disk, sector, 7)?;
     disk.sync()?;
@@ -90,9 +91,7 @@ fn marked(rt: &HostRuntime, path: &str, sector: u32) -> Result<(), Fail> {
 fn over(rt: &HostRuntime, path: &str, sector: u32) -> Result<[(Outcome, bool); 2], Fail> {
     marked(rt, path, sector)?;
     let blank = making(rt, path, Existing::Blank);
-    let any = making(rt, path, Existing::Any);
-    fs::remove_file(rt, path)?;
-    Ok([blank, any])
+    Ok([blank, making(rt, path, Existing::Any)])
 }
 
 static OVER: [(u32, Outcome); 3] = [
@@ -103,32 +102,30 @@ static OVER: [(u32, Outcome); 3] = [
 
 #[test]
 fn makes_over_two_sectors_of_zeros_alone(rt: HostRuntime) -> Result<(), Fail> {
-    fresh(&rt, "over")?;
     for (sector, blank) in &OVER {
         assert!(rt;
-            over(&rt, "over/disk", *sector)? == [(*blank, false), (Outcome::Opened, false)],
+            over(&rt, "over.disk", *sector)? == [(*blank, false), (Outcome::Opened, false)],
             "sector {sector}"
         );
     }
-    assert!(rt; making(&rt, "over/disk", Existing::Blank) == (Outcome::Opened, true));
-    Ok(fs::remove_dir_all(&rt, "over")?)
+    remove(&rt, "over.disk");
+    assert!(rt; making(&rt, "over.disk", Existing::Blank) == (Outcome::Opened, true));
+    remove(&rt, "over.disk");
+    Ok(())
 }
 
 #[test]
-fn opens_regular_files_alone(rt: HostRuntime) -> Result<(), Fail> {
-    fresh(&rt, "kinds")?;
-    for path in ["kinds", "/dev/null"] {
+fn opens_regular_files_alone(rt: HostRuntime) {
+    for path in [".", "/dev/null"] {
         assert!(rt; tries(&rt, path) == [Outcome::NotRegular; 3], "{path}");
     }
-    Ok(fs::remove_dir_all(&rt, "kinds")?)
 }
 
 // What a device that is only read gives of a sector, whether a sync, a write and a read after it succeed, and the
 // failures.
-fn read_only(rt: &HostRuntime, path: &str) -> Result<(Option<u8>, [bool; 3], u64), Fail> {
-    marked(rt, path, 5)?;
+fn read_only(rt: &HostRuntime, path: &str) -> Result<(Option<u8>, [bool; 3], u64), OpenError> {
     let mut disk = Disk::open_to_read(rt, path)?;
-    let byte = get(&mut disk, 5)?;
+    let byte = get(&mut disk, 5).unwrap_or(None);
     let sync = disk.sync().is_ok();
     let write = put(&mut disk, 5, 8).is_ok();
     let read = get(&mut disk, 5).is_ok();
@@ -136,15 +133,17 @@ fn read_only(rt: &HostRuntime, path: &str) -> Result<(Option<u8>, [bool; 3], u64
 }
 
 // What the sector gives to a device that may be written.
-fn kept(rt: &HostRuntime, path: &str) -> Result<Option<u8>, Fail> {
-    let mut disk = Disk::open(rt, path)?;
-    Ok(get(&mut disk, 5)?)
+fn kept(rt: &HostRuntime, path: &str) -> Option<u8> {
+    let mut disk = Disk::open(rt, path).ok()?;
+    get(&mut disk, 5).unwrap_or(None)
 }
 
 #[test]
 fn refuses_writes_where_it_only_reads(rt: HostRuntime) -> Result<(), Fail> {
-    fresh(&rt, "reads")?;
-    assert!(rt; read_only(&rt, "reads/disk")? == (Some(7), [true, false, false], 2));
-    assert!(rt; kept(&rt, "reads/disk")? == Some(7));
-    Ok(fs::remove_dir_all(&rt, "reads")?)
+    marked(&rt, "read.disk", 5)?;
+    let found = read_only(&rt, "read.disk")?;
+    let kept = kept(&rt, "read.disk");
+    remove(&rt, "read.disk");
+    assert!(rt; (found, kept) == ((Some(7), [true, false, false], 2), Some(7)));
+    Ok(())
 }

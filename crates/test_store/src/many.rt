@@ -1,25 +1,51 @@
 // As many objects as there may be.
-use crate::planted::{CATALOGUE, catalogue, write};
 use crate::steps::opened;
 use cube_model::Fault;
-use sector_device::MemDisk;
+use object_store::catalogue::{self, Entry};
+use sector_device::{MemDisk, Sectors};
 use std::alloc::Global;
 use superblock::{Super, encode};
 
+// The sectors of the device, and the first of the catalogue.
 const SECTORS: u32 = 70_000;
 
-// The ids, sectors and lengths of so many objects of one byte each.
-fn objects(alloc: Global, count: u32) -> Result<Vec<(u32, u32, u64)>, Fault> {
+const CATALOGUE: u32 = 10;
+
+// So many objects of one byte each.
+fn objects(alloc: Global, count: u32) -> Result<Vec<Entry>, Fault> {
     let mut list = Vec::new(alloc);
     for id in 0..count {
-        list.push((id, id.saturating_add(3_000), 1u64))?;
+        list.push(Entry {
+            id,
+            first: id.saturating_add(3_000),
+            bytes: 1,
+        })?;
     }
     Ok(list)
 }
 
-// Writes them, and the superblock of their catalogue.
+// Writes bytes from a sector on.
+fn write(disk: &mut MemDisk, first: u32, bytes: &[u8]) -> Result<(), Fault> {
+    let mut i = u64::from(first);
+    for part in bytes.chunks(512) {
+        let mut sector = [0; 512];
+        let n = part.len().min(512);
+        sector[..n].copy_from_slice(&part[..n]);
+        if i >= u64::from(disk.count()) || disk.write(i as u32, &sector).is_err() {
+            return Err(Fault::Device);
+        }
+        i = i.saturating_add(1);
+    }
+    Ok(())
+}
+
+// Writes a catalogue of so many objects, and its superblock.
 fn plant(alloc: Global, disk: &mut MemDisk, count: u32) -> Result<(), Fault> {
-    let bytes = catalogue(alloc, &objects(alloc, count)?)?;
+    let objects = objects(alloc, count)?;
+    if objects.len() > 1_000_000 {
+        return Err(Fault::BadLayout);
+    }
+    let bytes = catalogue::encode(alloc, &objects, b"root")?;
     let said = Super {
         layout: 1,
         sectors: SECTORS,
@@ -50,6 +76,6 @@ static COUNTS: [(u32, u64, Option<u64>); 3] = [
 #[test]
 fn opens_as_many_as_there_may_be(rt: HostRuntime) {
     for row in &COUNTS {
-        assert!(rt; found(rt.alloc(), row.0) == Ok(*row), "{row:?}");
+        assert!(rt; found(rt.alloc(), row.0) == Ok(*row), "{} objects", row.0);
     }
 }

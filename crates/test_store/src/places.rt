@@ -76,17 +76,6 @@ fn takes_the_first_fits(rt: HostRuntime) {
     }
 }
 
-// The catalogue of object 1 of five bytes in sector 2, with an empty root.
-const CATALOGUE: [u8; 28] = [
-    0x43, 0x41, 0x54, 0x31, 1, 0, 0, 0, 0, 0, 0, 0, 1, 0, 0, 0, 2, 0, 0, 0, 5, 0, 0, 0, 0, 0, 0, 0,
-];
-
-#[test]
-fn spells_the_catalogue(rt: HostRuntime) {
-    let found = sectors(rt.alloc(), 0, 3, 0);
-    assert!(rt; found == Ok([Ok(padded(&CATALOGUE)), Ok([0; 512])]));
-}
-
 // A place, a number of bytes, and whether an object of 1,025 bytes has them, with the sectors that are read.
 static RANGES: [(u64, usize, bool, u64); 7] = [
     (511, 2, true, 2),

@@ -64,12 +64,12 @@ fn reading(piece: usize, bad: u64, first: u32, at_once: bool) -> OfRead {
 
 #[test]
 fn reads_a_run_in_one_call(rt: HostRuntime) {
-    for row in &READINGS {
+    for (place, row) in READINGS.iter().enumerate() {
         let (piece, bad, first, at_once, bytes, failures, calls) = *row;
         let sectors = bytes.map(|four| four.map(|byte| Some(byte)));
         assert!(rt;
             reading(piece, bad, first, at_once) == (sectors, failures, calls),
-            "{row:?}"
+            "row {place}"
         );
     }
 }

@@ -1,53 +1,42 @@
 //! The rows of the four dimensions.
 use batch_loader::{Lines, read_customers, read_dates, read_parts, read_suppliers};
 use cube_model::{CustomerRow, DateRow, DimRows, Fault, Items, PartRow, SupplierRow};
-use sample_star::{STAR, TABLES, Tables, dim_rows, in_sevens};
+use sample_star::{STAR, TABLES, dim_rows, in_sevens};
 use std::alloc::Global;
-use std::test::Fail;
 
-fn customers_of(alloc: Global, text: &[u8]) -> Result<Items<CustomerRow>, Fault> {
-    let mut lines = Lines::new(alloc, in_sevens(text))?;
+fn customers(alloc: Global) -> Result<Items<CustomerRow>, Fault> {
+    let mut lines = Lines::new(alloc, in_sevens(TABLES.customer))?;
     read_customers(alloc, &mut lines)
 }
 
-fn suppliers_of(alloc: Global, text: &[u8]) -> Result<Items<SupplierRow>, Fault> {
-    let mut lines = Lines::new(alloc, in_sevens(text))?;
+fn suppliers(alloc: Global) -> Result<Items<SupplierRow>, Fault> {
+    let mut lines = Lines::new(alloc, in_sevens(TABLES.supplier))?;
     read_suppliers(alloc, &mut lines)
 }
 
-fn parts_of(alloc: Global, text: &[u8]) -> Result<Items<PartRow>, Fault> {
-    let mut lines = Lines::new(alloc, in_sevens(text))?;
+fn parts(alloc: Global) -> Result<Items<PartRow>, Fault> {
+    let mut lines = Lines::new(alloc, in_sevens(TABLES.part))?;
     read_parts(alloc, &mut lines)
 }
 
-fn dates_of(alloc: Global, text: &[u8]) -> Result<Items<DateRow>, Fault> {
-    let mut lines = Lines::new(alloc, in_sevens(text))?;
+fn dates(alloc: Global) -> Result<Items<DateRow>, Fault> {
+    let mut lines = Lines::new(alloc, in_sevens(TABLES.date))?;
     read_dates(alloc, &mut lines)
 }
 
-/// The rows of four texts.
-fn rows_of(alloc: Global, tables: &Tables<'_>) -> Result<DimRows, Fault> {
+/// The rows of the sample tables.
+fn rows(alloc: Global) -> Result<DimRows, Fault> {
     Ok(DimRows {
-        customers: customers_of(alloc, tables.customer)?,
-        suppliers: suppliers_of(alloc, tables.supplier)?,
-        parts: parts_of(alloc, tables.part)?,
-        dates: dates_of(alloc, tables.date)?,
+        customers: customers(alloc)?,
+        suppliers: suppliers(alloc)?,
+        parts: parts(alloc)?,
+        dates: dates(alloc)?,
     })
 }
 
-/// Whether the sample tables have the sample rows.
-fn are_read(alloc: Global) -> Result<bool, Fault> {
-    let rows = rows_of(alloc, &TABLES)?;
-    are_of_the_star(alloc, &rows)
-}
-
-/// Whether rows are the sample rows.
-fn are_of_the_star(alloc: Global, rows: &DimRows) -> Result<bool, Fault> {
-    Ok(*rows == dim_rows(alloc, &STAR)?)
-}
-
 #[test]
-fn sample_tables_are_read(rt: HostRuntime) -> Result<(), Fail> {
-    assert!(rt; are_read(rt.alloc())?);
-    Ok(())
+fn sample_tables_are_read(rt: HostRuntime) {
+    let want = dim_rows(rt.alloc(), &STAR);
+    assert!(rt; want.is_ok());
+    assert!(rt; rows(rt.alloc()) == want);
 }

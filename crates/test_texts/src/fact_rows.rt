@@ -1,17 +1,31 @@
 //! Fact rows and the lines that spell them.
-use crate::joined::{FRONT, LONGEST_TEXT, ROW, ZEROS, joined};
-use crate::outcomes::has_rows;
 use batch_loader::{Lines, read_batch};
-use cube_model::{Fault, LineOrder};
-use sample_star::{FACTS, FIRST_FACT, Fact, Pieces, TABLES, in_sevens, line_orders, whole};
+use cube_model::{Fault, Items, LineOrder, Place};
+use sample_star::{FACTS, FIRST_FACT, Fact, Pieces, byte_by_byte, in_sevens, line_orders, whole};
 use std::alloc::Global;
-use std::test::Fail;
 
-/// A text in parts, and its rows.
-struct Spelled {
+/// A text in parts, and its rows or why it is refused.
+struct Case {
     parts: &'static [&'static [u8]],
-    rows: &'static [Fact<'static>],
+    outcome: Result<&'static [Fact<'static>], Fault>,
 }
+
+/// The first sample row, without its last bar and line feed.
+const ROW: &[u8] = b"1|1|1|1|1|19930105|1-URGENT|0|17|1000|1000|2|980|600|0|19930201|AIR";
+
+/// The same without its ship mode.
+const FRONT: &[u8] = b"1|1|1|1|1|19930105|1-URGENT|0|17|1000|1000|2|980|600|0|19930201|";
+
+/// What comes in front of its quantity, and a digit of that with what comes after it: 67 bytes of a line.
+const QUANTITY_FRONT: &[u8] = b"1|1|1|1|1|19930105|1-URGENT|0|";
+
+const QUANTITY_BACK: &[u8] = b"5|1000|1000|2|980|600|0|19930201|AIR|\n";
+
+/// As many bytes as a text may have.
+const LONGEST_TEXT: &[u8] = &[b'y'; 255];
+
+/// Digits that change no number.
+const ZEROS: &[u8] = &[b'0'; 8_125];
 
 const EIGHT_DIGITS: Fact<'static> = Fact {
     orderkey: 12_345_678,
@@ -55,156 +69,176 @@ const SHORTEST: Fact<'static> = Fact {
 };
 
 /// As many characters as a text may have.
-const LONGEST: &str =
-    "yyyyyyyyyyyyyyyyyyyyyyyyyyyyyyyyyyyyyyyyyyyyyyyyyyyyyyyyyyyyyyyyyyyyyyyyyyyyyyyyyyyyyyyyyyyyyyyyyyyyyyyyyyyyyyyyyyyyyyyyyyyyyyyyyyyyyyyyyyyyyyyyyyyyyyyyyyyyyyyyyyyyyyyyyyyyyyyyyyyyyyyyyyyyyyyyyyyyyyyyyyyyyyyyyyyyyyyyyyyyyyyyyyyyyyyyyyyyyyyyyyyyyyyyyyyyyyy";
+const LONGEST: &str = "\
+yyyyyyyyyyyyyyyyyyyyyyyyyyyyyyyyyyyyyyyyyyyyyyyyyyy\
+yyyyyyyyyyyyyyyyyyyyyyyyyyyyyyyyyyyyyyyyyyyyyyyyyyy\
+yyyyyyyyyyyyyyyyyyyyyyyyyyyyyyyyyyyyyyyyyyyyyyyyyyy\
+yyyyyyyyyyyyyyyyyyyyyyyyyyyyyyyyyyyyyyyyyyyyyyyyyyy\
+yyyyyyyyyyyyyyyyyyyyyyyyyyyyyyyyyyyyyyyyyyyyyyyyyyy";
 
-static SPELLED: [Spelled; 14] = [
-    Spelled {
+static CASES: [Case; 22] = [
+    Case {
         parts: &[],
-        rows: &[],
+        outcome: Ok(&[]),
     },
-    Spelled {
+    Case {
         parts: &[ROW, b"|\n"],
-        rows: &[FIRST_FACT],
+        outcome: Ok(&[FIRST_FACT]),
     },
-    Spelled {
+    Case {
         parts: &[ROW, b"\n"],
-        rows: &[FIRST_FACT],
+        outcome: Ok(&[FIRST_FACT]),
     },
-    Spelled {
+    Case {
         parts: &[ROW, b"|\r\n"],
-        rows: &[FIRST_FACT],
+        outcome: Ok(&[FIRST_FACT]),
     },
-    Spelled {
+    Case {
         parts: &[ROW, b"\r\n"],
-        rows: &[FIRST_FACT],
+        outcome: Ok(&[FIRST_FACT]),
     },
-    Spelled {
+    Case {
         parts: &[ROW, b"|"],
-        rows: &[FIRST_FACT],
+        outcome: Ok(&[FIRST_FACT]),
     },
-    Spelled {
+    Case {
         parts: &[ROW],
-        rows: &[FIRST_FACT],
+        outcome: Ok(&[FIRST_FACT]),
     },
-    Spelled {
+    Case {
         parts: &[FRONT, b"\n"],
-        rows: &[Fact {
+        outcome: Ok(&[Fact {
             shipmode: "",
             ..FIRST_FACT
-        }],
+        }]),
     },
-    Spelled {
+    Case {
         parts: &[FRONT, LONGEST_TEXT, b"|\n"],
-        rows: &[Fact {
+        outcome: Ok(&[Fact {
             shipmode: LONGEST,
             ..FIRST_FACT
-        }],
+        }]),
     },
-    Spelled {
+    Case {
         parts: &[FRONT, b"SHIP \r|\n"],
-        rows: &[Fact {
+        outcome: Ok(&[Fact {
             shipmode: "SHIP \r",
             ..FIRST_FACT
-        }],
+        }]),
     },
-    Spelled {
+    Case {
         parts: &[
-            b"1|1|1|1|1|19930105|1-URGENT|0|",
-            ZEROS,
-            b"5|1000|1000|2|980|600|0|19930201|AIR|\n",
+            b"12345678|1|99999999|10000000|87654321|19930105|1-URGENT|0|17|",
+            b"123456789|1000|2|1234567|100200|00000000|19930201|AIR|\n",
         ],
-        rows: &[Fact {
+        outcome: Ok(&[EIGHT_DIGITS]),
+    },
+    Case {
+        parts: &[
+            b"9223372036854775807|4294967295|1|1|1|4294967295|1-URGENT|0|255|",
+            b"1000|9223372036854775807|2|980|600|255|19930201|AIR|\n",
+        ],
+        outcome: Ok(&[GREATEST]),
+    },
+    Case {
+        parts: &[b"0|1|2|3|4|5|||6|7|8|9|10|11|12||\n"],
+        outcome: Ok(&[SHORTEST]),
+    },
+    Case {
+        parts: &[
+            ROW,
+            b"|\n2|1|2|2|2|19971202|5-LOW|0|24|2000|2000|3|1940|2000|0|19980101|RAIL|\n",
+            b"3|1|1|2|1|19971202|5-LOW|0|25|500|500|1|495|100|0|19980101|AIR|\n",
+        ],
+        outcome: Ok(&FACTS),
+    },
+    // A line of 8,192 bytes, and one of 8,193.
+    Case {
+        parts: &[QUANTITY_FRONT, ZEROS, QUANTITY_BACK],
+        outcome: Ok(&[Fact {
             quantity: 5,
             ..FIRST_FACT
-        }],
+        }]),
     },
-    Spelled {
-        parts: &[
-            b"12345678|1|99999999|10000000|87654321|19930105|1-URGENT|0|17|123456789|1000|2|1234567|100200|00000000|19930201|AIR|\n",
-        ],
-        rows: &[EIGHT_DIGITS],
+    Case {
+        parts: &[QUANTITY_FRONT, b"0", ZEROS, QUANTITY_BACK],
+        outcome: Err(Fault::FieldTooLong {
+            place: Place::Line(1),
+            field: 0,
+        }),
     },
-    Spelled {
-        parts: &[
-            b"9223372036854775807|4294967295|1|1|1|4294967295|1-URGENT|0|255|1000|9223372036854775807|2|980|600|255|19930201|AIR|\n",
-        ],
-        rows: &[GREATEST],
+    Case {
+        parts: &[FRONT, LONGEST_TEXT, b"y|\n"],
+        outcome: Err(Fault::FieldTooLong {
+            place: Place::Line(1),
+            field: 17,
+        }),
     },
-    Spelled {
-        parts: &[b"0|1|2|3|4|5|||6|7|8|9|10|11|12||\n"],
-        rows: &[SHORTEST],
+    Case {
+        parts: &[QUANTITY_FRONT, b"25", QUANTITY_BACK],
+        outcome: Ok(&[Fact {
+            quantity: 255,
+            ..FIRST_FACT
+        }]),
+    },
+    Case {
+        parts: &[ROW, b"|\n", QUANTITY_FRONT, b"+", QUANTITY_BACK],
+        outcome: Err(Fault::BadNumber { line: 2, field: 9 }),
+    },
+    Case {
+        parts: &[b"9223372036854775808|4294967296|1|1|1|1|||1|1|1|1|1|1|1|||\n"],
+        outcome: Err(Fault::BadNumber { line: 1, field: 1 }),
+    },
+    Case {
+        parts: &[ROW, b"||\n"],
+        outcome: Err(Fault::FieldCount { line: 1 }),
+    },
+    Case {
+        parts: &[ROW, b"\n1|\n", ROW],
+        outcome: Err(Fault::FieldCount { line: 2 }),
     },
 ];
 
-/// Whether the parts spell the rows.
-fn is_spelled(alloc: Global, case: &Spelled) -> Result<bool, Fault> {
-    let text = joined(alloc, case.parts)?;
-    let want = line_orders(alloc, case.rows)?;
-    has_rows(alloc, text.as_slice(), want.as_slice())
-}
-
-#[test]
-fn lines_spell_rows(rt: HostRuntime) -> Result<(), Fail> {
-    for (place, case) in SPELLED.iter().enumerate() {
-        assert!(rt; is_spelled(rt.alloc(), case)?, "text {place}");
+/// Parts put one after the other.
+fn joined(alloc: Global, parts: &[&[u8]]) -> Result<Vec<u8>, Fault> {
+    let mut text = Vec::new(alloc);
+    for part in parts {
+        text.extend_from_slice(part)?;
     }
-    Ok(())
+    Ok(text)
 }
 
-#[test]
-fn the_sample_text_is_read(rt: HostRuntime) -> Result<(), Fail> {
-    let want = line_orders(rt.alloc(), &FACTS)?;
-    assert!(rt; has_rows(rt.alloc(), TABLES.lineorder, want.as_slice())?);
-    Ok(())
+/// All fact rows of what a reader gives.
+fn rows_in(alloc: Global, reader: Pieces<'_>) -> Result<Items<LineOrder>, Fault> {
+    let mut lines = Lines::new(alloc, reader)?;
+    read_batch(alloc, &mut lines, 100)
 }
 
-/// How many rows a batch may have, and from where to where those that come lie among the sample rows.
-static BATCHES: [(usize, usize, usize); 4] = [(2, 0, 2), (0, 0, 0), (2, 2, 3), (2, 3, 3)];
+/// The rows of facts.
+fn rows_of(alloc: Global, facts: Result<&[Fact<'_>], Fault>) -> Result<Items<LineOrder>, Fault> {
+    Ok(Items::from_vec(line_orders(alloc, facts?)?))
+}
 
-/// The first batch that has other rows, by its place from 0.
-fn first_other(
-    alloc: Global,
-    lines: &mut Lines<Pieces<'_>>,
-    rows: &[LineOrder],
-) -> Result<Option<usize>, Fault> {
-    for (place, (most, first, end)) in BATCHES.iter().enumerate() {
-        let batch = read_batch(alloc, lines, *most)?;
-        if rows.get(*first..*end) != Some(batch.as_slice()) {
-            return Ok(Some(place));
+/// Whether a text comes to this, read whole, byte by byte and in pieces of seven.
+fn comes_to(alloc: Global, text: &[u8], want: &Result<Items<LineOrder>, Fault>) -> bool {
+    for reader in [whole(text), byte_by_byte(text), in_sevens(text)] {
+        if rows_in(alloc, reader) != *want {
+            return false;
         }
     }
-    Ok(None)
+    true
 }
 
-/// That of the sample's fact rows, with what the lines say then and the number of the last line.
-fn first_other_of_sample(alloc: Global) -> Result<(Option<usize>, Option<Fault>, u64), Fault> {
-    let rows = line_orders(alloc, &FACTS)?;
-    let mut lines = Lines::new(alloc, in_sevens(TABLES.lineorder))?;
-    let other = first_other(alloc, &mut lines, rows.as_slice())?;
-    Ok((other, lines.fault(), lines.number()))
-}
-
-#[test]
-fn batches_follow_each_other(rt: HostRuntime) {
-    assert!(rt; first_other_of_sample(rt.alloc()) == Ok((None, None, 3)));
-}
-
-/// How three calls for rows are refused, what the lines say then, and the number of the last line.
-fn refusals(alloc: Global, text: &[u8]) -> Result<([Option<Fault>; 3], Option<Fault>, u64), Fault> {
-    let mut lines = Lines::new(alloc, whole(text))?;
-    let refused = [
-        read_batch(alloc, &mut lines, 2).err(),
-        read_batch(alloc, &mut lines, 0).err(),
-        read_batch(alloc, &mut lines, 9).err(),
-    ];
-    Ok((refused, lines.fault(), lines.number()))
+/// Whether a case comes out so.
+fn is_read(alloc: Global, case: &Case) -> Result<bool, Fault> {
+    let text = joined(alloc, case.parts)?;
+    let want = rows_of(alloc, case.outcome);
+    Ok(comes_to(alloc, text.as_slice(), &want))
 }
 
 #[test]
-fn a_refused_text_stays_refused(rt: HostRuntime) -> Result<(), Fail> {
-    let text = joined(rt.alloc(), &[ROW, b"\n1|\n", ROW])?;
-    let fault = Some(Fault::FieldCount { line: 2 });
-    assert!(rt; refusals(rt.alloc(), text.as_slice()) == Ok(([fault; 3], fault, 2)));
-    Ok(())
+fn lines_spell_rows(rt: HostRuntime) {
+    for (place, case) in CASES.iter().enumerate() {
+        assert!(rt; is_read(rt.alloc(), case) == Ok(true), "text {place}");
+    }
 }

@@ -1,6 +1,6 @@
-//! Tests of `cube_model`: the definitions at outside examples, as theorems that compute, printed faults, and each call
-//! at its limits. And of `wire`, `batch_loader` and `table_generator`: numbers as bytes, and the texts of the tables:
-//! what is read, what is refused, readers that cut and fail, and tables that are generated.
+//! Tests of `cube_model`: the definitions at outside examples, as theorems that compute, the limits of queries, and
+//! printed faults. And of `wire`, `batch_loader` and `table_generator`: numbers as bytes, and the texts of the tables:
+//! what is read, lines cut at each place, readers that fail, and tables that are generated.
 #![tactic(auto)]
 
 #[cfg(test)]
@@ -18,18 +18,12 @@ mod faults;
 #[cfg(test)]
 mod generated;
 #[cfg(test)]
-mod joined;
-#[cfg(test)]
 mod line_by_line;
 #[cfg(test)]
 mod numbers;
-#[cfg(test)]
-mod outcomes;
 #[cfg(test)]
 mod plain_rules;
 #[cfg(test)]
 mod proper;
 #[cfg(test)]
 mod reads;
-#[cfg(test)]
-mod values;

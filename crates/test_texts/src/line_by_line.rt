@@ -1,53 +1,62 @@
 //! Lines and fields by themselves.
 use batch_loader::{Lines, fields};
 use cube_model::Fault;
-use sample_star::{Pieces, byte_by_byte, in_sevens};
+use sample_star::in_pieces;
+use std::alloc::Global;
 use std::test::Fail;
 
 const TEXT: &[u8] = b"a|b\r\n\nc";
 
-/// The first of some outcomes that the next line does not come to.
-fn first_other(
-    lines: &mut Lines<Pieces<'_>>,
-    wants: &[Result<Option<&[u8]>, Fault>],
-) -> Option<usize> {
+/// Of how many bytes the pieces are in which the text is read, which read fails if one does, and what five calls for a
+/// line come to.
+type Reading = (usize, u32, &'static [Result<Option<&'static [u8]>, Fault>]);
+
+static READINGS: [Reading; 2] = [
+    (
+        1,
+        0,
+        &[
+            Ok(Some(b"a|b\r")),
+            Ok(Some(b"")),
+            Ok(Some(b"c")),
+            Ok(None),
+            Ok(None),
+        ],
+    ),
+    (
+        7,
+        2,
+        &[
+            Ok(Some(b"a|b\r")),
+            Ok(Some(b"")),
+            Err(Fault::Input),
+            Err(Fault::Input),
+            Err(Fault::Input),
+        ],
+    ),
+];
+
+/// The first call that comes to something else.
+fn first_other(alloc: Global, reading: &Reading) -> Result<Option<usize>, Fault> {
+    let (piece, failing, wants) = *reading;
+    let reader = in_pieces(TEXT, piece.max(1)).failing_at(failing);
+    let mut lines = Lines::new(alloc, reader)?;
     for (place, want) in wants.iter().enumerate() {
         if lines.next() != *want {
-            return Some(place);
+            return Ok(Some(place));
         }
     }
-    None
+    Ok(None)
 }
 
-static LINES: [Result<Option<&[u8]>, Fault>; 5] = [
-    Ok(Some(b"a|b\r")),
-    Ok(Some(b"")),
-    Ok(Some(b"c")),
-    Ok(None),
-    Ok(None),
-];
-
 #[test]
-fn lines_are_given_in_order(rt: HostRuntime) -> Result<(), Fail> {
-    let mut lines = Lines::new(rt.alloc(), byte_by_byte(TEXT))?;
-    let other = first_other(&mut lines, &LINES);
-    assert!(rt; (other, lines.number(), lines.fault()) == (None, 3, None));
-    Ok(())
-}
-
-static READ_ONCE: [Result<Option<&[u8]>, Fault>; 4] = [
-    Ok(Some(b"a|b\r")),
-    Ok(Some(b"")),
-    Err(Fault::Input),
-    Err(Fault::Input),
-];
-
-#[test]
-fn a_failed_read_ends_all(rt: HostRuntime) -> Result<(), Fail> {
-    let mut lines = Lines::new(rt.alloc(), in_sevens(TEXT).failing_at(2))?;
-    let other = first_other(&mut lines, &READ_ONCE);
-    assert!(rt; (other, lines.fault()) == (None, Some(Fault::Input)));
-    Ok(())
+fn lines_are_given_in_order(rt: HostRuntime) {
+    for (place, reading) in READINGS.iter().enumerate() {
+        assert!(rt;
+            first_other(rt.alloc(), reading) == Ok(None),
+            "reading {place}"
+        );
+    }
 }
 
 /// Lines, and the two fields that they spell.

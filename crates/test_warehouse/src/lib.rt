@@ -1,6 +1,6 @@
 //! Tests of warehouses: the root, creation and opening, runs of commands, plans, a submit, an addition and a move to
 //! the second layout that crash at each device call, the bytes on the device, images that break a rule, memory that is
-//! refused, and warehouses of the greatest size.
+//! refused, warehouses of the greatest size, and stored cuboids.
 #![tactic(auto)]
 
 #[cfg(test)]
@@ -41,3 +41,5 @@ mod roots;
 mod scripts;
 #[cfg(test)]
 mod sparse;
+#[cfg(test)]
+mod upkeep;

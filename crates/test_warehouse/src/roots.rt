@@ -1,11 +1,11 @@
 //! Roots that were written down by hand.
-use cube_model::Fault;
+use cube_model::{Fault, Totals};
 use std::alloc::Global;
 use std::test::Fail;
-use warehouse_root::{Layout, Root, StoredCuboid, StoredTotals, run_id, segment_id};
+use warehouse_root::{Layout, Root, StoredCuboid, run_id, segment_id};
 
 // Six totals that differ in each byte place that they use.
-const TOTALS: StoredTotals = StoredTotals {
+const TOTALS: Totals = Totals {
     quantity: 66,
     extendedprice: 3500,
     revenue: 3415,

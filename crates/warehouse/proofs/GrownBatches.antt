@@ -18,13 +18,13 @@ use Rattle.column_segment.specs.declared.encoding.BatchColumns.{BatchColumns}
 use Rattle.batch_admission.specs.Found.{Found, found_in}
 use Rattle.batch_admission.specs.Totals.{totals_of}
 use Rattle.batch_admission.proofs.CallerLemmas.{long_before}
-use Rattle.warehouse_root.specs.declared.totals.StoredTotals.{StoredTotals}
+use Rattle.cube_model.specs.declared.totals.Totals.{Totals}
 use Rattle.warehouse_root.specs.Root.{PlainRoot, root_with_batch}
 use Rattle.warehouse_objects.proofs.CallerLemmas.{batch_of}
-use Rattle.warehouse_objects.specs.Represents.{root_of, said_of, stored}
+use Rattle.warehouse_objects.specs.Represents.{root_of, said_of}
 use Rattle.warehouse_objects.specs.Facts.{refusal_of}
 use Rattle.warehouse_objects.specs.Warehouse.{Warehouse, loaded}
-use Rattle.warehouse.specs.Growing.{IsGrown, totals_in}
+use Rattle.warehouse.specs.Growing.{IsGrown}
 use Rattle.warehouse.specs.Prepared.{Admitted, AreMore, HasFitModes, Prepares}
 use Rattle.warehouse.specs.declared.prepared.MoreModes.{MoreModes}
 use Rattle.warehouse.proofs.CheckedModes.{fit_refusal, passes_checks}
@@ -63,7 +63,7 @@ some_long (Some fault) some none = cc
 
 module _ (dimensions : DimRows) (root : PlainRoot) (before rows : List LineOrder) (batch : GrowingBatch) (more : Found)
     (grown : IsGrown dimensions root before batch)
-    (looked : more ≡ found_in dimensions (totals_in root) (before ++ rows)) where
+    (looked : more ≡ found_in dimensions root.totals (before ++ rows)) where
   -- where no text of all of them is too long, none of the first is
   pub had_columns : is_some more.long_text ≡ false → HaveRows before batch.columns
   had_columns none =
@@ -109,9 +109,9 @@ grown-too_long dimensions root rows batch grown some none =
 
 -- ---- the root with the batch
 
-root-more : (w : Warehouse) (rows : List LineOrder) (root after : PlainRoot) (count : ℕ) (totals : StoredTotals)
+root-more : (w : Warehouse) (rows : List LineOrder) (root after : PlainRoot) (count : ℕ) (totals : Totals)
     → root_of w ≡ root → count ≡ length rows
-    → totals ≡ stored (totals_of (all_rows (w.batches ++ rows ∷ []))) → after ≡ root_with_batch count totals root
+    → totals ≡ totals_of (all_rows (w.batches ++ rows ∷ [])) → after ≡ root_with_batch count totals root
     → after ≡ root_of (loaded w rows)
 root-more w rows root after count totals is many sums made =
     let counts : map length w.batches ++ count ∷ [] ≡ map length (w.batches ++ rows ∷ []) =
@@ -128,7 +128,7 @@ root-more w rows root after count totals is many sums made =
 module _ (w : Warehouse) (number : ℕ) (rows : List LineOrder) (more : Option MoreModes)
     (fit : HasFitModes w.layout w.batches rows) (are : AreMore w rows more) where
   -- a batch whose sums and ship modes are no cause to refuse it is made ready
-  pub prepares-with : (root : PlainRoot) (count : ℕ) (totals : StoredTotals) (result : Result Prepared Fault)
+  pub prepares-with : (root : PlainRoot) (count : ℕ) (totals : Totals) (result : Result Prepared Fault)
       → root_of w ≡ root → count ≡ length rows → Admitted w number rows (Ok totals)
       → IfOk result (λ p. p.more ≡ more) → IfOk result (λ p. p.root ≡ root_with_batch count totals root)
       → IfErr result (λ fault. fault ≡ Memory) → Prepares w number rows result

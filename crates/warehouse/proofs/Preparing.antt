@@ -1,5 +1,5 @@
 -- A further batch, made ready.
-use Rattle.std.proofs.Common.{◌≡◌, ℕ, ◌+◌, List, map, length, sym, ap, subst, ◌∙◌, arith}
+use Rattle.std.proofs.Common.{◌≡◌, ℕ, ◌+◌, List, map, length, sym, ap, ◌∙◌, arith}
 use Rattle.std.proofs.lemmas.List.Concat.{length-flat_map}
 use Rattle.std.proofs.lemmas.List.Sums.{sum-map}
 use Rattle.std.specs.List.{sum_by}
@@ -8,11 +8,6 @@ use Rattle.cube_model.specs.declared.rows.LineOrder.{LineOrder}
 use Rattle.cube_model.specs.Admission.{all_rows, IsAdmissible}
 use Rattle.batch_admission.proofs.CallerLemmas.{passes}
 use Rattle.batch_admission.specs.Accepted.{CanFollow}
-use Rattle.batch_admission.specs.Totals.{AreBelow, sum_limit}
-use Rattle.batch_admission.specs.declared.totals.Totals.{Totals}
-use Rattle.warehouse_root.specs.Root.{AreProperTotals}
-use Rattle.warehouse_root.specs.declared.totals.StoredTotals.{StoredTotals}
-use Rattle.warehouse_objects.specs.Represents.{stored}
 use Rattle.warehouse.specs.Prepared.{MayFollow}
 use Rattle.warehouse_objects.specs.Facts.{AdmitsBatch}
 use Rattle.warehouse_objects.specs.Warehouse.{Warehouse}
@@ -42,18 +37,6 @@ can_follow count batches number batch can is = record {
   few = can.last;
   batch = batch_of batch can.few can.texts;
 }
-
--- totals that keep their limit may be stored
-pub proper_totals : (totals : Totals) (kept : StoredTotals) → kept ≡ stored totals → AreBelow sum_limit totals
-    → AreProperTotals kept
-proper_totals totals kept is below = subst AreProperTotals (sym is) (record {
-  quantity = omega (arith, below.quantity);
-  extendedprice = omega (arith, below.extendedprice);
-  revenue = omega (arith, below.revenue);
-  supplycost = omega (arith, below.supplycost);
-  discounted = omega (arith, below.discounted);
-  profit = omega (arith, below.profit);
-})
 
 -- the rows of batches together
 pub rows_together : (batches : List (List LineOrder))

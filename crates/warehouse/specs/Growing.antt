@@ -7,27 +7,15 @@ use Rattle.cube_model.specs.Limits.{most_batch_rows}
 use Rattle.column_segment.specs.Encoding.{HaveRows}
 use Rattle.column_segment.specs.Segment.{FitColumns}
 use Rattle.batch_admission.specs.Found.{found_in}
-use Rattle.batch_admission.specs.declared.totals.Totals.{Totals}
 use Rattle.warehouse_root.specs.Root.{PlainRoot}
 use Rattle.warehouse.specs.declared.growing.GrowingBatch.{GrowingBatch}
 use Rattle.warehouse.specs.declared.session.Session.{Session}
-
--- the totals of a root, as the check of a batch has them
-abbrev pub totals_in : PlainRoot → Totals
-totals_in root = record {
-  quantity = root.totals.quantity;
-  extendedprice = root.totals.extendedprice;
-  revenue = root.totals.revenue;
-  supplycost = root.totals.supplycost;
-  discounted = root.totals.discounted;
-  profit = root.totals.profit;
-}
 
 -- What was found in the rows that a batch has so far, after the batches of a root, and the columns of these rows,
 -- unless a text is too long
 pub record IsGrown (dimensions : DimRows) (root : PlainRoot) (rows : List LineOrder) (batch : GrowingBatch) : Type 0
   where
-    pub found : batch.found ≡ found_in dimensions (totals_in root) rows
+    pub found : batch.found ≡ found_in dimensions root.totals rows
     pub fits : FitColumns rows
     pub columns : batch.found.long_text ≡ None → HaveRows rows batch.columns
 

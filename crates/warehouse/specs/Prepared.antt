@@ -12,11 +12,11 @@ use Rattle.column_segment.specs.Segment.{FitColumns, IsBatch, segment_of}
 use Rattle.batch_admission.specs.Totals.{totals_of}
 use Rattle.warehouse_root.specs.declared.layout.Layout.{Layout}
 use Rattle.warehouse_root.specs.declared.layout.Layout.TheVariants.{First, Second}
-use Rattle.warehouse_root.specs.declared.totals.StoredTotals.{StoredTotals}
+use Rattle.cube_model.specs.declared.totals.Totals.{Totals}
 use Rattle.warehouse_root.specs.Modes.{AreModes, kept_modes, modes_id, modes_spelling}
 use Rattle.warehouse_root.specs.Objects.{segment_id}
 use Rattle.warehouse_root.specs.Root.{IsRoot, PlainRoot}
-use Rattle.warehouse_objects.specs.Represents.{root_of, stored}
+use Rattle.warehouse_objects.specs.Represents.{root_of}
 use Rattle.warehouse_objects.specs.Facts.{AdmitsBatch, PassesChecks, refusal_of}
 use Rattle.warehouse_objects.specs.Warehouse.{Warehouse, loaded, ship_modes_of}
 use Rattle.warehouse.specs.declared.prepared.MoreModes.{MoreModes}
@@ -54,9 +54,9 @@ pub record IsPrepared (root : PlainRoot) (number : ℕ) (rows : List LineOrder) 
 
 -- Of a batch that may follow those of a warehouse, whatever its ship modes are, the totals with it are answered, and
 -- else the first cause to refuse it.
-abbrev pub Admitted : Warehouse → ℕ → List LineOrder → Result StoredTotals Fault → Type 0
+abbrev pub Admitted : Warehouse → ℕ → List LineOrder → Result Totals Fault → Type 0
 Admitted w number rows (Ok totals) =
-    IsAdmissible w.rows w.batches number rows × (totals ≡ stored (totals_of (all_rows (w.batches ++ rows ∷ []))))
+    IsAdmissible w.rows w.batches number rows × (totals ≡ totals_of (all_rows (w.batches ++ rows ∷ [])))
 Admitted w number rows (Err fault) = refusal w.rows w.batches number rows ≡ Some fault
 
 -- the ship modes of a warehouse with those of a batch, where there are more

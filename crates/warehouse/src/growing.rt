@@ -9,7 +9,7 @@ ghost use Rattle.column_segment.specs.Segment.{IsBatch, segment_of};
 ghost use Rattle.cube_model.specs.Admission.{early_refusal, long_text};
 ghost use Rattle.cube_model.specs.Limits.{most_batch_rows};
 ghost use Rattle.object_store.specs.Disk.{Leaves};
-ghost use Rattle.warehouse.specs.Growing.{IsGrown, totals_in};
+ghost use Rattle.warehouse.specs.Growing.{IsGrown};
 ghost use Rattle.warehouse.specs.Prepared.{AddsModes, Admitted, CanBePut, ChecksModes, IsPrepared, MayFollow, Prepares};
 ghost use Rattle.warehouse.specs.Refusing.{is_of_device};
 ghost use Rattle.warehouse.specs.Session.{Breaks, CommitsOnce, IsAt, KeepsContent, SubmitRefuses, content_of};
@@ -23,16 +23,16 @@ ghost use Rattle.warehouse_root.specs.Modes.{kept_modes};
 ghost use Rattle.warehouse_root.specs.Root.{AreProperTotals, PlainRoot};
 ghost use Rattle.wire.specs.Limits.{most_objects};
 
-use crate::prepared::{MoreModes, Prepared, admission_of, cause_of, stored_of};
+use crate::prepared::{MoreModes, Prepared, admission_of, cause_of};
 use crate::session::Session;
 use batch_admission::Findings;
 use column_segment::BatchColumns;
-use cube_model::{Fault, LineOrder};
+use cube_model::{Fault, LineOrder, Totals};
 use dimensions::Dims;
 use sector_device::Sectors;
 use std::alloc::Global;
 use warehouse_objects::{ShipModes, numbers_fit};
-use warehouse_root::{Layout, Root, StoredTotals};
+use warehouse_root::{Layout, Root};
 
 /// A batch that grows by rows until it is submitted to the session that began it, or compared with one that is stored.
 /// Its rows are checked and written as columns as they come, and are not kept.
@@ -296,20 +296,20 @@ impl<D: Sectors> Session<D> {
 }
 
 // The totals with those of a further batch, by what was found in its rows, or the first cause to refuse it.
-fn admitted(root: &Root, number: u32, found: &Findings) -> Result<StoredTotals, Fault>
+fn admitted(root: &Root, number: u32, found: &Findings) -> Result<Totals, Fault>
     ensures follows { IfOk result (λ _. (dimensions : DimRows) (rows : List LineOrder)
-        → found.now ≡ found_in dimensions (totals_in root.now) rows
+        → found.now ≡ found_in dimensions root.now.totals rows
         → MayFollow (length root.now.batches) number rows) }
     ensures clean { IfOk result (λ _. cause_of found.now ≡ None) }
     ensures proper { IfOk result AreProperTotals }
     ensures model { (w : Warehouse) (rows : List LineOrder) → root_of w ≡ root.now
-        → found.now ≡ found_in w.rows (totals_in root.now) rows
+        → found.now ≡ found_in w.rows root.now.totals rows
         → Admitted w number rows result }
     ensures apart { IfErr result (λ fault. is_of_device fault ≡ false) }
 {
     let mut admission = admission_of(root);
     match admission.admit_found(number, found) {
-        Ok(()) => Ok(stored_of(admission.totals())),
+        Ok(()) => Ok(admission.totals()),
         Err(fault) => Err(cause_of(fault)),
     }
 }

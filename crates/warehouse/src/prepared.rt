@@ -8,21 +8,20 @@ ghost use Rattle.warehouse_root.specs.Root.{AreProperTotals, IsProperRoot};
 ghost use Rattle.object_store.specs.Commit.{ArePuts};
 ghost use Rattle.object_store.specs.Content.{Content};
 ghost use Rattle.warehouse_objects.specs.Lawful.{beginning_puts};
-ghost use Rattle.warehouse_objects.specs.Represents.{AreItsMembers, IsLaidOut, Represents, root_of, stored};
+ghost use Rattle.warehouse_objects.specs.Represents.{AreItsMembers, IsLaidOut, Represents, root_of};
 ghost use Rattle.warehouse_objects.specs.Warehouse.{Warehouse, AreStorable};
-ghost use Rattle.warehouse.specs.Growing.{totals_in};
 ghost use Rattle.warehouse_objects.specs.Loaded.{IsLoaded};
 ghost use Rattle.warehouse.specs.Loaded.{Agrees};
 ghost use Rattle.warehouse.specs.Refusing.{is_of_device};
 
-use batch_admission::{Admission, Totals};
-use cube_model::Fault;
+use batch_admission::Admission;
+use cube_model::{Fault, Totals};
 use dimensions::Dims;
 use std::alloc::Global;
 use std::rc::Rc;
 use warehouse_objects::laws::{objects_are_storable, rows_are_one};
 use warehouse_objects::{ShipModes, rows_are_storable};
-use warehouse_root::{Root, StoredTotals};
+use warehouse_root::Root;
 
 /// Ship modes of which some are new, and their bytes.
 #[derive(Drop)]
@@ -50,7 +49,7 @@ impl Prepared {
         segment: Vec<u8>,
         more: Option<MoreModes>,
         rows: u32,
-        totals: StoredTotals,
+        totals: Totals,
     ) -> Result<Prepared, Fault>
         requires batches { length root.now.batches < most_batches }
         requires rows { rows ≤ most_batch_rows }
@@ -75,36 +74,11 @@ impl Prepared {
 // The check of a further batch after those of a root.
 pub(crate) fn admission_of(root: &Root) -> Admission
     ensures count { result.count ≡ length root.now.batches }
-    ensures totals { result.totals ≡ totals_in root.now }
+    ensures totals { result.totals ≡ root.now.totals }
     ensures represents { (w : Warehouse) → root_of w ≡ root.now → HasAccepted result w.batches }
 {
     let _layout = root.layout();
-    let totals = root.totals();
-    Admission::resume(
-        root.batches().len() as u32,
-        Totals {
-            quantity: totals.quantity,
-            extendedprice: totals.extendedprice,
-            revenue: totals.revenue,
-            supplycost: totals.supplycost,
-            discounted: totals.discounted,
-            profit: totals.profit,
-        },
-    )
-}
-
-// Totals as they are stored.
-pub(crate) fn stored_of(totals: Totals) -> StoredTotals
-    ensures { result ≡ stored totals }
-{
-    StoredTotals {
-        quantity: totals.quantity,
-        extendedprice: totals.extendedprice,
-        revenue: totals.revenue,
-        supplycost: totals.supplycost,
-        discounted: totals.discounted,
-        profit: totals.profit,
-    }
+    Admission::resume(root.batches().len() as u32, root.totals())
 }
 
 // The cause to refuse a batch. None speaks of the device.

@@ -11,7 +11,7 @@ use Rattle.batch_admission.specs.Totals.{totals_of}
 use Rattle.warehouse_root.specs.Objects.{segment_id}
 use Rattle.warehouse_root.specs.Root.{IsProperRoot, PlainRoot}
 use Rattle.warehouse_objects.specs.Warehouse.{AreInOrder, AreStorable, IsNext}
-use Rattle.warehouse_objects.specs.Represents.{HasItsObjects, stored}
+use Rattle.warehouse_objects.specs.Represents.{HasItsObjects}
 use Rattle.warehouse_objects.specs.Loaded.{IsLoaded}
 
 -- an object of a content is the segment of a number with these rows
@@ -30,7 +30,7 @@ pub record AreBatches (c : Content) (dimensions : DimRows) (counts : List ℕ) (
 pub record HasBatches (c : Content) (dimensions : DimRows) (root : PlainRoot) : Type 0 where
   pub batches : List (List LineOrder)
   pub are : AreBatches c dimensions root.batches batches
-  pub totals : root.totals ≡ stored (totals_of (all_rows batches))
+  pub totals : root.totals ≡ totals_of (all_rows batches)
 
 -- rows are taken in after some batches, as the next one
 pub record IsTakenIn (dimensions : DimRows) (batches : List (List LineOrder)) (number : ℕ) (rows : List LineOrder)

@@ -9,19 +9,19 @@ ghost use Rattle.column_segment.specs.Segment.{IsSegment};
 ghost use Rattle.batch_admission.specs.Accepted.{HasAccepted};
 ghost use Rattle.warehouse_objects.specs.Warehouse.{Warehouse};
 ghost use Rattle.warehouse_objects.specs.Reads.{ReadsOnly};
-ghost use Rattle.warehouse_objects.specs.Represents.{IsLaidOut, root_of, stored};
+ghost use Rattle.warehouse_objects.specs.Represents.{IsLaidOut, root_of};
 ghost use Rattle.warehouse_check.specs.Checked.{HasBatches, IsCheckedBatch, IsSegmentAt};
 
 use crate::finding::Finding;
 use crate::rows::take_in;
-use batch_admission::{Admission, Totals};
+use batch_admission::Admission;
 use column_segment::{Segment, decode};
-use cube_model::Fault;
+use cube_model::{Fault, Totals};
 use dimensions::Dims;
 use object_store::Store;
 use sector_device::Sectors;
 use std::alloc::Global;
-use warehouse_root::{Root, StoredTotals, segment_id};
+use warehouse_root::{Root, segment_id};
 
 /// What is wrong with the batches of a store, or with what its root says of them, if anything is. Each segment is read
 /// whole and decoded, and its rows are checked as those of a submit are. One batch is in memory at a time.
@@ -119,18 +119,10 @@ fn segment_in(alloc: Global, bytes: Vec<u8>) -> Result<Option<Segment>, Fault>
 }
 
 // Whether the totals that a root says are those of the rows.
-fn check_totals(said: StoredTotals, counted: Totals) -> Option<Finding>
-    ensures sound { result ≡ None → said ≡ stored counted }
-    ensures found { IsTrue (is_some result) → said ≡ stored counted → ⊥ }
+fn check_totals(said: Totals, counted: Totals) -> Option<Finding>
+    ensures sound { result ≡ None → said ≡ counted }
+    ensures found { IsTrue (is_some result) → said ≡ counted → ⊥ }
 {
-    let counted = StoredTotals {
-        quantity: counted.quantity,
-        extendedprice: counted.extendedprice,
-        revenue: counted.revenue,
-        supplycost: counted.supplycost,
-        discounted: counted.discounted,
-        profit: counted.profit,
-    };
     if said == counted {
         None
     } else {

@@ -27,7 +27,7 @@ use Rattle.cube_model.specs.declared.measure.Measure.TheVariants.{Discounted, Ex
 use Rattle.cube_model.specs.declared.measure.Measure.TheVariants.{SupplyCost}
 use Rattle.warehouse_root.specs.Limits.{most_additions, most_cuboids}
 use Rattle.warehouse_root.specs.Root.{ViewsAscend, AreProperTotals, IsProperRoot, IsProperCuboid}
-use Rattle.warehouse_objects.specs.Represents.{root_of, said_of, stored}
+use Rattle.warehouse_objects.specs.Represents.{root_of, said_of}
 use Rattle.warehouse_objects.specs.Warehouse.{AreInOrder, IsNext, Warehouse}
 
 -- ---- an admissible batch
@@ -198,7 +198,7 @@ module _ (rows : DimRows) (batches : List (List LineOrder)) (order : AreInOrder 
     fits = (order before batch is).fits;
   }
 
-totals_proper : (rows : List LineOrder) → AreInRange rows → AreProperTotals (stored (totals_of rows))
+totals_proper : (rows : List LineOrder) → AreInRange rows → AreProperTotals (totals_of rows)
 totals_proper rows in_range = record {
   quantity = omega (arith, in_range Quantity);
   extendedprice = omega (arith, in_range ExtendedPrice);

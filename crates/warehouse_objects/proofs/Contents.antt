@@ -42,7 +42,7 @@ use Rattle.warehouse_objects.specs.Facts.{AdmitsBatch}
 use Rattle.warehouse_objects.specs.Warehouse.{fresh_in, loaded, migrated, ship_modes_of}
 use Rattle.warehouse_objects.specs.Represents.{Follow, HasRows, HoldsGroupings, Represents, dimension_of, modes_object}
 use Rattle.warehouse_objects.specs.Represents.{object_of}
-use Rattle.warehouse_objects.specs.Represents.{root_of, rows_in, run_after, said_of, segment_after, stored}
+use Rattle.warehouse_objects.specs.Represents.{root_of, rows_in, run_after, said_of, segment_after}
 use Rattle.warehouse_objects.specs.Lawful.{batch_put, beginning_puts, dimension_puts, loading_puts, modes_put}
 use Rattle.warehouse_objects.specs.Lawful.{new_modes_put}
 use Rattle.warehouse_objects.proofs.Batches.{few_batches, in_order_more, in_order_none, is_batch, next_number}
@@ -370,7 +370,7 @@ represents_aimed c w represents =
 -- the root with the batch is the root with its rows and its totals
 pub root_loaded : (w : Warehouse) (batch : List LineOrder)
     → root_of (loaded w batch)
-    ≡ roots.root_with_batch (length batch) (stored (totals_of (all_rows (w.batches ++ batch ∷ [])))) (root_of w)
+    ≡ roots.root_with_batch (length batch) (totals_of (all_rows (w.batches ++ batch ∷ []))) (root_of w)
 root_loaded w batch =
     let lengths : map length (w.batches ++ batch ∷ []) ≡ map length w.batches ++ length batch ∷ [] =
     map-append length w.batches (batch ∷ []) in
@@ -379,7 +379,7 @@ root_loaded w batch =
       batches = lengths i;
       target = w.target;
       additions = w.additions;
-      totals = stored (totals_of (all_rows (w.batches ++ batch ∷ [])));
+      totals = totals_of (all_rows (w.batches ++ batch ∷ []));
       cuboids = map said_of w.cuboids;
     }
 

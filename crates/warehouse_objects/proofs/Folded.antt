@@ -1,5 +1,5 @@
 -- Batches that are read and counted one after another.
-use Rattle.std.proofs.Common.{◌≡◌, ◌⊎◌, inl, inr, ⊎_elim, get_or, map, ◌+◌, ◌<◌, ◌≤◌, ℕ, List, ◌++◌, Option, Some, None}
+use Rattle.std.proofs.Common.{◌≡◌, ◌⊎◌, inl, inr, ⊎_elim, get_or, map, ◌+◌, ◌<◌, ℕ, List, ◌++◌, Option, Some, None}
 use Rattle.std.proofs.Common.{length, take, slice_get, Result, Ok, Err, IfErr, IsErrOf, OnOk, refl, sym, ◌∙◌, ap, subst}
 use Rattle.std.proofs.Common.{add-one, arith}
 use Rattle.std.specs.Option.{IfSome, IsSomeAnd, option_map}

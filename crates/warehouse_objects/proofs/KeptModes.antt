@@ -1,6 +1,6 @@
 -- The ship modes that a warehouse keeps, and how they grow by a batch.
-use Rattle.std.proofs.Common.{◌≡◌, ◌≢◌, ◌<◌, ◌≤◌, ◌+◌, ◌==◌, ◌∙◌, zero, suc, sym, ap, refl, subst, arith}
-use Rattle.std.proofs.Common.{nat_lt, if◌then◌else◌, ℕ, Bool, true, false, ◌||◌, List, [], ◌∷◌, ◌++◌, map, length}
+use Rattle.std.proofs.Common.{◌≡◌, ◌≤◌, ◌+◌, ◌∙◌, suc, sym, ap, refl, subst, arith}
+use Rattle.std.proofs.Common.{nat_lt, if◌then◌else◌, ℕ, Bool, true, false, ◌||◌, List, [], ◌∷◌, ◌++◌, length}
 use Rattle.std.proofs.Common.{Option, Some, None, IfNone, All, get_or, slice_get, take, drop, take-append-drop}
 use Rattle.std.proofs.Common.{length-append}
 use Rattle.std.proofs.lemmas.Grind.{flat_map-append}
@@ -19,7 +19,7 @@ use Rattle.cube_model.specs.declared.fault.Fault.TheVariants.{ReservedMember, To
 use Rattle.cube_model.specs.declared.fault.MemberPlace.TheVariants.{InBatch}
 use Rattle.cube_model.specs.declared.rows.DimRows.{DimRows}
 use Rattle.cube_model.specs.declared.rows.LineOrder.{LineOrder}
-use Rattle.cube_model.specs.Admission.{IsAdmissible, all_rows, early_refusal, refusal, sums_cause}
+use Rattle.cube_model.specs.Admission.{IsAdmissible, all_rows, early_refusal, sums_cause}
 use Rattle.cube_model.specs.Causes.{first_cause}
 use Rattle.cube_model.specs.Limits.{longest_text, most_members}
 use Rattle.cube_model.specs.ShipModes.{crowded_place, modes_cause, modes_in, reserved_place}
@@ -36,7 +36,7 @@ use Rattle.column_segment.specs.declared.columns.TextColumn.TheVariants.{ShipMod
 use Rattle.warehouse_root.specs.declared.layout.Layout.{Layout}
 use Rattle.warehouse_root.specs.declared.layout.Layout.TheVariants.{First, Second}
 use Rattle.warehouse_root.specs.Modes.{AreModes, kept_modes}
-use Rattle.warehouse_objects.specs.Facts.{IsAdmissibleIn, refusal_in}
+use Rattle.warehouse_objects.specs.Facts.{IsAdmissibleIn}
 use Rattle.warehouse_objects.specs.Warehouse.{AreInOrder}
 use Rattle.warehouse_objects.proofs.Batches.{batch_at, both, is_batch, only, take_next}
 

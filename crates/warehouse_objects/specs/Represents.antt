@@ -12,7 +12,6 @@ use Rattle.object_store.specs.Content.{Content, bytes_of}
 use Rattle.column_segment.specs.Segment.{segment_of}
 use Rattle.dimensions.specs.Shown.{rows_on}
 use Rattle.dimension_objects.specs.Spelled.{dimension_spelling}
-use Rattle.batch_admission.specs.declared.totals.Totals.{Totals}
 use Rattle.batch_admission.specs.Totals.{totals_of}
 use Rattle.lattice.specs.declared.view.View.{View}
 use Rattle.lattice.specs.Views.{index_of}
@@ -24,7 +23,6 @@ use Rattle.cuboid_upkeep.specs.Grouping.{RepresentRows}
 use Rattle.warehouse_root.specs.declared.cuboid.StoredCuboid.{StoredCuboid}
 use Rattle.warehouse_root.specs.declared.layout.Layout.{Layout}
 use Rattle.warehouse_root.specs.declared.layout.Layout.TheVariants.{First, Second}
-use Rattle.warehouse_root.specs.declared.totals.StoredTotals.{StoredTotals}
 use Rattle.warehouse_root.specs.Layouts.{layout_number, view_count}
 use Rattle.warehouse_root.specs.Modes.{AreModes, modes_id, modes_spelling}
 use Rattle.warehouse_root.specs.Objects.{object_ids, run_id, segment_id}
@@ -71,17 +69,6 @@ object_of w id =
     else (if nat_lt id (run_id 0 0) then segment_after (id - segment_id 1) w.batches else run_after (id - run_id 0 0)
     w.cuboids))))))
 
--- totals, as they are stored
-abbrev pub stored : Totals → StoredTotals
-stored totals = record {
-  quantity = totals.quantity;
-  extendedprice = totals.extendedprice;
-  revenue = totals.revenue;
-  supplycost = totals.supplycost;
-  discounted = totals.discounted;
-  profit = totals.profit;
-}
-
 -- what the root says of a cuboid
 abbrev pub said_of : Cuboid → StoredCuboid
 said_of cuboid =
@@ -99,7 +86,7 @@ root_of w = record {
   batches = map length w.batches;
   target = w.target;
   additions = w.additions;
-  totals = stored (totals_of (all_rows w.batches));
+  totals = totals_of (all_rows w.batches);
   cuboids = map said_of w.cuboids;
 }
 

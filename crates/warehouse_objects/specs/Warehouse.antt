@@ -1,5 +1,5 @@
 -- What a warehouse is, apart from how it is stored. Our own.
-use Rattle.std.specs.Prelude.{◌≡◌, ℕ, ◌+◌, ◌==◌, if◌then◌else◌, Bool, false, not, Option, None, Some, List, [], ◌∷◌}
+use Rattle.std.specs.Prelude.{◌≡◌, ℕ, ◌+◌, ◌==◌, if◌then◌else◌, Bool, not, Option, None, Some, List, [], ◌∷◌}
 use Rattle.std.specs.Prelude.{◌++◌, length, map, take, slice_get}
 use Rattle.std.specs.List.{AllByRecursion, filter, find, flat_map, list_any, range_with_len, sum_by}
 use Rattle.cube_model.specs.declared.attr.Axis.{Axis}

@@ -9,7 +9,7 @@ use Rattle.wire.proofs.CallerLemmas.{length-spelling, spelling-one}
 use Rattle.warehouse_root.specs.declared.cuboid.StoredCuboid.{StoredCuboid}
 use Rattle.warehouse_root.specs.declared.layout.Layout.{Layout}
 use Rattle.warehouse_root.specs.declared.layout.Layout.TheVariants.{First, Second}
-use Rattle.warehouse_root.specs.declared.totals.StoredTotals.{StoredTotals}
+use Rattle.cube_model.specs.declared.totals.Totals.{Totals}
 use Rattle.warehouse_root.specs.Layouts.{view_count}
 use Rattle.warehouse_root.specs.Reading.{CuboidFits, TotalsFit}
 use Rattle.warehouse_root.specs.Root.{AreProperTotals, IsProperRoot, IsRoot, IsRootOf, PlainRoot, counts_spelling}
@@ -43,13 +43,13 @@ length-cuboid_of cuboid =
     )
 
 -- the last four of the totals
-last_totals : StoredTotals → List ℕ
+last_totals : Totals → List ℕ
 last_totals totals =
     spelling 8 totals.revenue
     ++ (spelling 8 totals.supplycost ++ (spelling 8 totals.discounted ++ spelling 8 totals.profit))
 
 -- the totals have 48 bytes
-pub length-totals_of : (totals : StoredTotals) → length (totals_spelling totals) ≡ 48
+pub length-totals_of : (totals : Totals) → length (totals_spelling totals) ≡ 48
 unfolding last_totals
 length-totals_of totals =
     let last : length (last_totals totals) ≡ 32 = omega (
@@ -114,7 +114,7 @@ root_is_short bytes root is =
     omega (arith, ap length is.spelled, length-root_of root, is.proper.most_batches, is.proper.most_cuboids)
 
 -- bytes begin with the totals of one
-pub totals-one : (one other : StoredTotals) (xs ys : List ℕ) → TotalsFit one → TotalsFit other
+pub totals-one : (one other : Totals) (xs ys : List ℕ) → TotalsFit one → TotalsFit other
     → totals_spelling one ++ xs ≡ totals_spelling other ++ ys → (one ≡ other) × (xs ≡ ys)
 totals-one one other xs ys fit other_fit same =
     let parts =
@@ -129,7 +129,7 @@ totals-one one other xs ys fit other_fit same =
     let fourth = spelling-one 8 one.supplycost other.supplycost _ _ fit.supplycost other_fit.supplycost third.1 in
     let fifth = spelling-one 8 one.discounted other.discounted _ _ fit.discounted other_fit.discounted fourth.1 in
     let sixth = spelling-one 8 one.profit other.profit xs ys fit.profit other_fit.profit fifth.1 in
-    let is : ◌≡◌ {A = StoredTotals}
+    let is : ◌≡◌ {A = Totals}
     (record {
       quantity = one.quantity;
       extendedprice = one.extendedprice;
@@ -205,7 +205,7 @@ pub record RootFits (root : PlainRoot) : Type 0 where
   pub rows : All (λ rows. rows < 2 ^ 32) root.batches
   pub each : All CuboidFits root.cuboids
 
-totals_fit : (totals : StoredTotals) → AreProperTotals totals → TotalsFit totals
+totals_fit : (totals : Totals) → AreProperTotals totals → TotalsFit totals
 totals_fit totals proper = record {
   quantity = omega (arith, proper.quantity);
   extendedprice = omega (arith, proper.extendedprice);

@@ -5,7 +5,7 @@ use Rattle.wire.specs.Spelling.{spelling}
 use Rattle.warehouse_root.specs.declared.cuboid.StoredCuboid.{StoredCuboid}
 use Rattle.warehouse_root.specs.declared.layout.Layout.{Layout}
 use Rattle.warehouse_root.specs.declared.reading.Counts.{Counts}
-use Rattle.warehouse_root.specs.declared.totals.StoredTotals.{StoredTotals}
+use Rattle.cube_model.specs.declared.totals.Totals.{Totals}
 use Rattle.warehouse_root.specs.Reading.{AreCountsOf, ArePartsOf, ReadsCounts, ReadsCuboids, ReadsFront, ReadsRows}
 use Rattle.warehouse_root.specs.Reading.{ReadsTotals, SpellNoRoot, root_of_parts}
 use Rattle.warehouse_root.specs.Root.{IsProperRoot, IsRoot, IsRootOf, PlainRoot, counts_spelling, cuboid_of}
@@ -31,7 +31,7 @@ module _ (bytes : List ℕ) where
       omega (arith, ap length is.spelled, length-root_of root, same.0, same.3)
 
 module _ (layout : Layout) (bytes : List ℕ) where
-  module _ (r0 r1 r2 r3 : List ℕ) (counts : Counts) (totals : StoredTotals) (batches : List ℕ)
+  module _ (r0 r1 r2 r3 : List ℕ) (counts : Counts) (totals : Totals) (batches : List ℕ)
       (cuboids : List StoredCuboid)
       (reads0 : ReadsCounts bytes r0 counts) (whole : AreCountsOf (length bytes) counts)
       (reads1 : ReadsTotals r0 r1 totals)
@@ -85,7 +85,7 @@ module _ (layout : Layout) (bytes : List ℕ) where
     is_root_of proper = record { of_layout = refl; is_root = record { spelled = parts_spelled; proper = proper } }
 
 -- the front and what is after it
-pub parts_of_bytes : (bytes r1 r2 r3 : List ℕ) (counts : Counts) (totals : StoredTotals) (batches : List ℕ)
+pub parts_of_bytes : (bytes r1 r2 r3 : List ℕ) (counts : Counts) (totals : Totals) (batches : List ℕ)
     (cuboids : List StoredCuboid)
     → ReadsFront bytes r1 counts totals → ReadsRows counts.batches r1 r2 batches
     → ReadsCuboids counts.cuboids r2 r3 cuboids → ArePartsOf bytes counts totals batches cuboids

@@ -4,7 +4,7 @@ use Rattle.std.specs.List.{flat_map}
 use Rattle.wire.specs.Spelling.{spelling}
 use Rattle.warehouse_root.specs.declared.cuboid.StoredCuboid.{StoredCuboid}
 use Rattle.warehouse_root.specs.declared.layout.Layout.{Layout}
-use Rattle.warehouse_root.specs.declared.totals.StoredTotals.{StoredTotals}
+use Rattle.cube_model.specs.declared.totals.Totals.{Totals}
 use Rattle.warehouse_root.specs.declared.reading.Counts.{Counts}
 use Rattle.warehouse_root.specs.Root.{IsProperRoot, IsRoot, IsRootOf, PlainRoot, counts_spelling, cuboid_of}
 use Rattle.warehouse_root.specs.Root.{totals_spelling}
@@ -14,7 +14,7 @@ abbrev pub AreCountsOf : ℕ → Counts → Type 0
 AreCountsOf bytes counts = bytes ≡ 64 + 4 * counts.batches + 12 * counts.cuboids
 
 -- what a root says that has these parts
-abbrev pub root_of_parts : Layout → Counts → StoredTotals → List ℕ → List StoredCuboid → PlainRoot
+abbrev pub root_of_parts : Layout → Counts → Totals → List ℕ → List StoredCuboid → PlainRoot
 root_of_parts layout counts totals batches cuboids = record {
   layout = layout;
   batches = batches;
@@ -32,7 +32,7 @@ pub record CountsFit (counts : Counts) : Type 0 where
   pub cuboids : counts.cuboids < 2 ^ 32
 
 -- each total fits its field
-pub record TotalsFit (totals : StoredTotals) : Type 0 where
+pub record TotalsFit (totals : Totals) : Type 0 where
   pub quantity : totals.quantity < 2 ^ 64
   pub extendedprice : totals.extendedprice < 2 ^ 64
   pub revenue : totals.revenue < 2 ^ 64
@@ -54,7 +54,7 @@ pub record ReadsCounts (old new : List ℕ) (counts : Counts) : Type 0 where
   pub left : length old ≡ 16 + length new
 
 -- the totals were read from the front of `old`, and `new` is left
-pub record ReadsTotals (old new : List ℕ) (totals : StoredTotals) : Type 0 where
+pub record ReadsTotals (old new : List ℕ) (totals : Totals) : Type 0 where
   pub fit : TotalsFit totals
   pub spelled : old ≡ totals_spelling totals ++ new
   pub left : length old ≡ 48 + length new
@@ -80,14 +80,14 @@ pub record ReadsCuboids (count : ℕ) (old new : List ℕ) (cuboids : List Store
   pub left : length old ≡ 12 * count + length new
 
 -- the counts and the totals were read from the front of `old`, which is as long as the counts say, and `new` is left
-pub record ReadsFront (old new : List ℕ) (counts : Counts) (totals : StoredTotals) : Type 0 where
+pub record ReadsFront (old new : List ℕ) (counts : Counts) (totals : Totals) : Type 0 where
   pub mid : List ℕ
   pub counts_read : ReadsCounts old mid counts
   pub whole : AreCountsOf (length old) counts
   pub totals_read : ReadsTotals mid new totals
 
 -- the bytes are those of a root of these parts, where they keep the rules, and of no other root
-pub record ArePartsOf (bytes : List ℕ) (counts : Counts) (totals : StoredTotals) (batches : List ℕ)
+pub record ArePartsOf (bytes : List ℕ) (counts : Counts) (totals : Totals) (batches : List ℕ)
     (cuboids : List StoredCuboid) : Type 0 where
   pub many : length batches ≡ counts.batches
   pub is_root_of : (layout : Layout) → IsProperRoot (root_of_parts layout counts totals batches cuboids)

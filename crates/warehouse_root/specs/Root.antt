@@ -5,9 +5,9 @@ use Rattle.cube_model.specs.Limits.{most_batch_rows, most_batches}
 use Rattle.wire.specs.Spelling.{spelling}
 use Rattle.warehouse_root.specs.declared.cuboid.StoredCuboid.{StoredCuboid}
 use Rattle.warehouse_root.specs.declared.layout.Layout.{Layout}
-use Rattle.warehouse_root.specs.declared.totals.StoredTotals.{StoredTotals}
+use Rattle.cube_model.specs.declared.totals.Totals.{Totals}
 use Rattle.warehouse_root.specs.Layouts.{view_count}
-use Rattle.warehouse_root.specs.declared.layout.Layout.TheVariants.{First, Second}
+use Rattle.warehouse_root.specs.declared.layout.Layout.TheVariants.{Second}
 use Rattle.warehouse_root.specs.Limits.{greatest_total, most_additions, most_cells, most_cuboids, most_runs}
 
 -- what a root says, wherever it lies in memory
@@ -20,7 +20,7 @@ pub record PlainRoot : Type 0 where
   -- how often rows were added to dimensions
   pub additions : ℕ
   -- the sums of absolute values over the rows of all batches
-  pub totals : StoredTotals
+  pub totals : Totals
   pub cuboids : List StoredCuboid
 
 -- how many batches, the target, how many additions, how many cuboids
@@ -29,7 +29,7 @@ counts_spelling batches target additions cuboids =
     spelling 4 batches ++ (spelling 4 target ++ (spelling 4 additions ++ spelling 4 cuboids))
 
 -- the 48 bytes of the totals, measure by measure
-abbrev pub totals_spelling : StoredTotals → List ℕ
+abbrev pub totals_spelling : Totals → List ℕ
 totals_spelling totals =
     spelling 8 totals.quantity ++ (spelling 8 totals.extendedprice ++ (spelling 8 totals.revenue
     ++ (spelling 8 totals.supplycost ++ (spelling 8 totals.discounted ++ spelling 8 totals.profit))))
@@ -46,7 +46,7 @@ root_spelling root =
     ++ (totals_spelling root.totals ++ (flat_map (spelling 4) root.batches ++ flat_map cuboid_of root.cuboids))
 
 -- each total keeps its limit
-pub record AreProperTotals (totals : StoredTotals) : Type 0 where
+pub record AreProperTotals (totals : Totals) : Type 0 where
   pub quantity : totals.quantity ≤ greatest_total
   pub extendedprice : totals.extendedprice ≤ greatest_total
   pub revenue : totals.revenue ≤ greatest_total
@@ -100,7 +100,7 @@ first_root layout = record {
 }
 
 -- the root with one batch more, of so many rows, and the totals with its rows
-abbrev pub root_with_batch : ℕ → StoredTotals → PlainRoot → PlainRoot
+abbrev pub root_with_batch : ℕ → Totals → PlainRoot → PlainRoot
 root_with_batch rows totals root = record root { batches = root.batches ++ rows ∷ []; totals = totals }
 
 -- the root with another target

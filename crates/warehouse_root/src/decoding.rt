@@ -8,14 +8,15 @@ use crate::cuboid::StoredCuboid;
 use crate::layout::Layout;
 use crate::limits::{MOST_ADDITIONS, MOST_CUBOIDS};
 use crate::reading::Counts;
-use crate::totals::StoredTotals;
+use crate::totals::are_proper_totals;
+use cube_model::Totals;
 use cube_model::limits::{MOST_BATCH_ROWS, MOST_BATCHES};
 
 // Whether a root of these parts keeps the rules.
 pub(crate) fn keep_rules(
     layout: Layout,
     counts: &Counts,
-    totals: &StoredTotals,
+    totals: &Totals,
     batches: &[u32],
     cuboids: &[StoredCuboid],
 ) -> bool
@@ -26,7 +27,7 @@ pub(crate) fn keep_rules(
         && cuboids.len() <= MOST_CUBOIDS
         && counts.target <= counts.batches
         && counts.additions <= MOST_ADDITIONS
-        && totals.are_proper()
+        && are_proper_totals(totals)
         && are_few(batches)
         && are_proper(cuboids, layout, counts.batches)
         && ascend(cuboids)

@@ -6,8 +6,7 @@ ghost use Rattle.wire.specs.Spelling.{spelling};
 ghost use Rattle.warehouse_root.specs.Root.{counts_spelling, cuboid_of, totals_spelling};
 
 use crate::cuboid::StoredCuboid;
-use crate::totals::StoredTotals;
-use cube_model::Fault;
+use cube_model::{Fault, Totals};
 use wire::{push_u16, push_u32, push_u64};
 
 // Adds the four counts.
@@ -28,7 +27,7 @@ pub(crate) fn push_counts(
 }
 
 // Adds the totals.
-pub(crate) fn push_totals(out: &mut Vec<u8>, totals: &StoredTotals) -> Result<(), Fault>
+pub(crate) fn push_totals(out: &mut Vec<u8>, totals: &Totals) -> Result<(), Fault>
     ensures ok { OnOk result (out.new.items ≡ out.old.items ++ totals_spelling totals.now) }
     ensures memory { IfErr result (λ fault. fault ≡ Fault.Memory) }
 {

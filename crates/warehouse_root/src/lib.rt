@@ -18,4 +18,3 @@ pub use layout::Layout;
 pub use modes::{MODES_ID, decode_modes, encode_modes};
 pub use objects::{push_run_ids, run_id, segment_id};
 pub use root::Root;
-pub use totals::StoredTotals;

@@ -1,9 +1,9 @@
 //! The ids of the objects of a warehouse.
-ghost use Rattle.std.specs.Prelude.{◌≡◌, ◌+◌, ◌≤◌, ◌<◌, ◌^◌, ◌++◌, ◌↔◌, length, IfErr, IsTrue, OnOk};
-ghost use Rattle.std.specs.List.{Any, Contains, flat_map, range_with_len};
+ghost use Rattle.std.specs.Prelude.{◌≡◌, ◌+◌, ◌≤◌, ◌<◌, ◌^◌, ◌++◌, IfErr, OnOk};
+ghost use Rattle.std.specs.List.{flat_map, range_with_len};
 ghost use Rattle.cube_model.specs.declared.fault.Fault.{Fault};
 ghost use Rattle.cube_model.specs.Limits.{most_batches};
-ghost use Rattle.warehouse_root.specs.Objects.{run_id, run_ids, segment_id, segment_ids};
+ghost use Rattle.warehouse_root.specs.Objects.{run_id, run_ids, segment_id};
 
 use crate::cuboid::StoredCuboid;
 use cube_model::Fault;
@@ -21,35 +21,6 @@ pub fn run_id(view: u16, run: u16) -> u32
     ensures { result ≡ run_id view run }
 {
     131_072 + 16 * u32::from(view) + u32::from(run)
-}
-
-// Whether the id is that of the segment of one of the batches or of a run of one of the cuboids.
-pub(crate) fn is_stored(batches: &[u32], cuboids: &[StoredCuboid], id: u32) -> bool
-    requires { length batches.now ≤ most_batches }
-    ensures { IsTrue result ↔ Contains (segment_ids (length batches.now) ++ flat_map run_ids cuboids.now) id }
-{
-    is_among(segment_id(1), batches.len() as u32, id) || has_run(cuboids, id)
-}
-
-// Whether a number is one of so many from one on.
-pub(crate) fn is_among(first: u32, count: u32, id: u32) -> bool
-    ensures { IsTrue result ↔ Contains (range_with_len first count) id }
-{
-    id >= first && id - first < count
-}
-
-// Whether the id is that of a run of one of the cuboids.
-fn has_run(cuboids: &[StoredCuboid], id: u32) -> bool
-    ensures { IsTrue result ↔ Any (λ cuboid. Contains (run_ids cuboid) id) cuboids.now }
-{
-    cuboids.iter().any(|cuboid| is_run_of(cuboid, id))
-}
-
-// Whether the id is that of a run of the cuboid.
-fn is_run_of(cuboid: &StoredCuboid, id: u32) -> bool
-    ensures { IsTrue result ↔ Contains (run_ids cuboid.now) id }
-{
-    is_among(run_id(cuboid.view, 0), u32::from(cuboid.runs), id)
 }
 
 // Adds numbers from one on.

@@ -5,8 +5,7 @@ ghost use Rattle.warehouse_root.specs.Reading.{ArePartsOf, ReadsCounts, ReadsCub
 ghost use Rattle.warehouse_root.specs.Reading.{ReadsRows, ReadsTotals, SpellNoRoot};
 
 use crate::cuboid::StoredCuboid;
-use crate::totals::StoredTotals;
-use cube_model::Fault;
+use cube_model::{Fault, Totals};
 use std::alloc::Global;
 use wire::Cursor;
 
@@ -34,7 +33,7 @@ impl Counts {
 #[derive(Drop)]
 pub(crate) struct Parts {
     pub(crate) counts: Counts,
-    pub(crate) totals: StoredTotals,
+    pub(crate) totals: Totals,
     pub(crate) batches: Vec<u32>,
     pub(crate) cuboids: Vec<StoredCuboid>,
 }
@@ -59,7 +58,7 @@ pub(crate) fn read_parts(alloc: Global, bytes: &[u8]) -> Result<Parts, Fault>
 }
 
 // The counts and the totals at the front of bytes that are as many as the counts say.
-fn read_front(cursor: &mut Cursor<'_>) -> Result<(Counts, StoredTotals), Fault>
+fn read_front(cursor: &mut Cursor<'_>) -> Result<(Counts, Totals), Fault>
     ensures ok { IfOk result (λ front. ReadsFront cursor.old cursor.new front.0 front.1) }
     ensures refused { IfErr result (λ fault. (fault ≡ Fault.BadLayout) × SpellNoRoot cursor.old) }
 {
@@ -87,12 +86,12 @@ fn read_counts(cursor: &mut Cursor<'_>) -> Result<Counts, Fault>
 }
 
 // The totals at the front of bytes.
-fn read_totals(cursor: &mut Cursor<'_>) -> Result<StoredTotals, Fault>
+fn read_totals(cursor: &mut Cursor<'_>) -> Result<Totals, Fault>
     ensures ok { IfOk result (ReadsTotals cursor.old cursor.new) }
     ensures short { IsErr result ↔ (length cursor.old < 48) }
     ensures fault { IsOkUnless result Fault.BadLayout }
 {
-    Ok(StoredTotals {
+    Ok(Totals {
         quantity: cursor.u64()?,
         extendedprice: cursor.u64()?,
         revenue: cursor.u64()?,

@@ -1,7 +1,5 @@
 //! The root of a warehouse.
-ghost use Rattle.std.specs.Prelude.{◌≡◌, ◌⊎◌, ◌↔◌, ◌≤◌, ◌<◌, List, [], ◌∷◌, ◌++◌, length, All, IfErr, IfOk, IsTrue};
-ghost use Rattle.std.specs.Prelude.{OnOk};
-ghost use Rattle.std.specs.List.{Contains};
+ghost use Rattle.std.specs.Prelude.{◌≡◌, ◌⊎◌, ◌≤◌, ◌<◌, List, [], ◌∷◌, ◌++◌, length, All, IfErr, IfOk, OnOk};
 ghost use Rattle.cube_model.specs.declared.fault.Fault.{Fault};
 ghost use Rattle.cube_model.specs.Limits.{most_batch_rows, most_batches};
 ghost use Rattle.warehouse_root.specs.Limits.{most_additions, most_cuboids};
@@ -17,10 +15,9 @@ use crate::cuboid::StoredCuboid;
 use crate::decoding::keep_rules;
 use crate::encoding::{push_counts, push_cuboids, push_rows, push_totals};
 use crate::layout::Layout;
-use crate::objects::{is_among, is_stored, push_numbers, push_runs, segment_id};
+use crate::objects::{push_numbers, push_runs, segment_id};
 use crate::reading::read_parts;
-use crate::totals::StoredTotals;
-use cube_model::Fault;
+use cube_model::{Fault, Totals};
 use std::alloc::Global;
 use std::marker::Model;
 
@@ -31,7 +28,7 @@ pub struct Root {
     batches: Vec<u32>,
     target: u32,
     additions: u32,
-    totals: StoredTotals,
+    totals: Totals,
     cuboids: Vec<StoredCuboid>,
 }
 
@@ -64,7 +61,7 @@ impl Root {
     pub fn new(alloc: Global, layout: Layout) -> Root
         ensures { result ≡ first_root layout }
     {
-        let totals = StoredTotals {
+        let totals = Totals {
             quantity: 0,
             extendedprice: 0,
             revenue: 0,
@@ -83,7 +80,7 @@ impl Root {
     }
 
     /// The root with one batch more, of so many rows, and the totals with its rows.
-    pub fn with_batch(&self, alloc: Global, rows: u32, totals: StoredTotals) -> Result<Root, Fault>
+    pub fn with_batch(&self, alloc: Global, rows: u32, totals: Totals) -> Result<Root, Fault>
         requires batches { length self.now.batches < most_batches }
         requires rows { rows ≤ most_batch_rows }
         requires totals { AreProperTotals totals }
@@ -278,7 +275,7 @@ impl Root {
     }
 
     /// The sums of absolute values over the rows of all batches.
-    pub fn totals(&self) -> StoredTotals
+    pub fn totals(&self) -> Totals
         ensures { result ≡ self.now.totals }
     {
         self.totals
@@ -301,13 +298,6 @@ impl Root {
         push_numbers(&mut ids, segment_id(1), self.batches.len() as u32)?;
         push_runs(&mut ids, &self.cuboids)?;
         Ok(ids)
-    }
-
-    /// Whether the root asks for an object of that id.
-    pub fn asks_for(&self, id: u32) -> bool
-        ensures { IsTrue result ↔ Contains (object_ids self.now) id }
-    {
-        is_among(1, self.layout.dimensions(), id) || is_stored(&self.batches, &self.cuboids, id)
     }
 }
 

@@ -5,6 +5,7 @@ ghost use Rattle.std.specs.Prelude.{◌≡◌, ◌+◌, ◌<◌, ◌++◌, lengt
 ghost use Rattle.std.specs.Vec.{vec_len, vec_capacity};
 ghost use Rattle.wire.specs.Spelling.{spelling, signed_spelling};
 
+use byteorder::{ByteOrder, LittleEndian};
 use cube_model::Fault;
 
 /// Adds bytes as they are.
@@ -25,7 +26,7 @@ pub fn push_u8(out: &mut Vec<u8>, number: u8) -> Result<(), Fault>
     ensures memory { IsOkUnless result Fault.Memory }
     ensures full { OnErr result (vec_capacity out.old < vec_len out.old + 1) }
 {
-    push_bytes(out, &u8::to_le_bytes(number))
+    push_bytes(out, &[number])
 }
 
 /// Adds a number in two bytes.
@@ -35,7 +36,9 @@ pub fn push_u16(out: &mut Vec<u8>, number: u16) -> Result<(), Fault>
     ensures memory { IsOkUnless result Fault.Memory }
     ensures full { OnErr result (vec_capacity out.old < vec_len out.old + 2) }
 {
-    push_bytes(out, &u16::to_le_bytes(number))
+    let mut bytes = [0; 2];
+    LittleEndian::write_u16(&mut bytes, number);
+    push_bytes(out, &bytes)
 }
 
 /// Adds a number in four bytes.
@@ -45,7 +48,9 @@ pub fn push_u32(out: &mut Vec<u8>, number: u32) -> Result<(), Fault>
     ensures memory { IsOkUnless result Fault.Memory }
     ensures full { OnErr result (vec_capacity out.old < vec_len out.old + 4) }
 {
-    push_bytes(out, &u32::to_le_bytes(number))
+    let mut bytes = [0; 4];
+    LittleEndian::write_u32(&mut bytes, number);
+    push_bytes(out, &bytes)
 }
 
 /// Adds a number in eight bytes.
@@ -55,7 +60,9 @@ pub fn push_u64(out: &mut Vec<u8>, number: u64) -> Result<(), Fault>
     ensures memory { IsOkUnless result Fault.Memory }
     ensures full { OnErr result (vec_capacity out.old < vec_len out.old + 8) }
 {
-    push_bytes(out, &u64::to_le_bytes(number))
+    let mut bytes = [0; 8];
+    LittleEndian::write_u64(&mut bytes, number);
+    push_bytes(out, &bytes)
 }
 
 /// Adds a signed number in eight bytes.
@@ -65,5 +72,7 @@ pub fn push_i64(out: &mut Vec<u8>, number: i64) -> Result<(), Fault>
     ensures memory { IsOkUnless result Fault.Memory }
     ensures full { OnErr result (vec_capacity out.old < vec_len out.old + 8) }
 {
-    push_bytes(out, &i64::to_le_bytes(number))
+    let mut bytes = [0; 8];
+    LittleEndian::write_i64(&mut bytes, number);
+    push_bytes(out, &bytes)
 }

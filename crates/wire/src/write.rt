@@ -5,6 +5,8 @@ ghost use Rattle.std.specs.Prelude.{◌≡◌, ◌+◌, ◌≤◌, length};
 ghost use Rattle.wire.specs.Spelling.{signed_spelling, spelling};
 ghost use Rattle.wire.specs.Writing.{with_field};
 
+use byteorder::{ByteOrder, LittleEndian};
+
 /// Writes bytes as they are from a place on.
 pub fn write_bytes(to: &mut [u8], at: usize, bytes: &[u8])
     requires { at + length bytes.now ≤ length to.old }
@@ -13,20 +15,12 @@ pub fn write_bytes(to: &mut [u8], at: usize, bytes: &[u8])
     to[at..at + bytes.len()].copy_from_slice(bytes);
 }
 
-/// Writes a number in one byte from a place on.
-pub fn write_u8(to: &mut [u8], at: usize, number: u8)
-    requires { at + 1 ≤ length to.old }
-    ensures { to.new ≡ with_field at (spelling 1 number) to.old }
-{
-    write_bytes(to, at, &u8::to_le_bytes(number));
-}
-
 /// Writes a number in two bytes from a place on.
 pub fn write_u16(to: &mut [u8], at: usize, number: u16)
     requires { at + 2 ≤ length to.old }
     ensures { to.new ≡ with_field at (spelling 2 number) to.old }
 {
-    write_bytes(to, at, &u16::to_le_bytes(number));
+    LittleEndian::write_u16(&mut to[at..at + 2], number);
 }
 
 /// Writes a number in four bytes from a place on.
@@ -34,7 +28,7 @@ pub fn write_u32(to: &mut [u8], at: usize, number: u32)
     requires { at + 4 ≤ length to.old }
     ensures { to.new ≡ with_field at (spelling 4 number) to.old }
 {
-    write_bytes(to, at, &u32::to_le_bytes(number));
+    LittleEndian::write_u32(&mut to[at..at + 4], number);
 }
 
 /// Writes a number in eight bytes from a place on.
@@ -42,7 +36,7 @@ pub fn write_u64(to: &mut [u8], at: usize, number: u64)
     requires { at + 8 ≤ length to.old }
     ensures { to.new ≡ with_field at (spelling 8 number) to.old }
 {
-    write_bytes(to, at, &u64::to_le_bytes(number));
+    LittleEndian::write_u64(&mut to[at..at + 8], number);
 }
 
 /// Writes a signed number in eight bytes from a place on.
@@ -50,5 +44,5 @@ pub fn write_i64(to: &mut [u8], at: usize, number: i64)
     requires { at + 8 ≤ length to.old }
     ensures { to.new ≡ with_field at (signed_spelling number) to.old }
 {
-    write_bytes(to, at, &i64::to_le_bytes(number));
+    LittleEndian::write_i64(&mut to[at..at + 8], number);
 }

@@ -2,7 +2,7 @@
 
 use column_segment::{encode, is_batch};
 use cube_model::{Fault, LineOrder};
-use sample_star::{FACTS, Fact, line_orders};
+use sample_star::{FACTS, line_orders};
 use std::alloc::Global;
 use std::test::Fail;
 
@@ -60,27 +60,6 @@ pub(crate) static SPELLED: [u8; 285] = [
     // shipmode: codes
     0x00, 0x00, 0x01, 0x00, 0x00, 0x00,
 ];
-
-// A row of zeros and of empty texts.
-pub(crate) const ZEROS: Fact<'static> = Fact {
-    orderkey: 0,
-    linenumber: 0,
-    custkey: 0,
-    partkey: 0,
-    suppkey: 0,
-    orderdate: 0,
-    orderpriority: "",
-    shippriority: "",
-    quantity: 0,
-    extendedprice: 0,
-    ordtotalprice: 0,
-    discount: 0,
-    revenue: 0,
-    supplycost: 0,
-    tax: 0,
-    commitdate: "",
-    shipmode: "",
-};
 
 // The bytes of rows. `Full` where they cannot be a batch.
 pub(crate) fn spelled(alloc: Global, number: u32, rows: &[LineOrder]) -> Result<Vec<u8>, Fault> {

@@ -1,17 +1,19 @@
 //! Batches that are read from a source.
 
-use crate::segments::batches::spelled;
-use crate::segments::lengths::rows_of;
+use crate::segments::projected::repeated;
 use column_segment::decode_from;
 use cube_model::Fault;
 use std::alloc::Global;
+use std::test::Fail;
 use wire::Source;
 
-// Bytes that are at every id, if there are any, of which so many parts can be read before a read is refused.
+// Bytes that are at every id, if there are any, of which so many parts can be read before a read is refused, and how
+// many bytes were read.
 #[derive(Drop)]
 pub(crate) struct Refusing<'a> {
     pub(crate) bytes: Option<&'a [u8]>,
     pub(crate) left: usize,
+    pub(crate) given: usize,
 }
 
 impl<'a> Source for Refusing<'a> {
@@ -54,6 +56,7 @@ impl<'a> Source for Refusing<'a> {
             return Err(Fault::Failed);
         };
         to.copy_from_slice(part);
+        self.given = self.given.saturating_add(to.len());
         Ok(())
     }
 
@@ -69,29 +72,28 @@ fn refusal_after(alloc: Global, bytes: &[u8], left: usize) -> Option<Fault> {
     let mut source = Refusing {
         bytes: Some(bytes),
         left,
+        given: 0,
     };
     decode_from(alloc, &mut source, 9).err()
 }
 
-// The bytes of so many rows.
-fn bytes_of(alloc: Global, count: u64) -> Result<Vec<u8>, Fault> {
-    let rows = rows_of(alloc, count)?;
-    spelled(alloc, 1, &rows)
-}
+// How many parts can be read, and why 2,100 rows are refused then.
+static READS: [(usize, Option<Fault>); 4] = [
+    (0, Some(Fault::Device)),
+    (1, Some(Fault::Device)),
+    (2, Some(Fault::Device)),
+    (3, None),
+];
 
-// The same where none can be read, one, two and three, of a batch of 2,000 rows.
-fn refusals(alloc: Global) -> Result<[Option<Fault>; 4], Fault> {
-    let bytes = bytes_of(alloc, 2_000)?;
-    let mut refusals = [None; 4];
-    for (left, refusal) in refusals.iter_mut().enumerate() {
-        *refusal = refusal_after(alloc, &bytes, left);
-    }
-    Ok(refusals)
-}
-
-// 2,000 rows of 71 bytes and their texts are three reads of 65,536 bytes.
+// 2,100 rows of 71 bytes and their texts are three reads of 65,536 bytes.
 #[test]
-fn each_read_is_refused_in_turn(rt: HostRuntime) {
-    let device = Some(Fault::Device);
-    assert!(rt; refusals(rt.alloc()) == Ok([device, device, device, None]));
+fn each_read_is_refused_in_turn(rt: HostRuntime) -> Result<(), Fail> {
+    let bytes = repeated(rt.alloc(), 700)?;
+    for (left, refusal) in &READS {
+        assert!(rt;
+            refusal_after(rt.alloc(), &bytes, *left) == *refusal,
+            "{left} reads"
+        );
+    }
+    Ok(())
 }

@@ -45,29 +45,24 @@ static OBJECTS: [(Axis, &[u8]); 4] = [
     (Axis::Date, DATES),
 ];
 
-/// Whether a dimension is spelled so.
-fn is_spelled(alloc: Global, dims: &Dims, axis: Axis, wanted: &[u8]) -> Result<bool, Fault> {
-    let found = encode(alloc, dims, axis)?;
-    Ok(found.as_slice() == wanted)
-}
-
 fn sample_dims(alloc: Global) -> Result<Dims, Fault> {
     let rows = dim_rows(alloc, &STAR)?;
     Dims::build(alloc, &rows)
 }
 
-/// The first dimension of the sample that is spelled otherwise.
-fn first_other_bytes(alloc: Global) -> Result<Option<Axis>, Fault> {
+/// Whether a dimension of the sample is spelled so.
+fn is_spelled(alloc: Global, axis: Axis, wanted: &[u8]) -> Result<bool, Fault> {
     let dims = sample_dims(alloc)?;
-    for (axis, wanted) in &OBJECTS {
-        if !is_spelled(alloc, &dims, *axis, wanted)? {
-            return Ok(Some(*axis));
-        }
-    }
-    Ok(None)
+    let found = encode(alloc, &dims, axis)?;
+    Ok(found.as_slice() == wanted)
 }
 
 #[test]
 fn bytes_by_hand(rt: HostRuntime) {
-    assert!(rt; first_other_bytes(rt.alloc()) == Ok(None));
+    for (place, (axis, wanted)) in OBJECTS.iter().enumerate() {
+        assert!(rt;
+            is_spelled(rt.alloc(), *axis, *wanted) == Ok(true),
+            "object {place}"
+        );
+    }
 }

@@ -164,20 +164,33 @@ pub(crate) const LAST_TWO: Summaries = Summaries {
     },
 };
 
-// A cell of the one manufacturer at a day.
-pub(crate) fn at_day(date: u16, count: u64, measures: Summaries) -> Cell {
-    Cell {
-        key: Key {
-            customer: 65_535,
-            supplier: 65_535,
-            part: 0,
-            date,
-            ship_mode: 65_535,
-        },
-        count,
-        measures,
-    }
-}
+// The key of the one manufacturer at the first day.
+pub(crate) const AT_FIRST_DAY: Key = Key {
+    customer: 65_535,
+    supplier: 65_535,
+    part: 0,
+    date: 0,
+    ship_mode: 65_535,
+};
+
+// The second day.
+pub(crate) const AT_SECOND_DAY: Key = Key {
+    date: 1,
+    ..AT_FIRST_DAY
+};
+
+// The cell of the first row, and that of the others.
+pub(crate) const FIRST_CELL: Cell = Cell {
+    key: AT_FIRST_DAY,
+    count: 1,
+    measures: FIRST,
+};
+
+pub(crate) const SECOND_CELL: Cell = Cell {
+    key: AT_SECOND_DAY,
+    count: 2,
+    measures: LAST_TWO,
+};
 
 // The run over the first batch of cells of a view that does not group by ship mode.
 pub(crate) fn run(alloc: Global, view: u32, cells: &[Cell]) -> Result<Vec<u8>, Fault> {

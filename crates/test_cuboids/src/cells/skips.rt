@@ -77,24 +77,23 @@ fn least_of(part: u16) -> u128 {
     least.number()
 }
 
-// The manufacturers and days of the next cells of a run.
+// The manufacturer and the day of the next cell of a run.
 fn next_codes<S: Source>(
     alloc: Global,
     source: &mut S,
     run: &mut RunReader,
-) -> Result<Vec<(u16, u16)>, Fault>
+) -> Result<Option<(u16, u16)>, Fault>
     requires { S.totals source.old run.old.id ≡ Some (size_of_run run.old) }
 {
-    let mut codes = Vec::new(alloc);
     if run.is_done() {
-        return Ok(codes);
+        return Ok(None);
     }
     let mut cells = Vec::new(alloc);
     run.read_piece(source, &mut cells)?;
-    for cell in cells.as_slice() {
-        codes.push((cell.key.part, cell.key.date))?;
+    match cells.first() {
+        Some(cell) => Ok(Some((cell.key.part, cell.key.date))),
+        None => Ok(None),
     }
-    Ok(codes)
 }
 
 // The same once the cells of manufacturers below one are passed over.
@@ -102,32 +101,10 @@ fn codes_from<S: Source>(
     alloc: Global,
     source: &mut S,
     part: u16,
-) -> Result<Vec<(u16, u16)>, Fault> {
+) -> Result<Option<(u16, u16)>, Fault> {
     let mut run = RunReader::open(alloc, source, 9)?;
     run.skip_to(source, least_of(part))?;
     next_codes(alloc, source, &mut run)
-}
-
-// Five cells of three manufacturers.
-static CODES: [(u16, u16); 5] = [(0, 0), (0, 1), (1, 0), (3, 2), (3, 5)];
-
-// A manufacturer, and the cells that are left from it on: the first, one in the midst, one of no cell, the last, and
-// one after it.
-static LEFT: [(u16, &[(u16, u16)]); 5] = [
-    (0, &[(0, 0), (0, 1), (1, 0), (3, 2), (3, 5)]),
-    (1, &[(1, 0), (3, 2), (3, 5)]),
-    (2, &[(3, 2), (3, 5)]),
-    (3, &[(3, 2), (3, 5)]),
-    (4, &[]),
-];
-
-// The run of cells of some manufacturers and days.
-fn run_of_codes(alloc: Global, codes: &[(u16, u16)]) -> Result<Vec<u8>, Fault> {
-    let mut cells = Vec::new(alloc);
-    for (part, date) in codes {
-        cells.push(cell(*part, *date))?;
-    }
-    run(alloc, 248, cells.as_slice())
 }
 
 // The run of so many manufacturers with as many days each.
@@ -141,51 +118,50 @@ fn run_of(alloc: Global, parts: u16, dates: u16) -> Result<Vec<u8>, Fault> {
     run(alloc, 248, cells.as_slice())
 }
 
-#[test]
-fn passes_over_the_cells_of_a_run_of_one_piece(rt: HostRuntime) -> Result<(), Fail> {
-    let bytes = run_of_codes(rt.alloc(), &CODES)?;
-    for (part, want) in &LEFT {
-        let mut source = Counted {
-            bytes: bytes.as_slice(),
-            reads: 0,
-            given: 0,
-        };
-        let codes = codes_from(rt.alloc(), &mut source, *part)?;
-        assert_eq!(rt; (codes.as_slice(), source.reads), (*want, 1), "{part}");
-    }
-    Ok(())
-}
-
-// A manufacturer of a run of ten with 500 cells each, how many reads are made up to its first cells at most, and
-// whether there are some.
-static READS: [(u16, u64, bool); 5] = [
+// Manufacturers and days of each, the manufacturer up to whose cells others are passed over, how many reads are made up
+// to its first cells at most, and whether there are some.
+static READS: [(u16, u16, u16, u64, bool); 9] = [
+    // A run of one piece is read once.
+    (3, 2, 0, 1, true),
+    (3, 2, 1, 1, true),
+    (3, 2, 2, 1, true),
+    (3, 2, 3, 1, false),
     // The first piece is read once.
-    (0, 1, true),
+    (10, 500, 0, 1, true),
     // The key a piece further on is read, nine halve the 404 cells before it to one, and the piece from there on is
     // read.
-    (1, 12, true),
+    (10, 500, 1, 12, true),
     // The key a piece further on is read, 13 halve the cells after it to one.
-    (7, 16, true),
-    (9, 16, true),
-    (10, 15, false),
+    (10, 500, 7, 16, true),
+    (10, 500, 9, 16, true),
+    (10, 500, 10, 15, false),
 ];
 
+// The first of the next cells of such a run then, how many reads were made, and how many bytes they gave.
+fn first_from(
+    alloc: Global,
+    parts: u16,
+    dates: u16,
+    part: u16,
+) -> Result<(Option<(u16, u16)>, u64, u64), Fault> {
+    let bytes = run_of(alloc, parts, dates)?;
+    let mut source = Counted {
+        bytes: bytes.as_slice(),
+        reads: 0,
+        given: 0,
+    };
+    let codes = codes_from(alloc, &mut source, part)?;
+    Ok((codes, source.reads, source.given))
+}
+
 #[test]
-fn reads_few_keys_of_a_run_of_many_pieces(rt: HostRuntime) -> Result<(), Fail> {
-    let bytes = run_of(rt.alloc(), 10, 500)?;
-    for (part, most, some) in &READS {
-        let mut source = Counted {
-            bytes: bytes.as_slice(),
-            reads: 0,
-            given: 0,
-        };
-        let codes = codes_from(rt.alloc(), &mut source, *part)?;
-        let first = codes.first().copied();
+fn reads_few_keys(rt: HostRuntime) -> Result<(), Fail> {
+    for (parts, dates, part, most, some) in &READS {
+        let (first, reads, given) = first_from(rt.alloc(), *parts, *dates, *part)?;
         let want = if *some { Some((*part, 0)) } else { None };
-        assert_eq!(rt;
-            (first, source.reads <= *most, source.given <= 131_232),
-            (want, true, true),
-            "{part}"
+        assert!(rt;
+            first == want && reads <= *most && given <= 131_232,
+            "{part} of {parts}"
         );
     }
     Ok(())

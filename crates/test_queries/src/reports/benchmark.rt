@@ -3,7 +3,6 @@ use cube_model::{Agg, Attr, Fault, Kind, Measure, Order};
 use sample_star::{Asked, Condition, query};
 use ssb_reports::{QNumber, query_of};
 use std::alloc::Global;
-use std::test::Fail;
 
 static TABLE: [(QNumber, &str, Asked<'static>); 13] = [
     (
@@ -222,21 +221,12 @@ fn is_named(alloc: Global, number: QNumber, name: &str, asked: &Asked<'_>) -> Re
     Ok(found == want && number.name() == name)
 }
 
-// The name of the first query that is not the one in the table.
-fn first_other(
-    alloc: Global,
-    table: &[(QNumber, &'static str, Asked<'_>)],
-) -> Result<Option<&'static str>, Fault> {
-    for (number, name, asked) in table {
-        if !is_named(alloc, *number, name, asked)? {
-            return Ok(Some(*name));
-        }
-    }
-    Ok(None)
-}
-
 #[test]
-fn thirteen_queries_are_the_benchmarks(rt: HostRuntime) -> Result<(), Fail> {
-    assert_eq!(rt; first_other(rt.alloc(), &TABLE)?, None);
-    Ok(())
+fn thirteen_queries_are_the_benchmarks(rt: HostRuntime) {
+    for (number, name, asked) in &TABLE {
+        assert!(rt;
+            is_named(rt.alloc(), *number, name, asked) == Ok(true),
+            "query {name}"
+        );
+    }
 }

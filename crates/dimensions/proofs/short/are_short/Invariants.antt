@@ -3,4 +3,4 @@ use Rattle.dimensions.specs.ShortTexts.{AreShortRows}
 use Rattle.dimensions.proofs.short.are_short.Given as goal
 
 abbrev pub invariant-loop-row : goal.invariant-loop-row
-invariant-loop-row g l = AreShortRows (take l.row-index (map g.R.TableRow.shown l.rows))
+invariant-loop-row g l = AreShortRows (take l.row-index (map g.R.DimensionRow.shown l.rows))

@@ -1,8 +1,7 @@
-use Rattle.std.proofs.Common.{◌∙◌, ◌++◌, ◌∷◌, [], ℕ, List, sym, ap}
-use Rattle.group_plan.proofs.FirstPlaces.{range_next}
+use Rattle.std.proofs.Common.{refl, arith}
+use Rattle.std.proofs.lemmas.Iterator.{YieldsList-from_range, items_from_collect}
 use Rattle.group_plan.proofs.kinds.all_places.Goals as goal
 
-pub loop-row-preserved : goal.loop-row-preserved
-loop-row-preserved c =
-    c.in_ok-push.ensures.items ∙ ap (λ (l : List ℕ). l ++ c.loop-row.row ∷ []) c.loop-row.invariant
-    ∙ sym (range_next c.loop-row.row)
+pub returns : goal.returns
+returns c =
+    items_from_collect _ c.collect.ensures.ran (YieldsList-from_range 0 c.args.count c.args.count refl (omega arith))

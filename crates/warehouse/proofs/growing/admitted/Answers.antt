@@ -1,7 +1,6 @@
 use Rattle.std.proofs.Common.{◌≡◌, Some, length, sym, ◌∙◌, ap}
 use Rattle.cube_model.specs.Admission.{refusal}
 use Rattle.batch_admission.specs.Found.{found_in}
-use Rattle.warehouse_objects.specs.Represents.{stored}
 use Rattle.warehouse.proofs.Refusing.{refusal_apart}
 use Rattle.warehouse.proofs.Preparing.{can_follow}
 use Rattle.warehouse.proofs.growing.admitted.Goals as goal
@@ -17,7 +16,7 @@ returns-in-Ok-clause-model c = λ w rows root_is is.
     let after = is ∙ ap (λ totals. found_in w.rows totals rows) (sym c.admission_of-admission.ensures.totals) in
     let admits = c.in-Ok.ensures.admits w.rows w.batches rows (c.admission_of-admission.ensures.represents w root_is)
     after in
-    (sym admits.cause, c.stored_of.ensures ∙ ap stored (c.totals.ensures.totals ∙ admits.taken.totals))
+    (sym admits.cause, c.totals.ensures.totals ∙ admits.taken.totals)
 
 pub returns-in-Err-clause-model : goal.returns-in-Err-clause-model
 returns-in-Err-clause-model c = λ w rows root_is is.

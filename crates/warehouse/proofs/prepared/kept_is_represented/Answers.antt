@@ -1,4 +1,4 @@
-use Rattle.std.proofs.Common.{refl, subst, sym, ◌∙◌, List, ℕ}
+use Rattle.std.proofs.Common.{refl, subst, sym, ◌∙◌}
 use Rattle.warehouse_root.specs.declared.layout.Layout.{Layout}
 use Rattle.warehouse_root.proofs.CallerLemmas.{IsRootOf-one}
 use Rattle.warehouse_objects.specs.Represents.{HasModes, root_of}

@@ -6,8 +6,7 @@ use Rattle.cube_model.specs.declared.rows.LineOrder.{LineOrder}
 use Rattle.object_store.specs.Content.{Content}
 use Rattle.object_store.specs.Store.{IsStill, content_of, device_of}
 use Rattle.batch_admission.specs.Totals.{totals_of}
-use Rattle.batch_admission.specs.declared.totals.Totals.{Totals}
-use Rattle.warehouse_objects.specs.Represents.{IsLaidOut, stored}
+use Rattle.warehouse_objects.specs.Represents.{IsLaidOut}
 use Rattle.warehouse_objects.proofs.Batches.{get_within}
 use Rattle.std.proofs.lemmas.Result.{err_from_is_err_and}
 use Rattle.warehouse_objects.proofs.OneMoreRead.{has_read, reads_more, same_error, still_then, then_reads}
@@ -95,5 +94,4 @@ returns-clause-found g c = λ is k w laid rooted same.
     let counted : c.totals-2.result ≡ totals_of (all_rows w.batches) =
     c.totals-2.ensures.totals ∙ represent.totals
     ∙ ap (λ (bs : List (List LineOrder)). totals_of (all_rows bs)) (take_all index w.batches ends) in
-    c.check_totals.ensures.found is (c.totals.ensures ∙ ap (λ r. r.totals) rooted
-    ∙ ap (λ (t : Totals). stored t) (sym counted))
+    c.check_totals.ensures.found is (c.totals.ensures ∙ ap (λ r. r.totals) rooted ∙ sym counted)

@@ -1,7 +1,7 @@
 use Rattle.std.proofs.Common.{◌≡◌, ◌+◌, List, ◌++◌, take}
 use Rattle.cube_model.specs.declared.rows.LineOrder.{LineOrder}
 use Rattle.batch_admission.specs.Found.{found_in}
-use Rattle.batch_admission.specs.declared.totals.Totals.{Totals}
+use Rattle.cube_model.specs.declared.totals.Totals.{Totals}
 use Rattle.batch_admission.proofs.findings.Findings.more.Given as goal
 
 abbrev pub invariant-loop-row : goal.invariant-loop-row

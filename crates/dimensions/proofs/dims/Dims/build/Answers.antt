@@ -4,7 +4,7 @@ use Rattle.std.proofs.lemmas.List.{length-map}
 use Rattle.std.proofs.lemmas.Result.{err_from_is_err_and}
 use Rattle.cube_model.specs.declared.attr.Axis.TheVariants.{Customer, Supplier, Part, Date}
 use Rattle.dimensions.specs.TextRows.{row_of_customer, row_of_supplier, row_of_part, row_of_date}
-use Rattle.dimensions.specs.Shown.{BuildsDimension}
+use Rattle.dimensions.specs.Dimensions.{BuildsDimension}
 use Rattle.dimensions.proofs.MadeLaws.{days_of}
 use Rattle.dimensions.proofs.ShownLaws.{refused_customers, refused_suppliers, refused_parts, refused_dates, accepted}
 use Rattle.dimensions.proofs.ShownLaws.{few_days, shown_is, are_dimensions}
@@ -57,7 +57,7 @@ of_days-requires c =
     omega (
       arith,
       ap length c.keys.ensures.keys,
-      ap length dates.0.table.keys,
+      ap length dates.0.stores.keys,
       length-map (map row_of_date c.args.rows.now.dates) (λ row. row.key),
       length-map c.args.rows.now.dates row_of_date,
       few_days c.args.rows.now dates.1,
@@ -76,7 +76,7 @@ invariant_of-result c =
     are_dimensions c.args.rows.now c.in_ok-customers.customers c.in_ok-suppliers.suppliers c.in_ok-parts.parts
     c.in_ok-dates.dates customers.0 suppliers.0 parts.0 dates.0
     c.in_ok-days.days (c.in_ok-days.ensures.ok ∙ ap (map decimal) c.keys.ensures.keys
-    ∙ days_of c.args.rows.now.dates c.in_ok-dates.dates.table dates.0.table)
+    ∙ days_of c.args.rows.now.dates c.in_ok-dates.dates dates.0.stores)
     (accepted c.args.rows.now customers.1 suppliers.1 parts.1 dates.1) c.requires.short
 
 pub returns-clause-ok : goal.returns-clause-ok

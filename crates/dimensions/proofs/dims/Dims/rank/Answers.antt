@@ -2,7 +2,8 @@ use Rattle.std.proofs.Common.{◌∙◌, sym, subst}
 use Rattle.cube_model.specs.Attributes.{axis_of}
 use Rattle.cube_model.specs.Places.{texts_of}
 use Rattle.dimensions.specs.Ranked.{IsRankAt}
-use Rattle.dimensions.specs.Shown.{IsDimension, rows_on}
+use Rattle.dimensions.specs.Dimensions.{IsDimension}
+use Rattle.dimensions.specs.Shown.{rows_on}
 use Rattle.dimensions.proofs.AttributeLaws.{has_column}
 use Rattle.dimensions.proofs.dims.Dims.rank.Goals as goal
 

@@ -22,7 +22,7 @@ with_rows-requires-clause-sound c =
     c.self.inside.days =
     subst (λ (rows : DimRows). AreDimensions rows c.self.inside.customers c.self.inside.suppliers c.self.inside.parts
     c.self.inside.dates c.self.inside.days) c.self.view_is c.self.invariant in
-    (rows_on old Customer, (are.customers_are, passes_valid old Customer are.valid))
+    (rows_on old Customer, (are.customers_are.stores, passes_valid old Customer are.valid))
 
 pub with_rows-requires-2-clause-sound : goal.with_rows-requires-2-clause-sound
 with_rows-requires-2-clause-sound c =
@@ -31,7 +31,7 @@ with_rows-requires-2-clause-sound c =
     c.self.inside.days =
     subst (λ (rows : DimRows). AreDimensions rows c.self.inside.customers c.self.inside.suppliers c.self.inside.parts
     c.self.inside.dates c.self.inside.days) c.self.view_is c.self.invariant in
-    (rows_on old Supplier, (are.suppliers_are, passes_valid old Supplier are.valid))
+    (rows_on old Supplier, (are.suppliers_are.stores, passes_valid old Supplier are.valid))
 
 pub with_rows-requires-3-clause-sound : goal.with_rows-requires-3-clause-sound
 with_rows-requires-3-clause-sound c =
@@ -40,7 +40,7 @@ with_rows-requires-3-clause-sound c =
     c.self.inside.days =
     subst (λ (rows : DimRows). AreDimensions rows c.self.inside.customers c.self.inside.suppliers c.self.inside.parts
     c.self.inside.dates c.self.inside.days) c.self.view_is c.self.invariant in
-    (rows_on old Part, (are.parts_are, passes_valid old Part are.valid))
+    (rows_on old Part, (are.parts_are.stores, passes_valid old Part are.valid))
 
 pub with_rows-requires-4-clause-sound : goal.with_rows-requires-4-clause-sound
 with_rows-requires-4-clause-sound c =
@@ -49,7 +49,7 @@ with_rows-requires-4-clause-sound c =
     c.self.inside.days =
     subst (λ (rows : DimRows). AreDimensions rows c.self.inside.customers c.self.inside.suppliers c.self.inside.parts
     c.self.inside.dates c.self.inside.days) c.self.view_is c.self.invariant in
-    (rows_on old Date, (are.dates_are, passes_valid old Date are.valid))
+    (rows_on old Date, (are.dates_are.stores, passes_valid old Date are.valid))
 
 pub returns-in_err-customers-clause-err : goal.returns-in_err-customers-clause-err
 returns-in_err-customers-clause-err c =
@@ -139,7 +139,7 @@ of_days-requires c =
     omega (
       arith,
       ap length c.keys.ensures.keys,
-      ap length dates.0.table.keys,
+      ap length dates.0.stores.keys,
       length-map (rows_on (joined old c.args.rows.now) Date) (λ row. row.key),
       length-map (joined old c.args.rows.now).dates row_of_date,
       few_days (joined old c.args.rows.now) dates.1,
@@ -167,7 +167,7 @@ invariant_of-result c =
     are_dimensions (joined old c.args.rows.now) c.in_ok-customers.customers c.in_ok-suppliers.suppliers
     c.in_ok-parts.parts c.in_ok-dates.dates customers.0 suppliers.0 parts.0 dates.0
     c.in_ok-days.days (c.in_ok-days.ensures.ok ∙ ap (map decimal) c.keys.ensures.keys
-    ∙ days_of (joined old c.args.rows.now).dates c.in_ok-dates.dates.table dates.0.table)
+    ∙ days_of (joined old c.args.rows.now).dates c.in_ok-dates.dates dates.0.stores)
     (accepted (joined old c.args.rows.now) customers.1 suppliers.1 parts.1 dates.1)
     (joined_short old c.args.rows.now are.short c.requires.short)
 

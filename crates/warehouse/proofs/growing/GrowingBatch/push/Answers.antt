@@ -1,6 +1,5 @@
 use Rattle.std.proofs.Common.{rules}
 use Rattle.std.proofs.lemmas.Result.{on_ok_weaker}
-use Rattle.warehouse.specs.Growing.{totals_in}
 use Rattle.warehouse.proofs.GrownBatches.{grown-more, grown-long, had_columns}
 use Rattle.warehouse.proofs.growing.GrowingBatch.push.Goals as goal
 
@@ -12,7 +11,7 @@ push-requires c =
       few = (
         few.0,
         had_columns c.args.dims.now root few.0 c.args.rows.now c.args.self.now c.more-self.result few.1
-            (c.more-self.ensures (totals_in root) few.0 few.1.found) (search rules),
+            (c.more-self.ensures root.totals few.0 few.1.found) (search rules),
         few.2,
       );
     }
@@ -20,13 +19,13 @@ push-requires c =
 pub returns-then-has_long_text-clause-ok : goal.returns-then-has_long_text-clause-ok
 returns-then-has_long_text-clause-ok c = λ root before grown.
     grown-long c.args.dims.now root before c.args.rows.now c.args.self.now c.more-self.result grown
-    (c.more-self.ensures (totals_in root) before grown.found) (search rules) c.numbers_fit.ensures
+    (c.more-self.ensures root.totals before grown.found) (search rules) c.numbers_fit.ensures
 
 pub returns-clause-ok : goal.returns-clause-ok
 returns-clause-ok c =
     on_ok_weaker c.push.result
     (λ pushed root before grown.
     grown-more c.args.dims.now root before c.args.rows.now c.args.self.now c.more-self.result grown
-    (c.more-self.ensures (totals_in root) before grown.found) c.push.new.self (search rules) c.numbers_fit.ensures
+    (c.more-self.ensures root.totals before grown.found) c.push.new.self (search rules) c.numbers_fit.ensures
     (pushed before))
     c.push.ensures.ok

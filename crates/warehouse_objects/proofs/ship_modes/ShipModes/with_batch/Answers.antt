@@ -1,4 +1,4 @@
-use Rattle.std.proofs.Common.{arith, ◌≡◌, ◌≤◌, ℕ, List, Option, Some, None, IfNone, length, ap, sym, ◌∙◌}
+use Rattle.std.proofs.Common.{arith, ◌≡◌, ◌≤◌, ℕ, List, length, ap, sym, ◌∙◌}
 use Rattle.cube_model.specs.Limits.{most_members}
 use Rattle.batch_admission.specs.ShipModes.{texts_by}
 use Rattle.dictionary.specs.Dictionary.{Texts}

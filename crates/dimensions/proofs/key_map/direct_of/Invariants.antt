@@ -1,8 +1,0 @@
-use Rattle.std.proofs.Common.{◌≡◌, ◌<◌, ◌+◌, ◌==◌, ℕ, position, take, vec_len, slice_index}
-use Rattle.dimensions.specs.Entries.{entry_row}
-use Rattle.dimensions.proofs.key_map.direct_of.Given as goal
-
-abbrev pub invariant-loop-row : goal.invariant-loop-row
-invariant-loop-row l = (vec_len l.direct ≡ l.width)
-    × ((k : ℕ) → k < l.width
-    → entry_row (slice_index l.direct.items k) ≡ position (λ other. other == l.first + k) (take l.row l.keys))

@@ -1,9 +1,0 @@
-use Rattle.std.proofs.Common.{◌+◌, ◌++◌, List, map, length}
-use Rattle.dimensions.specs.TextRows.{TextRow}
-use Rattle.dimensions.specs.Tables.{HoldsRows}
-use Rattle.dimensions.proofs.BuildSteps.{SoFar}
-use Rattle.dimensions.proofs.table.Table.extend.Given as goal
-
-abbrev pub invariant-loop-row : goal.invariant-loop-row
-invariant-loop-row g l = (old : List TextRow) → HoldsRows l.axis old l.fn.self
-    → SoFar l.axis (old ++ map g.R.TableRow.shown l.rows) (length old + l.row-index) l.self

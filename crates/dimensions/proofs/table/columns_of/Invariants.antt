@@ -1,6 +1,0 @@
-use Rattle.std.proofs.Common.{◌≡◌}
-use Rattle.dimensions.specs.Tables.{columns_from}
-use Rattle.dimensions.proofs.table.columns_of.Given as goal
-
-abbrev pub invariant-loop-column : goal.invariant-loop-column
-invariant-loop-column l = l.columns.items ≡ columns_from l.axis 0 l.yielded

@@ -1,2 +1,0 @@
-//! Tests of dimensions.
-mod reads;

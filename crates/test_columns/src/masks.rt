@@ -1,2 +1,0 @@
-//! Tests of a batch as columns: masks, sums and checks.
-mod kernels;
