@@ -6,7 +6,7 @@ use Rattle.cube_model.specs.declared.fault.Fault.TheVariants.{BadLayout, Device,
 use Rattle.sector_device.specs.declared.device.Sectors.{Ghosts}
 use Rattle.warehouse_objects.specs.Reads.{ReadsOnly}
 use Rattle.warehouse.specs.Reads.{OnlyReads}
-use Rattle.warehouse.specs.Session.{content_of, disk_of, has_failed}
+use Rattle.warehouse.specs.Session.{CallsDevice, content_of, disk_of, has_failed}
 use Rattle.warehouse.specs.declared.session.Session.{Session}
 use Rattle.warehouse.proofs.Represented.{content_leaves, session_at, still_at, store_at}
 
@@ -20,14 +20,16 @@ module _ {D : Type 0} (g : Ghosts D) where
     stays = λ other w at. session_at g w new
         (still_at g w old.store new.store (store_at g w old at) (reads.stays (λ is. other (device.1 is))));
     reads = λ other. (reads.stays (λ is. other (device.1 is))).content;
-    failed = (
-      λ is. absurd (never is),
-      λ failed. let bad : true ≡ false = sym failed ∙ fine in absurd cc,
-    );
-    unmoved = λ is. absurd (never is);
-    device = λ is. let broken = reads.device (device.0 is) in
-        record { before = broken.before; failed = broken.failed; failures = broken.failures };
-    word = reads.leaves.word;
+    calls = record {
+      failed = (
+        λ is. absurd (never is),
+        λ failed. let bad : true ≡ false = sym failed ∙ fine in absurd cc,
+      );
+      unmoved = λ is. absurd (never is);
+      device = λ is. let broken = reads.device (device.0 is) in
+          record { before = broken.before; failed = broken.failed; failures = broken.failures };
+      word = reads.leaves.word;
+    };
   }
 
   -- one that is refused with the faults of that read
@@ -41,14 +43,21 @@ module _ {D : Type 0} (g : Ghosts D) where
       (IfErr-at_err (λ (f : Fault). (f ≡ Memory) ⊎ ((f ≡ Device) ⊎ (f ≡ BadLayout))) is causes))
 
   -- another call, which is refused with Device and Failed where this one is
+  pub calls_alike : (old new : Session D g) (refuses again : Fault → Type 0) → (refuses Device ↔ again Device)
+      → (refuses Failed ↔ again Failed) → CallsDevice g refuses old new → CallsDevice g again old new
+  calls_alike old new refuses again device failed calls = record {
+    failed = (λ is. calls.failed.0 (failed.1 is), λ is. failed.0 (calls.failed.1 is));
+    unmoved = λ is. calls.unmoved (failed.1 is);
+    device = λ is. calls.device (device.1 is);
+    word = calls.word;
+  }
+
+  -- and which only reads
   pub reads_alike : (old new : Session D g) (refuses again : Fault → Type 0) → (refuses Device ↔ again Device)
       → (refuses Failed ↔ again Failed) → OnlyReads g refuses old new → OnlyReads g again old new
   reads_alike old new refuses again device failed reads = record {
     leaves = reads.leaves;
     stays = λ other. reads.stays (λ is. other (device.0 is));
     reads = λ other. reads.reads (λ is. other (device.0 is));
-    failed = (λ is. reads.failed.0 (failed.1 is), λ is. failed.0 (reads.failed.1 is));
-    unmoved = λ is. reads.unmoved (failed.1 is);
-    device = λ is. reads.device (device.1 is);
-    word = reads.word;
+    calls = calls_alike old new refuses again device failed reads.calls;
   }

@@ -1,13 +1,13 @@
 -- What a call promises that only reads, and a query over the first batches.
-use Rattle.std.specs.Prelude.{◌≡◌, ◌≢◌, ◌↔◌, ℕ, ◌<◌, true, false, length}
+use Rattle.std.specs.Prelude.{◌≡◌, ◌≢◌, ℕ, ◌<◌, false, length}
 use Rattle.sector_device.specs.declared.device.Sectors.{Ghosts}
 use Rattle.cube_model.specs.declared.fault.Fault.{Fault}
-use Rattle.cube_model.specs.declared.fault.Fault.TheVariants.{BadQuery, Device, Failed, NoSuchPrefix}
+use Rattle.cube_model.specs.declared.fault.Fault.TheVariants.{BadQuery, Device, NoSuchPrefix}
 use Rattle.object_store.specs.Disk.{Leaves}
 use Rattle.warehouse_objects.specs.Represents.{Represents}
 use Rattle.warehouse_objects.specs.Warehouse.{Warehouse}
 use Rattle.warehouse.specs.declared.session.Session.{Session}
-use Rattle.warehouse.specs.Session.{AskingRefuses, Breaks, IsAt, KeepsContent, device_of, disk_of, has_failed}
+use Rattle.warehouse.specs.Session.{AskingRefuses, CallsDevice, IsAt, KeepsContent, device_of, disk_of, has_failed}
 
 -- What a call leaves of a session that it only reads. `refuses` says with which faults the call was refused.
 pub record OnlyReads {D : Type 0} (g : Ghosts D) (refuses : Fault → Type 0) (old new : Session D g) : Type 0 where
@@ -16,11 +16,7 @@ pub record OnlyReads {D : Type 0} (g : Ghosts D) (refuses : Fault → Type 0) (o
   pub stays : (refuses Device → ⊥) → (w : Warehouse) → IsAt g old w → IsAt g new w
   -- nothing was put on the device
   pub reads : (refuses Device → ⊥) → KeepsContent g old new
-  -- it is refused with Failed exactly where the session has failed before, and then nothing is done
-  pub failed : refuses Failed ↔ (has_failed old ≡ true)
-  pub unmoved : refuses Failed → new ≡ old
-  pub device : refuses Device → Breaks g old new
-  pub word : g.keeps_word (device_of new) → g.keeps_word (device_of old)
+  pub calls : CallsDevice g refuses old new
 
 -- With which faults a query is refused, and when. P says that it is proper.
 pub record RefusesQuery {D : Type 0} (g : Ghosts D) (P : Type 0) (as_of : ℕ) (refuses : Fault → Type 0)

@@ -1,10 +1,11 @@
 -- What a session shows of itself, and when it represents a warehouse.
-use Rattle.std.specs.Prelude.{◌≡◌, ◌⊎◌, ℕ, ◌+◌, ◌-◌, ◌^◌, ◌<◌, ◌≤◌, min, Bool, true, false, None, Some, length, List}
+use Rattle.std.specs.Prelude.{◌≡◌, ◌↔◌, ◌⊎◌, ℕ, ◌+◌, ◌-◌, ◌^◌, ◌<◌, ◌≤◌, min, Bool, true, false, None, Some, length}
+use Rattle.std.specs.Prelude.{List}
 use Rattle.std.specs.Prelude.{[]}
 use Rattle.std.proofs.Common.{sym, subst}
 use Rattle.sector_device.specs.declared.device.Sectors.{Ghosts}
 use Rattle.cube_model.specs.declared.fault.Fault.{Fault}
-use Rattle.cube_model.specs.declared.fault.Fault.TheVariants.{Memory, BadQuery, NoSuchPrefix}
+use Rattle.cube_model.specs.declared.fault.Fault.TheVariants.{BadQuery, Device, Failed, Memory, NoSuchPrefix}
 use Rattle.cube_model.specs.declared.query.Query.{Query}
 use Rattle.cube_model.specs.declared.rows.DimRows.{DimRows}
 use Rattle.cube_model.specs.declared.rows.LineOrder.{LineOrder}
@@ -52,6 +53,15 @@ pub record Breaks {D : Type 0} (g : Ghosts D) (old new : Session D g) : Type 0 w
   pub before : has_failed old ≡ false
   pub failed : has_failed new ≡ true
   pub failures : (disk_of g new).failures ≡ min ((disk_of g old).failures + 1) (2 ^ 64 - 1)
+
+-- What a call of the device leaves of a session. `refuses` says with which faults the call was refused.
+pub record CallsDevice {D : Type 0} (g : Ghosts D) (refuses : Fault → Type 0) (old new : Session D g) : Type 0 where
+  -- it is refused with Failed exactly where the session has failed before, and then nothing is done
+  pub failed : refuses Failed ↔ (has_failed old ≡ true)
+  pub unmoved : refuses Failed → new ≡ old
+  pub device : refuses Device → Breaks g old new
+  -- a device that keeps its word now has kept it before
+  pub word : g.keeps_word (device_of new) → g.keeps_word (device_of old)
 
 -- what the store holds is as it was
 abbrev pub KeepsContent : {D : Type 0} (g : Ghosts D) → Session D g → Session D g → Type 0

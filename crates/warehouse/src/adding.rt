@@ -13,7 +13,8 @@ ghost use Rattle.warehouse_objects.specs.Facts.{AdmitsRows, number_refusal, rows
 ghost use Rattle.warehouse_objects.specs.Warehouse.{Warehouse};
 ghost use Rattle.warehouse_objects.specs.Represents.{Represents};
 ghost use Rattle.warehouse.specs.Refusing.{is_of_device};
-ghost use Rattle.warehouse.specs.Session.{has_failed, content_of, device_of, disk_of, IsAt, AddRefuses, Breaks};
+ghost use Rattle.warehouse.specs.Session.{AddRefuses, Breaks, CallsDevice, IsAt, content_of, device_of, disk_of};
+ghost use Rattle.warehouse.specs.Session.{has_failed};
 ghost use Rattle.warehouse.specs.Session.{CommitsOnce, KeepsContent};
 ghost use Rattle.warehouse.specs.Widening.{IsReadyToWiden, IsWidening, WidenedOrNot};
 
@@ -57,10 +58,7 @@ impl<D: Sectors> Session<D> {
         ensures causes { IfErr result (λ fault. fault ≢ Device → (w : Warehouse) → IsAt D.Sectors self.old w
             → D.keeps_word (device_of self.new)
             → AddRefuses D.Sectors self.old w number rows.now fault) }
-        ensures failed { IsErrOf result Failed ↔ (has_failed self.old ≡ true) }
-        ensures unmoved { IsErrOf result Failed → self.new ≡ self.old }
-        ensures device { IsErrOf result Device → Breaks D.Sectors self.old self.new }
-        ensures word { D.keeps_word (device_of self.new) → D.keeps_word (device_of self.old) }
+        ensures calls { CallsDevice D.Sectors (IsErrOf result) self.old self.new }
     {
         let wider = match self.widening(alloc, number, rows) {
             Ok(wider) => wider,

@@ -13,7 +13,7 @@ ghost use Rattle.warehouse.specs.Choosing.{AreTooMany, ChooseForRefuses, ChooseR
 ghost use Rattle.warehouse.specs.Choosing.{IsChosenFrom, ViewsRefuse, choices_asked, lattice_asked};
 ghost use Rattle.warehouse.specs.Choosing.{members_counted, members_on, views_of};
 ghost use Rattle.warehouse.specs.declared.chosen.Chosen.{Chosen};
-ghost use Rattle.warehouse.specs.Session.{Breaks, CommitsOnce, IsAt, KeepsContent, device_of, disk_of, has_failed};
+ghost use Rattle.warehouse.specs.Session.{CallsDevice, CommitsOnce, IsAt, KeepsContent, device_of, disk_of, has_failed};
 
 use crate::chosen::Chosen;
 use crate::prepared::kept_is_represented;
@@ -52,10 +52,7 @@ impl<D: Sectors> Session<D> {
         ensures causes { IfErr result (λ fault. fault ≢ Device → (w : Warehouse) → IsAt D.Sectors self.old w
             → D.keeps_word (device_of self.new)
             → ViewsRefuse D.Sectors self.old w views.now fault) }
-        ensures failed { IsErrOf result Failed ↔ (has_failed self.old ≡ true) }
-        ensures unmoved { IsErrOf result Failed → self.new ≡ self.old }
-        ensures device { IsErrOf result Device → Breaks D.Sectors self.old self.new }
-        ensures word { D.keeps_word (device_of self.new) → D.keeps_word (device_of self.old) }
+        ensures calls { CallsDevice D.Sectors (IsErrOf result) self.old self.new }
     {
         if self.is_broken() {
             return Err(Fault::Failed);
@@ -93,10 +90,7 @@ impl<D: Sectors> Session<D> {
             → D.keeps_word (device_of self.new)
             → ChooseRefuses D.Sectors self.old w k fault) }
         ensures many { has_failed self.old ≡ false → most_cuboids < k → result ≡ Err BadQuery }
-        ensures failed { IsErrOf result Failed ↔ (has_failed self.old ≡ true) }
-        ensures unmoved { IsErrOf result Failed → self.new ≡ self.old }
-        ensures device { IsErrOf result Device → Breaks D.Sectors self.old self.new }
-        ensures word { D.keeps_word (device_of self.new) → D.keeps_word (device_of self.old) }
+        ensures calls { CallsDevice D.Sectors (IsErrOf result) self.old self.new }
     {
         let chosen = match self.choice(alloc, k, None) {
             Ok(chosen) => chosen,
@@ -142,10 +136,7 @@ impl<D: Sectors> Session<D> {
             → ChooseForRefuses D.Sectors self.old w demanded.now k fault) }
         ensures many { has_failed self.old ≡ false → (most_cuboids < k) ⊎ (most_demanded < length demanded.now)
             → result ≡ Err BadQuery }
-        ensures failed { IsErrOf result Failed ↔ (has_failed self.old ≡ true) }
-        ensures unmoved { IsErrOf result Failed → self.new ≡ self.old }
-        ensures device { IsErrOf result Device → Breaks D.Sectors self.old self.new }
-        ensures word { D.keeps_word (device_of self.new) → D.keeps_word (device_of self.old) }
+        ensures calls { CallsDevice D.Sectors (IsErrOf result) self.old self.new }
     {
         let choice = match self.choice(alloc, k, Some(demanded)) {
             Ok(choice) => choice,

@@ -12,7 +12,7 @@ ghost use Rattle.object_store.specs.Disk.{Leaves};
 ghost use Rattle.warehouse.specs.Growing.{IsGrown};
 ghost use Rattle.warehouse.specs.Prepared.{AddsModes, Admitted, CanBePut, ChecksModes, IsPrepared, MayFollow, Prepares};
 ghost use Rattle.warehouse.specs.Refusing.{is_of_device};
-ghost use Rattle.warehouse.specs.Session.{Breaks, CommitsOnce, IsAt, KeepsContent, SubmitRefuses, content_of};
+ghost use Rattle.warehouse.specs.Session.{CallsDevice, CommitsOnce, IsAt, KeepsContent, SubmitRefuses, content_of};
 ghost use Rattle.warehouse.specs.Session.{device_of, disk_of, has_failed};
 ghost use Rattle.warehouse.specs.Submitting.{WithOrWithout};
 ghost use Rattle.warehouse_objects.specs.Facts.{AdmitsBatch};
@@ -258,10 +258,7 @@ impl<D: Sectors> Session<D> {
             → IsAt D.Sectors self.old w
             → Grows self.old rows batch.now → D.keeps_word (device_of self.new)
             → SubmitRefuses D.Sectors self.old w number rows fault) }
-        ensures failed { IsErrOf result Failed ↔ (has_failed self.old ≡ true) }
-        ensures unmoved { IsErrOf result Failed → self.new ≡ self.old }
-        ensures device { IsErrOf result Device → Breaks D.Sectors self.old self.new }
-        ensures word { D.keeps_word (device_of self.new) → D.keeps_word (device_of self.old) }
+        ensures calls { CallsDevice D.Sectors (IsErrOf result) self.old self.new }
     {
         let prepared = match self.prepared_batch(alloc, number, batch) {
             Ok(prepared) => prepared,

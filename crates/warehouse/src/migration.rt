@@ -1,5 +1,5 @@
 //! Moving a warehouse to the second layout.
-ghost use Rattle.std.specs.Prelude.{◌≡◌, ◌≢◌, ◌⊎◌, ◌↔◌, ◌≤◌, ◌+◌, true, false, Some, length, IfErr, IfOk, IsErrOf};
+ghost use Rattle.std.specs.Prelude.{◌≡◌, ◌≢◌, ◌⊎◌, ◌≤◌, ◌+◌, false, Some, length, IfErr, IfOk, IsErrOf};
 ghost use Rattle.std.specs.Prelude.{OnOk};
 ghost use Rattle.cube_model.specs.declared.fault.Fault.TheVariants.{Device, Failed, Memory};
 ghost use Rattle.object_store.specs.Disk.{Leaves};
@@ -13,7 +13,8 @@ ghost use Rattle.warehouse_root.specs.declared.layout.Layout.TheVariants.{First}
 ghost use Rattle.warehouse_root.specs.Root.{PlainRoot};
 ghost use Rattle.wire.specs.Limits.{most_objects};
 ghost use Rattle.warehouse.specs.Migrating.{IsMigration, IsMigrationOf, MigrateRefuses, MigratedOrNot, MovesOnce};
-ghost use Rattle.warehouse.specs.Session.{Breaks, CommitsOnce, IsAt, KeepsContent, content_of, device_of, disk_of};
+ghost use Rattle.warehouse.specs.Session.{Breaks, CallsDevice, CommitsOnce, IsAt, KeepsContent, content_of, device_of};
+ghost use Rattle.warehouse.specs.Session.{disk_of};
 ghost use Rattle.warehouse.specs.Session.{has_failed};
 
 use crate::prepared::kept_is_represented;
@@ -66,10 +67,7 @@ impl<D: Sectors> Session<D> {
         ensures causes { IfErr result (λ fault. fault ≢ Device → (w : Warehouse) → IsAt D.Sectors self.old w
             → D.keeps_word (device_of self.new)
             → MigrateRefuses D.Sectors self.old w fault) }
-        ensures failed { IsErrOf result Failed ↔ (has_failed self.old ≡ true) }
-        ensures unmoved { IsErrOf result Failed → self.new ≡ self.old }
-        ensures device { IsErrOf result Device → Breaks D.Sectors self.old self.new }
-        ensures word { D.keeps_word (device_of self.new) → D.keeps_word (device_of self.old) }
+        ensures calls { CallsDevice D.Sectors (IsErrOf result) self.old self.new }
     {
         if self.is_broken() {
             return Err(Fault::Failed);

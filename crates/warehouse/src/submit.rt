@@ -17,7 +17,8 @@ ghost use Rattle.warehouse.specs.Growing.{Grows};
 ghost use Rattle.warehouse.specs.Loaded.{Agrees};
 ghost use Rattle.warehouse.specs.Prepared.{IsPrepared, prepared_puts};
 ghost use Rattle.warehouse.specs.Refusing.{is_of_device};
-ghost use Rattle.warehouse.specs.Session.{has_failed, content_of, device_of, disk_of, IsAt, Breaks, CommitsOnce};
+ghost use Rattle.warehouse.specs.Session.{Breaks, CallsDevice, CommitsOnce, IsAt, content_of, device_of, disk_of};
+ghost use Rattle.warehouse.specs.Session.{has_failed};
 ghost use Rattle.warehouse.specs.Session.{KeepsContent, SubmitRefuses};
 ghost use Rattle.warehouse.specs.Submitting.{BatchIsReady, WithOrWithout};
 
@@ -61,10 +62,7 @@ impl<D: Sectors> Session<D> {
         ensures causes { IfErr result (λ fault. fault ≢ Device → (w : Warehouse) → IsAt D.Sectors self.old w
             → D.keeps_word (device_of self.new)
             → SubmitRefuses D.Sectors self.old w number rows.now fault) }
-        ensures failed { IsErrOf result Failed ↔ (has_failed self.old ≡ true) }
-        ensures unmoved { IsErrOf result Failed → self.new ≡ self.old }
-        ensures device { IsErrOf result Device → Breaks D.Sectors self.old self.new }
-        ensures word { D.keeps_word (device_of self.new) → D.keeps_word (device_of self.old) }
+        ensures calls { CallsDevice D.Sectors (IsErrOf result) self.old self.new }
     {
         let batch = match self.grown(alloc, number, rows) {
             Ok(batch) => batch,

@@ -1,6 +1,6 @@
 //! Keeping the stored cuboids of a warehouse up to date, and auditing them.
 ghost use Rattle.std.specs.Prelude.{◌≡◌, ◌≢◌, ◌↔◌, All, IsTrue, true, IfErr, IfOk, IsErrOf, OnOk};
-ghost use Rattle.cube_model.specs.declared.fault.Fault.TheVariants.{Device, Failed, Memory};
+ghost use Rattle.cube_model.specs.declared.fault.Fault.TheVariants.{Device, Memory};
 ghost use Rattle.object_store.specs.Disk.{Leaves};
 ghost use Rattle.warehouse_objects.specs.Warehouse.{Warehouse};
 ghost use Rattle.warehouse_objects.specs.Represents.{Represents};
@@ -8,7 +8,7 @@ ghost use Rattle.stored_cuboids.specs.Merged.{IsSound};
 ghost use Rattle.cuboid_commits.specs.Keeping.{IsKeptUp};
 ghost use Rattle.cuboid_commits.specs.Upkeep.{CuboidsAreCurrent};
 ghost use Rattle.warehouse.specs.Reads.{OnlyReads};
-ghost use Rattle.warehouse.specs.Session.{Breaks, IsAt, device_of, disk_of, has_failed};
+ghost use Rattle.warehouse.specs.Session.{CallsDevice, IsAt, device_of, disk_of};
 ghost use Rattle.warehouse.specs.Upkeep.{IsLaidAt, UpkeepRefuses};
 
 use crate::prepared::kept_is_represented;
@@ -44,10 +44,7 @@ impl<D: Sectors> Session<D> {
         ensures refused { IfErr result (λ fault. fault ≢ Device → (w : Warehouse) → IsAt D.Sectors self.old w
             → (v : Warehouse) × IsKeptUp w v × IsAt D.Sectors self.new v
             × (D.keeps_word (device_of self.new) → UpkeepRefuses D.Sectors self.new v fault)) }
-        ensures failed { IsErrOf result Failed ↔ (has_failed self.old ≡ true) }
-        ensures unmoved { IsErrOf result Failed → self.new ≡ self.old }
-        ensures device { IsErrOf result Device → Breaks D.Sectors self.old self.new }
-        ensures word { D.keeps_word (device_of self.new) → D.keeps_word (device_of self.old) }
+        ensures calls { CallsDevice D.Sectors (IsErrOf result) self.old self.new }
     {
         if self.is_broken() {
             return Err(Fault::Failed);

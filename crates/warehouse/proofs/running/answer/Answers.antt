@@ -11,7 +11,7 @@ returns-in-Ok-clause-ran g c w slots at k =
 pub returns-in-Err-clause-ran : goal.returns-in-Err-clause-ran
 returns-in-Err-clause-ran g c w slots at k =
     query_refused g.D.Sectors w slots c.args.session.now c.query.new.self c.args.as_of c.args.query.now c.in-Err.fault
-    (λ e. (c.in-Err.ensures.reads.device (ap (λ f. Err f) e)).failed)
+    (λ e. (c.in-Err.ensures.reads.calls.device (ap (λ f. Err f) e)).failed)
     (λ no. (
       (c.in-Err.ensures.refused.causes c.in-Err.fault refl no w at k, c.in-Err.ensures.reads.reads (λ is. no (cc))),
       c.in-Err.ensures.reads.stays (λ is. no (cc)) w at,

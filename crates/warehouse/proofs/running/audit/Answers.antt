@@ -12,7 +12,7 @@ returns-in-Ok-clause-ran g c w slots at k =
 pub returns-in-Err-clause-ran : goal.returns-in-Err-clause-ran
 returns-in-Err-clause-ran g c w slots at k =
     audit_refused g.D.Sectors w slots c.args.session.now c.audit.new.self c.in-Err.fault
-    (λ e. (c.in-Err.ensures.reads.device (ap (λ f. Err f) e)).failed)
+    (λ e. (c.in-Err.ensures.reads.calls.device (ap (λ f. Err f) e)).failed)
     (λ no. (
       (
         c.in-Err.ensures.refused no w (laid_at g.D.Sectors w c.args.session.now at) k,

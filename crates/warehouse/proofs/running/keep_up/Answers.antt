@@ -12,6 +12,6 @@ returns-in-Ok-clause-ran g c w slots at k =
 pub returns-in-Err-clause-ran : goal.returns-in-Err-clause-ran
 returns-in-Err-clause-ran g c w slots at k =
     upkeep_refused g.D.Sectors w slots c.args.session.now c.upkeep.new.self c.in-Err.fault
-    (λ e. (c.in-Err.ensures.device (ap (λ f. Err f) e)).failed)
+    (λ e. (c.in-Err.ensures.calls.device (ap (λ f. Err f) e)).failed)
     (λ no. let then_is = c.in-Err.ensures.refused no w at in (then_is.0, then_is.1, then_is.2, then_is.3 k))
     (kept_same w) (c.upkeep.ensures.leaves w at)

@@ -28,7 +28,7 @@ returns-in-Err-clause-ran g c w started at are of k =
     start_refused g.D.Sectors c.args.session.now c.start.new.self w started c.args.slots.now.queries.items c.args.slot
     are of c.args.as_of c.args.query.now (c.start.ensures.reads.leaves w at)
     (omega (arith, c.from.ensures, c.if-from-ge-MOST_RUNNING.false)) c.in-Err.fault
-    (λ e. (c.in-Err.ensures.reads.device (ap (λ f. Err f) e)).failed)
+    (λ e. (c.in-Err.ensures.reads.calls.device (ap (λ f. Err f) e)).failed)
     (λ no. (
       (c.in-Err.ensures.refused.causes c.in-Err.fault refl no w at k, c.in-Err.ensures.reads.reads (λ is. no cc)),
       c.in-Err.ensures.reads.stays (λ is. no cc) w at,

@@ -60,6 +60,6 @@ returns-in-Refused-clause-ran g c w started at are of k =
     (c.step.ensures.reads.leaves w at) c.in-Some.running (sym c.take.ensures.taken ∙ c.in-Some.is) c.in-Refused.back
     c.in-Refused.fault
     (c.step.ensures.back c.in-Refused.back c.in-Refused.fault c.in-Refused.is)
-    (λ e. (c.step.ensures.reads.device (ap refused_by c.in-Refused.is ∙ ap (λ (f : Fault). Some f) e)).failed)
+    (λ e. (c.step.ensures.reads.calls.device (ap refused_by c.in-Refused.is ∙ ap (λ (f : Fault). Some f) e)).failed)
     (λ no s extends is. subst (λ (x : Stepped). StepsTo s x) c.in-Refused.is (c.step.ensures.steps w at k s extends is))
     (λ no. (c.step.ensures.reads.reads (other no), c.step.ensures.reads.stays (other no) w at)))

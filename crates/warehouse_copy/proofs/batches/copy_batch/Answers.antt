@@ -54,7 +54,7 @@ returns-in-Some-clause-refused g c =
     let here = numbered_here w c.args.before c.in_ok-found.found c.in-Some.rows c.in-Some.is
     (c.in_ok-found.ensures.rows w from k) in
     submit_fault w c.args.before c.in-Some.rows here g.E.Sectors c.args.to.now (content_of g.D.Sectors c.args.from.now)
-    (from.represents (c.rows_of_batch.ensures.reads.word k)) fault
+    (from.represents (c.rows_of_batch.ensures.reads.calls.word k)) fault
     (λ no. rw c.as_slice.ensures at (why no (with_first w c.args.before) to word))) c.submit.ensures.causes
 
 pub returns-in-Some-clause-from_stays : goal.returns-in-Some-clause-from_stays

@@ -18,11 +18,12 @@ pub loop-before-preserved : goal.loop-before-preserved
 loop-before-preserved g c =
     let so_far = c.loop-before.invariant in
     let next = c.in_ok-write_batch.ensures in record {
-      word = λ k. so_far.word (next.reads.word k);
+      word = λ k. so_far.word (next.reads.calls.word k);
       at = λ w at. next.reads.stays (λ is. cc) w (so_far.at w at);
       leaves = λ w at. leaves_then (λ (x : Content). Represents x w) _ _ _ (so_far.leaves w at)
           (next.reads.leaves w (so_far.at w at));
-      written = λ w at k. written_next w.batches c.loop-before.before _ _ _ (so_far.written w at (next.reads.word k))
+      written = λ w at k. written_next w.batches c.loop-before.before _ _ _
+          (so_far.written w at (next.reads.calls.word k))
           (next.ok w (so_far.at w at) k);
     }
 
@@ -46,9 +47,9 @@ returns-in_err-write_batch-clause-refused g c =
     rw (p.1, p.2) (λ w at k.
     let so_far = c.loop-before.invariant in
     let next = c.in_err-write_batch.ensures in
-    let many = (c.in_ok-status.ensures.ok w at (so_far.word (next.reads.word k))).batches in
+    let many = (c.in_ok-status.ensures.ok w at (so_far.word (next.reads.calls.word k))).batches in
     let lt : c.loop-before.before < length w.batches = omega (arith, c.loop-before-test.true, many) in
-    refused_next w.batches c.loop-before.before _ _ _ (so_far.written w at (next.reads.word k)) lt _
+    refused_next w.batches c.loop-before.before _ _ _ (so_far.written w at (next.reads.calls.word k)) lt _
     (next.refused w (so_far.at w at) k))
 
 pub returns-clause-ok : goal.returns-clause-ok
@@ -68,4 +69,4 @@ pub returns-in_err-write_batch-clause-device : goal.returns-in_err-write_batch-c
 returns-in_err-write_batch-clause-device g c =
     let p = err_from_is_err_and c.from_residual-in_err-write_batch.result
     c.from_residual-in_err-write_batch.ensures.1 in
-    rw (p.1, p.2) (λ is. (c.in_err-write_batch.ensures.reads.device (cc is)).failed)
+    rw (p.1, p.2) (λ is. (c.in_err-write_batch.ensures.reads.calls.device (cc is)).failed)

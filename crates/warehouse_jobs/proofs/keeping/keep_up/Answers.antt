@@ -7,7 +7,7 @@ pub returns-in_err-upkeep-clause-keeps : goal.returns-in_err-upkeep-clause-keeps
 returns-in_err-upkeep-clause-keeps g c w at k = record {
   ends = upkeep-refused g.D.Sectors w c.args.session.now c.upkeep.new.self (g.W.Write.contents c.args.out.now)
       (g.W.Write.contents c.args.out.now) _ _
-      (λ e. (c.in_err-upkeep.ensures.device (ap (λ f. Err f) e)).failed)
+      (λ e. (c.in_err-upkeep.ensures.calls.device (ap (λ f. Err f) e)).failed)
       (λ no. let then_at = c.in_err-upkeep.ensures.refused no w at in (then_at.0, then_at.1, then_at.2, then_at.3 k))
       (err_from_is_err_and _ c.from_residual.ensures.1);
   leaves = c.upkeep.ensures.leaves w at;

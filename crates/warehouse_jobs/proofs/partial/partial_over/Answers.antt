@@ -11,7 +11,7 @@ pub returns-in_err-found-clause-ends : goal.returns-in_err-found-clause-ends
 returns-in_err-found-clause-ends g c w at k =
     partial-refused g.D.Sectors w c.args.count c.args.asked.now c.query_groups.new.self
     (g.W.Write.contents c.args.out.now) _ _
-    (λ e. (c.in_err-found.ensures.reads.device (ap (λ f. Err f) e)).failed)
+    (λ e. (c.in_err-found.ensures.reads.calls.device (ap (λ f. Err f) e)).failed)
     (λ no. (
       c.in_err-found.ensures.refused.causes _ refl no w at k,
       c.in_err-found.ensures.reads.stays (λ is. no (cc)) w at,
@@ -22,7 +22,7 @@ pub returns-in_err-found-clause-leaves : goal.returns-in_err-found-clause-leaves
 returns-in_err-found-clause-leaves g c = c.query_groups.ensures.reads.leaves
 
 pub returns-in_err-found-clause-word : goal.returns-in_err-found-clause-word
-returns-in_err-found-clause-word g c = c.query_groups.ensures.reads.word
+returns-in_err-found-clause-word g c = c.query_groups.ensures.reads.calls.word
 
 pub returns-in_err-head-clause-ends : goal.returns-in_err-head-clause-ends
 returns-in_err-head-clause-ends g c w at k =
@@ -36,7 +36,7 @@ pub returns-in_err-head-clause-leaves : goal.returns-in_err-head-clause-leaves
 returns-in_err-head-clause-leaves g c = c.query_groups.ensures.reads.leaves
 
 pub returns-in_err-head-clause-word : goal.returns-in_err-head-clause-word
-returns-in_err-head-clause-word g c = c.query_groups.ensures.reads.word
+returns-in_err-head-clause-word g c = c.query_groups.ensures.reads.calls.word
 
 pub returns-clause-ends : goal.returns-clause-ends
 returns-clause-ends g c w at k =
@@ -55,4 +55,4 @@ pub returns-clause-leaves : goal.returns-clause-leaves
 returns-clause-leaves g c = c.query_groups.ensures.reads.leaves
 
 pub returns-clause-word : goal.returns-clause-word
-returns-clause-word g c = c.query_groups.ensures.reads.word
+returns-clause-word g c = c.query_groups.ensures.reads.calls.word

@@ -8,7 +8,7 @@ pub returns-in_err-found-clause-ends : goal.returns-in_err-found-clause-ends
 returns-in_err-found-clause-ends g c w at k =
     report-refused (report_of c.args.query.now) g.D.Sectors w c.args.count c.args.query.now c.query_groups.new.self
     (g.W.Write.contents c.args.out.now) _ _
-    (λ e. (c.in_err-found.ensures.reads.device (ap (λ f. Err f) e)).failed)
+    (λ e. (c.in_err-found.ensures.reads.calls.device (ap (λ f. Err f) e)).failed)
     (λ no. (
       c.in_err-found.ensures.refused.causes _ refl no w at k,
       c.in_err-found.ensures.reads.stays (λ is. no (cc)) w at,
@@ -19,7 +19,7 @@ pub returns-in_err-found-clause-leaves : goal.returns-in_err-found-clause-leaves
 returns-in_err-found-clause-leaves g c = c.query_groups.ensures.reads.leaves
 
 pub returns-in_err-found-clause-word : goal.returns-in_err-found-clause-word
-returns-in_err-found-clause-word g c = c.query_groups.ensures.reads.word
+returns-in_err-found-clause-word g c = c.query_groups.ensures.reads.calls.word
 
 pub returns-clause-ends : goal.returns-clause-ends
 returns-clause-ends g c w at k =
@@ -33,4 +33,4 @@ pub returns-clause-leaves : goal.returns-clause-leaves
 returns-clause-leaves g c = c.query_groups.ensures.reads.leaves
 
 pub returns-clause-word : goal.returns-clause-word
-returns-clause-word g c = c.query_groups.ensures.reads.word
+returns-clause-word g c = c.query_groups.ensures.reads.calls.word
