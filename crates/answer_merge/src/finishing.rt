@@ -8,7 +8,7 @@ ghost use Rattle.answer_merge.specs.Wide.{IsRangeFault, narrow_line, narrow_line
 
 use crate::wide::WideLine;
 use cube_model::{Agg, Fault, Items, Line, Value};
-use cube_query::fraction_of;
+use group_tallies::fraction_of;
 use std::alloc::Global;
 
 /// Each line with the values that a query asks for: averages of sums and counts. The lines keep their order.

@@ -25,11 +25,11 @@ use Rattle.group_plan.specs.Numbers.{IsKnown}
 use Rattle.group_plan.specs.Parts.{IsKnownFor, is_on, is_same, is_used}
 use Rattle.group_plan.proofs.Numbers.{is_same-same}
 use Rattle.cube_query.specs.Asked.{AreSame, SameIn, aggregate_asks, condition_asks, has_keys_of, is_asked}
-use Rattle.cube_query.specs.Columns.{can_add, rows_with_slots, aggregate_size, tally_at}
-use Rattle.cube_query.specs.FoldInvariant.{AreGroupSlots, HaveRoom, IsGroupSlot}
-use Rattle.cube_query.specs.Tallies.{aggregated}
+use Rattle.group_tallies.specs.Columns.{can_add, rows_with_slots, aggregate_size, tally_at}
+use Rattle.group_tallies.specs.FoldInvariant.{AreGroupSlots, HaveRoom, IsGroupSlot}
+use Rattle.group_tallies.specs.Tallies.{aggregated}
 use Rattle.cube_query.specs.WholeBatch.{HaveRoomAt}
-use Rattle.cube_query.specs.declared.tally.Tally.{Tally}
+use Rattle.group_tallies.specs.declared.tally.Tally.{Tally}
 use Rattle.cube_query.proofs.AskedRows.{key_same, number_same, or_left, or_right, same_key, same_selected}
 
 -- ---- rows one by one

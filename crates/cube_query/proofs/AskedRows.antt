@@ -34,9 +34,10 @@ use Rattle.column_segment.specs.declared.columns.NumberColumn.TheVariants.{Order
 use Rattle.column_segment.specs.Projected.{AgreeOn, fact_value}
 use Rattle.cube_query.specs.Asked.{AreSame, SameIn, aggregate_asks, asked_columns, condition_asks, fact_columns}
 use Rattle.cube_query.specs.Asked.{has_keys_of, is_asked, is_made_of}
-use Rattle.cube_query.specs.Groups.{FoldState, RepresentsRows, Takes, finest, rows_at}
-use Rattle.cube_query.specs.Tallies.{aggregated, tallies_of, tally_of}
-use Rattle.cube_query.proofs.OneRow.{plain_key, rows_at-skip, rows_at-take}
+use Rattle.cube_query.specs.Groups.{FoldState, RepresentsRows, Takes}
+use Rattle.group_tallies.specs.Groups.{finest, rows_at}
+use Rattle.group_tallies.specs.Tallies.{aggregated, tallies_of, tally_of}
+use Rattle.group_tallies.proofs.OneRow.{plain_key, rows_at-skip, rows_at-take}
 
 -- ---- tests
 

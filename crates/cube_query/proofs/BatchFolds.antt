@@ -12,15 +12,15 @@ use Rattle.column_kernels.specs.Masks.{selected_by}
 use Rattle.group_plan.specs.Numbers.{group_count}
 use Rattle.group_plan.specs.Plans.{IsGroupPlanOver, query_of}
 use Rattle.group_plan.specs.declared.plan.GroupPlan.{GroupPlan}
-use Rattle.cube_query.specs.Columns.{tallies_at}
-use Rattle.cube_query.specs.FoldInvariant.{AreGroupSlots, CountIn, IsKept}
+use Rattle.group_tallies.specs.Columns.{tallies_at}
+use Rattle.group_tallies.specs.FoldInvariant.{AreGroupSlots, CountIn, IsKept}
 use Rattle.cube_query.specs.Groups.{FoldState, RepresentsRows, Takes}
-use Rattle.cube_query.specs.Limits.{AreFoldable}
-use Rattle.cube_query.specs.Slots.{entries_of, slot_of, AreSlots, CanPlace, Cover, Grow}
+use Rattle.group_tallies.specs.Limits.{AreFoldable}
+use Rattle.group_tallies.specs.Slots.{entries_of, slot_of, AreSlots, CanPlace, Cover, Grow}
 use Rattle.cube_query.specs.WholeBatch.{HaveRoomAt, all_at, has_one_group, tallies_with_rows}
-use Rattle.cube_query.specs.declared.slots.Slots.{Slots}
-use Rattle.cube_query.specs.declared.slots.Slots.TheVariants.{Direct, Below, Seen}
-use Rattle.cube_query.specs.declared.tally.Tally.{Tally}
+use Rattle.group_tallies.specs.declared.slots.Slots.{Slots}
+use Rattle.group_tallies.specs.declared.slots.Slots.TheVariants.{Direct, Below, Seen}
+use Rattle.group_tallies.specs.declared.tally.Tally.{Tally}
 use Rattle.cube_query.proofs.Folds.{HaveRoom-ready, kept_count, kept_cover, kept_numbers, kept_ready, shown}
 use Rattle.cube_query.proofs.Folds.{shown_ready, represents_count}
 use Rattle.cube_query.proofs.WholeBatches.{batch_counted, one_at_least, room_at, slots_are}

@@ -13,8 +13,8 @@ use Rattle.cube_model.specs.declared.measure.Agg.TheVariants.{Count}
 use Rattle.cube_model.specs.declared.measure.Measure.{Measure}
 use Rattle.cube_model.specs.declared.rows.LineOrder.{LineOrder}
 use Rattle.column_kernels.specs.Extremes.{extremes_of}
-use Rattle.cube_query.specs.Tallies.{aggregated, tally_of}
-use Rattle.cube_query.proofs.Sums.{FitsSigned-small, nat_abs-total}
+use Rattle.group_tallies.specs.Tallies.{aggregated, tally_of}
+use Rattle.group_tallies.proofs.Sums.{FitsSigned-small, nat_abs-total}
 
 -- no extremes, no number
 pub tally_none : (numbers : List ℤ) → None ≡ extremes_of numbers → tally_of [] ≡ tally_of numbers

@@ -29,14 +29,15 @@ use Rattle.group_plan.proofs.Extending.{plan_of_over}
 use Rattle.cube_query.specs.CellRuns.{AreWantedMerged}
 use Rattle.cube_query.specs.CellSlots.{AreMergedIn, asked_of}
 use Rattle.cube_query.specs.CellTallies.{SlotsAreBelow, GroupsHaveRoomFor, HasRoomForCells, HaveRoomFor, with_cells}
-use Rattle.cube_query.specs.Columns.{aggregate_size, slotted, tallies_at}
-use Rattle.cube_query.specs.FoldInvariant.{AreGroupSlots, CountIn, IsGroupSlot, IsKept}
-use Rattle.cube_query.specs.Groups.{RepresentsRows, finest, rows_at}
-use Rattle.cube_query.specs.Limits.{AreFoldable}
-use Rattle.cube_query.specs.Slots.{entries_of, Cover, Grow}
-use Rattle.cube_query.specs.Tallies.{aggregated, tallies_of, tally_of}
-use Rattle.cube_query.specs.declared.slots.Slots.{Slots}
-use Rattle.cube_query.specs.declared.tally.Tally.{Tally}
+use Rattle.group_tallies.specs.Columns.{aggregate_size, slotted, tallies_at}
+use Rattle.group_tallies.specs.FoldInvariant.{AreGroupSlots, CountIn, IsGroupSlot, IsKept}
+use Rattle.cube_query.specs.Groups.{RepresentsRows}
+use Rattle.group_tallies.specs.Groups.{finest, rows_at}
+use Rattle.group_tallies.specs.Limits.{AreFoldable}
+use Rattle.group_tallies.specs.Slots.{entries_of, Cover, Grow}
+use Rattle.group_tallies.specs.Tallies.{aggregated, tallies_of, tally_of}
+use Rattle.group_tallies.specs.declared.slots.Slots.{Slots}
+use Rattle.group_tallies.specs.declared.tally.Tally.{Tally}
 use Rattle.cube_query.proofs.CellGroups.{AreApart, cells_are_rows, counts-rows, sizes-rows, slot_by, slotted-filter}
 use Rattle.cube_query.proofs.CellGroups.{tally_over}
 use Rattle.cube_query.proofs.CellMerges.{all_untouched}
@@ -44,10 +45,10 @@ use Rattle.cube_query.proofs.CellSlots.{cell_slots-length}
 use Rattle.cube_query.proofs.RowSlots.{HasSlot}
 use Rattle.cube_query.proofs.Wanted.{leaves_none, slots_for, slots_for-length, wanted_slot, with_wanted}
 use Rattle.cube_query.proofs.Folds.{kept_numbers, kept_ready, shown, shown_ready, represents_count, tallied_for}
-use Rattle.cube_query.proofs.Marking.{AreGroupSlots-at}
-use Rattle.cube_query.proofs.Ranges.{range_of_agg}
+use Rattle.group_tallies.proofs.Marking.{AreGroupSlots-at}
+use Rattle.group_tallies.proofs.Ranges.{range_of_agg}
 use Rattle.cube_query.proofs.Steps.{AreTallied-grow}
-use Rattle.cube_query.proofs.Sums.{length-filter-le, nat_abs-total, sum_by-filter}
+use Rattle.group_tallies.proofs.Sums.{length-filter-le, nat_abs-total, sum_by-filter}
 
 -- ---- cells that ascend are apart
 none_above : (number : ℕ) (cells : List Cell)

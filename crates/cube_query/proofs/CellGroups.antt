@@ -21,12 +21,12 @@ use Rattle.cuboid_cells.specs.declared.cell.Cell.{Cell}
 use Rattle.cuboid_cells.specs.Cells.{cell_at, key_as_number}
 use Rattle.cuboid_upkeep.specs.Grouping.{Group, cell_over, key_of, rows_of_number, summaries_over, summary_over}
 use Rattle.cube_query.specs.CellTallies.{after_cells, cell_tally, counted, summary_in}
-use Rattle.cube_query.specs.Columns.{aggregate_size, slotted}
-use Rattle.cube_query.specs.Tallies.{merged_tally, aggregated, tally_of}
-use Rattle.cube_query.specs.declared.tally.Tally.{Tally}
-use Rattle.cube_query.proofs.MergeLaws.{SameRows, SameRows-after, SameRows-refl, SameRows-split, SameRows-trans}
-use Rattle.cube_query.proofs.MergeLaws.{tally_of-append}
-use Rattle.cube_query.proofs.Sums.{nat_abs-total}
+use Rattle.group_tallies.specs.Columns.{aggregate_size, slotted}
+use Rattle.group_tallies.specs.Tallies.{merged_tally, aggregated, tally_of}
+use Rattle.group_tallies.specs.declared.tally.Tally.{Tally}
+use Rattle.group_tallies.proofs.MergeLaws.{SameRows, SameRows-after, SameRows-refl, SameRows-split, SameRows-trans}
+use Rattle.group_tallies.proofs.MergeLaws.{tally_of-append}
+use Rattle.group_tallies.proofs.Sums.{nat_abs-total}
 
 -- the tally over fact rows
 abbrev pub tally_over : Agg → List LineOrder → Tally

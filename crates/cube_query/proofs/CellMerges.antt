@@ -18,10 +18,10 @@ use Rattle.cuboid_cells.specs.declared.summary.Summary.{Summary}
 use Rattle.cube_query.specs.CellTallies.{SlotsAreBelow, HasRoomForCells, HaveRoomFor, MergesCells, after_cells}
 use Rattle.cube_query.specs.CellTallies.{cell_tally}
 use Rattle.cube_query.specs.CellTallies.{with_cells}
-use Rattle.cube_query.specs.Columns.{tallies_at, tally_at}
-use Rattle.cube_query.specs.Tallies.{merged_tally, aggregated, tallies_of, tally_of}
-use Rattle.cube_query.specs.declared.tally.Tally.{Tally}
-use Rattle.cube_query.proofs.Sums.{nat_abs-+ℤ}
+use Rattle.group_tallies.specs.Columns.{tallies_at, tally_at}
+use Rattle.group_tallies.specs.Tallies.{merged_tally, aggregated, tallies_of, tally_of}
+use Rattle.group_tallies.specs.declared.tally.Tally.{Tally}
+use Rattle.group_tallies.proofs.Sums.{nat_abs-+ℤ}
 
 -- no cell, and nothing of a measure
 abbrev pub nothing : Summary

@@ -17,14 +17,14 @@ use Rattle.cuboid_upkeep.specs.Representatives.{AreRepresentatives}
 use Rattle.cube_query.specs.CellSlots.{AreCellSlots, AreMergedIn, HaveNoRepresentative}
 use Rattle.cube_query.specs.CellTallies.{GroupsHaveRoomFor, HasRoomForCells, HaveRoomFor, after_cells, cell_tally}
 use Rattle.cube_query.specs.CellTallies.{with_cells}
-use Rattle.cube_query.specs.Columns.{tallies_at, tally_at}
-use Rattle.cube_query.specs.FoldInvariant.{AreGroupSlots}
-use Rattle.cube_query.specs.Slots.{slot_of}
-use Rattle.cube_query.specs.Tallies.{merged_tally}
-use Rattle.cube_query.specs.declared.tally.Tally.{Tally}
+use Rattle.group_tallies.specs.Columns.{tallies_at, tally_at}
+use Rattle.group_tallies.specs.FoldInvariant.{AreGroupSlots}
+use Rattle.group_tallies.specs.Slots.{slot_of}
+use Rattle.group_tallies.specs.Tallies.{merged_tally}
+use Rattle.group_tallies.specs.declared.tally.Tally.{Tally}
 use Rattle.cube_query.proofs.CellMerges.{after-count, after-size}
 use Rattle.cube_query.proofs.CellSlots.{cell_slots-length}
-use Rattle.cube_query.proofs.Marking.{AreGroupSlots-keep}
+use Rattle.group_tallies.proofs.Marking.{AreGroupSlots-keep}
 
 -- ---- one part after another
 module _ (slot : ℕ) where

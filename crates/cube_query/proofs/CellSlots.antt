@@ -10,11 +10,11 @@ use Rattle.cuboid_upkeep.specs.CellNumbers.{AskedOfCells}
 use Rattle.cuboid_upkeep.specs.Representatives.{AreRepresentatives, IsRepresentative}
 use Rattle.cube_query.specs.CellSlots.{AreCellSlots, AreMergedIn, IsCellSlot, IsMergedIn}
 use Rattle.cube_query.specs.CellTallies.{GroupsHaveRoomFor, HaveRoomFor, with_cells}
-use Rattle.cube_query.specs.Columns.{tallies_at}
-use Rattle.cube_query.specs.Slots.{slot_of}
-use Rattle.cube_query.specs.declared.tally.Tally.{Tally}
+use Rattle.group_tallies.specs.Columns.{tallies_at}
+use Rattle.group_tallies.specs.Slots.{slot_of}
+use Rattle.group_tallies.specs.declared.tally.Tally.{Tally}
 use Rattle.cube_query.proofs.CellMerges.{columns_as_they_are, no_cell, room_next, with_cells-push}
-use Rattle.cube_query.proofs.Marking.{AreGroupSlots-keep, AreGroupSlots-length, AreGroupSlots-push}
+use Rattle.group_tallies.proofs.Marking.{AreGroupSlots-keep, AreGroupSlots-length, AreGroupSlots-push}
 
 module _ (asked : AskedOfCells) where
   represent_push : (cells : List Cell) (rows : List LineOrder) (cell : Cell) (row : LineOrder)

@@ -31,9 +31,10 @@ use Rattle.group_plan.specs.Rows.{row_at}
 use Rattle.group_plan.specs.declared.bounds.Bounds.{Bounds}
 use Rattle.group_plan.proofs.Outcomes.{out_of_bounds}
 use Rattle.cube_query.specs.Chosen.{KeepSelected, lies_within, places_from}
-use Rattle.cube_query.specs.Groups.{CanTake, FoldState, RepresentsRows, Takes, finest}
-use Rattle.cube_query.specs.Limits.{AreFoldable}
-use Rattle.cube_query.specs.Tallies.{tallies_of}
+use Rattle.cube_query.specs.Groups.{CanTake, FoldState, RepresentsRows, Takes}
+use Rattle.group_tallies.specs.Groups.{finest}
+use Rattle.group_tallies.specs.Limits.{AreFoldable}
+use Rattle.group_tallies.specs.Tallies.{tallies_of}
 
 from_nought : (k : ℕ) → 0 + k ≡ k
 from_nought k = omega arith

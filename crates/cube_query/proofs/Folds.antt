@@ -15,22 +15,23 @@ use Rattle.cube_model.specs.declared.measure.Agg.{Agg}
 use Rattle.cube_model.specs.declared.query.Query.{Query}
 use Rattle.cube_model.specs.declared.rows.DimRows.{DimRows}
 use Rattle.cube_model.specs.declared.rows.LineOrder.{LineOrder}
-use Rattle.cube_query.specs.Columns.{is_seen, tallies_at}
-use Rattle.cube_query.specs.FoldInvariant.{AreGroupSlots, HaveRoom, CountIn, AreTallied, IsFold, IsKept, all_tallies}
-use Rattle.cube_query.specs.FoldInvariant.{tallies_in, tallies_or_none}
-use Rattle.cube_query.specs.Groups.{FoldState, RepresentsRows, finest, rows_at}
-use Rattle.cube_query.specs.Limits.{AreFoldable}
-use Rattle.cube_query.specs.Slots.{entries_of, slot_of, AreSlots, Cover, Grow}
-use Rattle.cube_query.specs.Tallies.{tallies_of}
-use Rattle.cube_query.specs.declared.slots.Slots.{Slots}
-use Rattle.cube_query.specs.declared.tally.Tally.{Tally}
+use Rattle.group_tallies.specs.Columns.{is_seen, tallies_at}
+use Rattle.group_tallies.specs.FoldInvariant.{AreGroupSlots, HaveRoom, CountIn, AreTallied, IsFold, IsKept, all_tallies}
+use Rattle.group_tallies.specs.FoldInvariant.{tallies_in, tallies_or_none}
+use Rattle.cube_query.specs.Groups.{FoldState, RepresentsRows}
+use Rattle.group_tallies.specs.Groups.{finest, rows_at}
+use Rattle.group_tallies.specs.Limits.{AreFoldable}
+use Rattle.group_tallies.specs.Slots.{entries_of, slot_of, AreSlots, Cover, Grow}
+use Rattle.group_tallies.specs.Tallies.{tallies_of}
+use Rattle.group_tallies.specs.declared.slots.Slots.{Slots}
+use Rattle.group_tallies.specs.declared.tally.Tally.{Tally}
 use Rattle.group_plan.specs.Numbers.{group_count, group_key_at}
 use Rattle.group_plan.specs.Plans.{IsGroupPlanOf, IsGroupPlanOver, count_of, query_of}
 use Rattle.group_plan.specs.declared.plan.GroupPlan.{GroupPlan}
 use Rattle.group_plan.proofs.Extending.{plan_of_over}
-use Rattle.cube_query.proofs.Columnwise.{tallies-length}
-use Rattle.cube_query.proofs.Marking.{key_eq-same, key_eq-true, keys_apart, slotted-none}
-use Rattle.cube_query.proofs.Seen.{some_seen}
+use Rattle.group_tallies.proofs.Columnwise.{tallies-length}
+use Rattle.group_tallies.proofs.Marking.{key_eq-same, key_eq-true, keys_apart, slotted-none}
+use Rattle.group_tallies.proofs.Seen.{some_seen}
 use Rattle.cube_query.proofs.Steps.{AreTallied-grow, AreTallied-count, HaveRoom-foldable}
 
 -- group_slots say nothing of the kind of a query

@@ -1,8 +1,8 @@
 -- The values of a line, past the end of either list.
 use Rattle.std.proofs.Common.{◌≡◌, ◌∙◌, refl, [], ◌∷◌, ℕ, ◌≤◌, List, length, ap, drop}
 use Rattle.std.proofs.lemmas.List.{drop_all}
-use Rattle.cube_query.specs.Tallies.{values_of}
-use Rattle.cube_query.specs.declared.tally.Tally.{Tally}
+use Rattle.group_tallies.specs.Tallies.{values_of}
+use Rattle.group_tallies.specs.declared.tally.Tally.{Tally}
 use Rattle.cube_model.specs.declared.measure.Agg.{Agg}
 
 values_of-none : (aggs : List Agg) → values_of aggs [] ≡ []

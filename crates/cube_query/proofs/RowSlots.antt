@@ -6,7 +6,7 @@ use Rattle.cube_model.specs.declared.rows.LineOrder.{LineOrder}
 use Rattle.lattice.specs.declared.view.View.{View}
 use Rattle.cuboid_cells.specs.Cells.{key_as_number}
 use Rattle.cuboid_upkeep.specs.Grouping.{HasMembers, key_of}
-use Rattle.cube_query.specs.FoldInvariant.{IsGroupSlot}
+use Rattle.group_tallies.specs.FoldInvariant.{IsGroupSlot}
 
 -- a row that has the slot of a key
 pub record HasSlot (dimensions : DimRows) (modes : List (List ℕ)) (view : View) (query : Query) (entries : List (ℕ × ℕ))

@@ -22,8 +22,8 @@ use Rattle.cuboid_upkeep.specs.CellNumbers.{AreUnwanted, AskedOfCells, IsUnwante
 use Rattle.cube_query.specs.CellRuns.{AreWantedMerged, LeavesOut, ReadsWanted}
 use Rattle.cube_query.specs.CellSlots.{AreMergedIn, HaveNoRepresentative}
 use Rattle.cube_query.specs.CellTallies.{GroupsHaveRoomFor}
-use Rattle.cube_query.specs.Slots.{slot_of}
-use Rattle.cube_query.specs.declared.tally.Tally.{Tally}
+use Rattle.group_tallies.specs.Slots.{slot_of}
+use Rattle.group_tallies.specs.declared.tally.Tally.{Tally}
 use Rattle.cube_query.proofs.CellParts.{none_among, part_more, rooms_part}
 use Rattle.cube_query.proofs.Wanted.{leaves_append, leaves_first, rooms_wanted}
 

@@ -16,20 +16,20 @@ use Rattle.std.proofs.lemmas.List.{length-map}
 use Rattle.std.proofs.lemmas.List.Sums.{sum_by-append, sum_by-cons}
 use Rattle.cube_model.specs.Keys.{key_cmp, keys_of}
 use Rattle.cube_model.specs.Selection.{is_selected}
-use Rattle.cube_query.specs.Columns.{tallies_at, tally_at, can_add, rows_with_slots, aggregate_size}
-use Rattle.cube_query.specs.Groups.{rows_at}
-use Rattle.cube_query.specs.Limits.{AreFoldable}
+use Rattle.group_tallies.specs.Columns.{tallies_at, tally_at, can_add, rows_with_slots, aggregate_size}
+use Rattle.group_tallies.specs.Groups.{rows_at}
+use Rattle.group_tallies.specs.Limits.{AreFoldable}
 use Rattle.group_plan.specs.Numbers.{group_count, group_key_at, KeysRise}
-use Rattle.cube_query.specs.Slots.{slot_of, AreSlots, Grow}
-use Rattle.cube_query.specs.FoldInvariant.{AreGroupSlots, HaveRoom, CountIn, AreTallied}
-use Rattle.cube_query.specs.Tallies.{aggregated, tally_of, tallies_of}
-use Rattle.cube_query.specs.declared.tally.Tally.{Tally}
-use Rattle.cube_query.proofs.Marking.{keys_apart, slotted-none, rows_at-none, rows_at-slotted, AreGroupSlots-at}
-use Rattle.cube_query.proofs.OneRow.{rows_at-append}
-use Rattle.cube_query.proofs.Columnwise.{All-at, tallies-length, tallies-one}
-use Rattle.cube_query.proofs.Counting.{fits-can_add}
-use Rattle.cube_query.proofs.Ranges.{range_of_agg}
-use Rattle.cube_query.proofs.Sums.{length-filter-le, nat_abs-total, sum_by-filter}
+use Rattle.group_tallies.specs.Slots.{slot_of, AreSlots, Grow}
+use Rattle.group_tallies.specs.FoldInvariant.{AreGroupSlots, HaveRoom, CountIn, AreTallied}
+use Rattle.group_tallies.specs.Tallies.{aggregated, tally_of, tallies_of}
+use Rattle.group_tallies.specs.declared.tally.Tally.{Tally}
+use Rattle.group_tallies.proofs.Marking.{keys_apart, slotted-none, rows_at-none, rows_at-slotted, AreGroupSlots-at}
+use Rattle.group_tallies.proofs.OneRow.{rows_at-append}
+use Rattle.group_tallies.proofs.Columnwise.{All-at, tallies-length, tallies-one}
+use Rattle.group_tallies.proofs.Counting.{fits-can_add}
+use Rattle.group_tallies.proofs.Ranges.{range_of_agg}
+use Rattle.group_tallies.proofs.Sums.{length-filter-le, nat_abs-total, sum_by-filter}
 
 -- ---- more slots
 pub AreTallied-grow : (dimensions : DimRows) (query : Query) (old new : List (ℕ × ℕ))

@@ -19,10 +19,10 @@ use Rattle.cuboid_upkeep.specs.Representatives.{AreRepresentatives}
 use Rattle.cube_query.specs.CellRuns.{LeavesOut}
 use Rattle.cube_query.specs.CellTallies.{GroupsHaveRoomFor, HasRoomForCells, HaveRoomFor, after_cells, cell_tally}
 use Rattle.cube_query.specs.CellTallies.{with_cells}
-use Rattle.cube_query.specs.Columns.{tallies_at}
-use Rattle.cube_query.specs.FoldInvariant.{AreGroupSlots}
-use Rattle.cube_query.specs.Tallies.{merged_tally}
-use Rattle.cube_query.specs.declared.tally.Tally.{Tally}
+use Rattle.group_tallies.specs.Columns.{tallies_at}
+use Rattle.group_tallies.specs.FoldInvariant.{AreGroupSlots}
+use Rattle.group_tallies.specs.Tallies.{merged_tally}
+use Rattle.group_tallies.specs.declared.tally.Tally.{Tally}
 use Rattle.cube_query.proofs.CellGroups.{slot_by}
 use Rattle.cube_query.proofs.RowSlots.{HasSlot}
 

@@ -26,13 +26,14 @@ use Rattle.group_plan.specs.Parts.{holds_in}
 use Rattle.group_plan.specs.Plans.{AreBounds}
 use Rattle.group_plan.specs.declared.bounds.Bounds.{Bounds}
 use Rattle.cube_query.specs.Chosen.{KeepSelected, lies_within}
-use Rattle.cube_query.specs.Columns.{can_add, rows_with_slots, no_tally, aggregate_size, slotted, tallies_at, tally_at}
-use Rattle.cube_query.specs.FoldInvariant.{AreGroupSlots, CountIn, HaveRoom, IsGroupSlot}
-use Rattle.cube_query.specs.Slots.{slot_of}
-use Rattle.cube_query.specs.Tallies.{merged_tally, aggregated, tallies_of, tally_of}
+use Rattle.group_tallies.specs.Columns.{can_add, rows_with_slots, no_tally, aggregate_size, slotted, tallies_at}
+use Rattle.group_tallies.specs.Columns.{tally_at}
+use Rattle.group_tallies.specs.FoldInvariant.{AreGroupSlots, CountIn, HaveRoom, IsGroupSlot}
+use Rattle.group_tallies.specs.Slots.{slot_of}
+use Rattle.group_tallies.specs.Tallies.{merged_tally, aggregated, tallies_of, tally_of}
 use Rattle.cube_query.specs.WholeBatch.{HaveRoomAt, all_at, has_one_group, is_on_row, tallies_with_rows}
-use Rattle.cube_query.specs.declared.tally.Tally.{Tally}
-use Rattle.cube_query.proofs.MergeLaws.{tally_of-append}
+use Rattle.group_tallies.specs.declared.tally.Tally.{Tally}
+use Rattle.group_tallies.proofs.MergeLaws.{tally_of-append}
 
 -- ---- what the conditions of the query say
 and_left : (a b : Bool) → (a && b) ≡ true → a ≡ true

@@ -12,7 +12,7 @@ use Rattle.cuboid_upkeep.specs.CellNumbers.{AskedOfCells, IsUnwanted}
 use Rattle.cuboid_upkeep.specs.Grouping.{RepresentRows}
 use Rattle.cube_query.specs.CellSlots.{AreMergedIn}
 use Rattle.cube_query.specs.Groups.{FoldState, Takes}
-use Rattle.cube_query.specs.declared.tally.Tally.{Tally}
+use Rattle.group_tallies.specs.declared.tally.Tally.{Tally}
 
 -- of the cells that were left some were read, after others that need not be looked at
 pub record ReadsWanted (asked : AskedOfCells) (text : Option (List ℕ)) (left : List Cell) (next : RunPlace)

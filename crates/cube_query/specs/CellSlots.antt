@@ -12,9 +12,9 @@ use Rattle.lattice.specs.declared.view.View.{View}
 use Rattle.cuboid_upkeep.specs.CellNumbers.{AskedOfCells}
 use Rattle.cuboid_upkeep.specs.Representatives.{AreRepresentatives, IsRepresentative}
 use Rattle.cube_query.specs.CellTallies.{with_cells}
-use Rattle.cube_query.specs.Columns.{tallies_at}
-use Rattle.cube_query.specs.FoldInvariant.{AreGroupSlots, IsGroupSlot}
-use Rattle.cube_query.specs.declared.tally.Tally.{Tally}
+use Rattle.group_tallies.specs.Columns.{tallies_at}
+use Rattle.group_tallies.specs.FoldInvariant.{AreGroupSlots, IsGroupSlot}
+use Rattle.group_tallies.specs.declared.tally.Tally.{Tally}
 
 -- a query over dimensions that is asked of the cells of a view
 abbrev pub asked_of : DimRows → Query → View → List (List ℕ) → AskedOfCells

@@ -12,10 +12,10 @@ use Rattle.cube_model.specs.declared.measure.Measure.TheVariants.{Discounted, Pr
 use Rattle.cuboid_cells.specs.declared.cell.Cell.{Cell}
 use Rattle.cuboid_cells.specs.declared.summary.Summaries.{Summaries}
 use Rattle.cuboid_cells.specs.declared.summary.Summary.{Summary}
-use Rattle.cube_query.specs.Columns.{tallies_at, tally_at}
-use Rattle.cube_query.specs.Slots.{slot_of}
-use Rattle.cube_query.specs.Tallies.{merged_tally}
-use Rattle.cube_query.specs.declared.tally.Tally.{Tally}
+use Rattle.group_tallies.specs.Columns.{tallies_at, tally_at}
+use Rattle.group_tallies.specs.Slots.{slot_of}
+use Rattle.group_tallies.specs.Tallies.{merged_tally}
+use Rattle.group_tallies.specs.declared.tally.Tally.{Tally}
 
 -- what is kept of a measure
 abbrev pub summary_in : Summaries → Measure → Summary

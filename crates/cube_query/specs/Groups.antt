@@ -1,40 +1,16 @@
 -- What a fold has in hand: tallies by the numbers of groups. Our own.
-use Rattle.std.specs.Prelude.{◌≡◌, ℕ, ◌<◌, None, List, [], ◌++◌, map, slice_index_or}
+use Rattle.std.specs.Prelude.{◌≡◌, ℕ, ◌<◌, List, [], ◌++◌, slice_index_or}
 use Rattle.cube_model.specs.declared.answer.Member.{Member}
-use Rattle.cube_model.specs.declared.query.Kind.TheVariants.{Plain}
 use Rattle.cube_model.specs.declared.query.Query.{Query}
 use Rattle.cube_model.specs.declared.rows.DimRows.{DimRows}
 use Rattle.cube_model.specs.declared.rows.LineOrder.{LineOrder}
-use Rattle.cube_model.specs.Answers.{keys_among, rows_of_key}
-use Rattle.cube_model.specs.Selection.{selected}
-use Rattle.cube_query.specs.declared.tally.Tally.{Tally}
-use Rattle.cube_query.specs.Limits.{AreFoldable}
-use Rattle.cube_query.specs.Tallies.{tallies_of}
+use Rattle.group_tallies.specs.declared.tally.Tally.{Tally}
+use Rattle.group_tallies.specs.Groups.{finest, rows_at}
+use Rattle.group_tallies.specs.Limits.{AreFoldable}
+use Rattle.group_tallies.specs.Tallies.{tallies_of}
 use Rattle.group_plan.specs.Numbers.{group_count, group_key_at}
 use Rattle.group_plan.specs.Plans.{IsGroupPlanOver}
 use Rattle.group_plan.specs.declared.plan.GroupPlan.{GroupPlan}
-
--- the groups of fact rows: each key that a selected row has, ascending, with the tallies over the rows of that key
-abbrev pub groups_of : DimRows → Query → List LineOrder → List (List Member × List Tally)
-groups_of dimensions query rows =
-    let chosen = selected dimensions query.conditions rows in
-    map (λ key. (key, tallies_of query.aggregates (rows_of_key dimensions query key chosen)))
-    (keys_among dimensions query chosen)
-
--- the query's finest grouping, by all columns
-abbrev pub finest : Query → Query
-finest query =
-    record {
-      kind = Plain;
-      columns = query.columns;
-      conditions = query.conditions;
-      aggregates = query.aggregates;
-      order = None;
-    }
-
--- the selected rows of a key
-abbrev pub rows_at : DimRows → Query → List Member → List LineOrder → List LineOrder
-rows_at dimensions query key rows = rows_of_key dimensions query key (selected dimensions query.conditions rows)
 
 -- a fold: its query, its plan, and the tallies at the number of each group by all columns, those of no row among them
 pub record FoldState : Type 0 where

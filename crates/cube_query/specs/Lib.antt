@@ -3,17 +3,6 @@ pub mod CellRuns
 pub mod CellSlots
 pub mod CellTallies
 pub mod Chosen
-pub mod Coarser
 pub mod ColumnRows
-pub mod Columns
-pub mod FoldInvariant
-pub mod GroupLines
 pub mod Groups
-pub mod Limits
-pub mod Numbered
-pub mod PlaceTables
-pub mod Ranks
-pub mod Room
-pub mod Slots
-pub mod Tallies
 pub mod WholeBatch

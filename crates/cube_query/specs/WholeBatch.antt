@@ -9,9 +9,9 @@ use Rattle.cube_model.specs.declared.query.Cond.{Cond}
 use Rattle.cube_model.specs.declared.query.Cond.TheVariants.{OneOf, Between, Quantity, Discount}
 use Rattle.cube_model.specs.declared.query.Query.{Query}
 use Rattle.cube_model.specs.declared.rows.LineOrder.{LineOrder}
-use Rattle.cube_query.specs.Columns.{can_add, aggregate_size, tally_at}
-use Rattle.cube_query.specs.Tallies.{merged_tally, aggregated, tally_of}
-use Rattle.cube_query.specs.declared.tally.Tally.{Tally}
+use Rattle.group_tallies.specs.Columns.{can_add, aggregate_size, tally_at}
+use Rattle.group_tallies.specs.Tallies.{merged_tally, aggregated, tally_of}
+use Rattle.group_tallies.specs.declared.tally.Tally.{Tally}
 
 -- a condition is on a number of a fact row, and on no dimension
 abbrev pub is_on_row : Cond → Bool

@@ -2,7 +2,7 @@
 ghost use Rattle.std.specs.Prelude.{◌≡◌, ◌≢◌, ◌⊎◌, Err, IfOk, IfErr, OnOk};
 ghost use Rattle.cube_model.specs.Answers.{answer};
 ghost use Rattle.cube_model.specs.Proper.{IsProper};
-ghost use Rattle.cube_query.specs.Limits.{AreFoldable};
+ghost use Rattle.group_tallies.specs.Limits.{AreFoldable};
 
 use crate::running::Fold;
 use cube_model::{Answer, Fault, LineOrder, Query};

@@ -4,13 +4,12 @@ ghost use Rattle.std.specs.Prelude.{IfOk, OnErr, OnOk};
 ghost use Rattle.cube_query.specs.CellTallies.{cell_tally, counted, summary_in, with_cells, HasRoomForCells};
 ghost use Rattle.cube_query.specs.CellTallies.{HaveRoomFor};
 ghost use Rattle.cube_query.specs.CellTallies.{MergesCells};
-ghost use Rattle.cube_query.specs.Columns.{tallies_at, tally_at};
-ghost use Rattle.cube_query.specs.Tallies.{merged_tally};
+ghost use Rattle.group_tallies.specs.Columns.{tallies_at, tally_at};
+ghost use Rattle.group_tallies.specs.Tallies.{merged_tally};
 
-use crate::columns::lengthen;
-use crate::tally::{LIMIT, Tally, TooLarge};
 use cube_model::{Agg, Amount, Fault, Measure};
 use cuboid_cells::{Cell, Summaries, Summary};
+use group_tallies::{LIMIT, Tally, TooLarge, lengthen};
 
 /// Merges a cell in at a slot of each column. A column that does not reach the slot is made longer.
 ///

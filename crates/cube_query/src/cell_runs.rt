@@ -10,15 +10,14 @@ ghost use Rattle.group_plan.specs.Numbers.{group_count};
 ghost use Rattle.cube_query.specs.CellRuns.{IsRunMerged, ReadsWanted};
 ghost use Rattle.cube_query.specs.CellSlots.{HaveNoRepresentative};
 ghost use Rattle.cube_query.specs.CellTallies.{GroupsHaveRoomFor};
-ghost use Rattle.cube_query.specs.Columns.{tallies_at};
-ghost use Rattle.cube_query.specs.Slots.{entries_of, AreSlots, Cover, Grow};
+ghost use Rattle.group_tallies.specs.Columns.{tallies_at};
+ghost use Rattle.group_tallies.specs.Slots.{entries_of, AreSlots, Cover, Grow};
 
 use crate::cell_slots::merge_cells;
-use crate::slots::Slots;
-use crate::tally::Tally;
 use cube_model::{Agg, Fault};
 use cuboid_cells::{Cell, RunReader};
 use cuboid_upkeep::CellNumbers;
+use group_tallies::{Slots, Tally};
 use std::alloc::Global;
 use wire::Source;
 

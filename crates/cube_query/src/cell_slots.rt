@@ -6,16 +6,14 @@ ghost use Rattle.group_plan.specs.Numbers.{group_count};
 ghost use Rattle.cube_query.specs.CellSlots.{AreMergedIn, HasNoRepresentative, HaveNoRepresentative, IsCellSlot};
 ghost use Rattle.cube_query.specs.CellSlots.{IsMergedIn};
 ghost use Rattle.cube_query.specs.CellTallies.{GroupsHaveRoomFor};
-ghost use Rattle.cube_query.specs.Columns.{tallies_at};
-ghost use Rattle.cube_query.specs.Slots.{entries_of, slot_of, AreSlots, Cover, Grow};
+ghost use Rattle.group_tallies.specs.Columns.{tallies_at};
+ghost use Rattle.group_tallies.specs.Slots.{entries_of, slot_of, AreSlots, Cover, Grow};
 
 use crate::cell_columns::merge_cell;
-use crate::columns::copy_columns;
-use crate::slots::Slots;
-use crate::tally::Tally;
 use cube_model::{Agg, Fault};
 use cuboid_cells::Cell;
 use cuboid_upkeep::CellNumbers;
+use group_tallies::{Slots, Tally, copy_columns};
 use std::alloc::Global;
 
 /// Columns with cells merged in at the slots of their groups, next to the columns that they are made from. Numbers of

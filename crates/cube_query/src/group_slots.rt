@@ -4,12 +4,12 @@ ghost use Rattle.std.specs.List.{All};
 ghost use Rattle.group_plan.specs.Numbers.{group_count};
 ghost use Rattle.group_plan.specs.Parts.{IsKnownFor};
 ghost use Rattle.group_plan.specs.Rows.{row_at};
-ghost use Rattle.cube_query.specs.Slots.{entries_of, slot_of, AreSlots, Cover, Grow};
-ghost use Rattle.cube_query.specs.FoldInvariant.{IsGroupSlot, AreGroupSlots};
+ghost use Rattle.group_tallies.specs.Slots.{entries_of, slot_of, AreSlots, Cover, Grow};
+ghost use Rattle.group_tallies.specs.FoldInvariant.{IsGroupSlot, AreGroupSlots};
 
-use crate::slots::Slots;
 use cube_model::Fault;
 use group_plan::{FactRows, GroupPlanOver};
+use group_tallies::Slots;
 use std::alloc::Global;
 
 // The slot of the group of the fact row at a place, if the row is selected.

@@ -17,15 +17,15 @@ ghost use Rattle.cube_query.specs.Asked.{AreSame, asked_columns, is_asked};
 ghost use Rattle.cube_query.specs.CellRuns.{IsRunMerged, TakesRun};
 ghost use Rattle.cube_query.specs.CellSlots.{AreMergedIn, HaveNoRepresentative, asked_of};
 ghost use Rattle.cube_query.specs.CellTallies.{GroupsHaveRoomFor};
-ghost use Rattle.cube_query.specs.Columns.{tallies_at};
-ghost use Rattle.cube_query.specs.GroupLines.{AreGroupsOver, answer_over};
+ghost use Rattle.group_tallies.specs.Columns.{tallies_at};
+ghost use Rattle.group_tallies.specs.GroupLines.{AreGroupsOver, answer_over};
 ghost use Rattle.cube_query.specs.Groups.{RepresentsRows, Begins, CanTake, IsFoldable, IsOver, Takes};
 ghost use Rattle.group_plan.specs.Numbers.{group_count, IsKnown};
 ghost use Rattle.group_plan.specs.Parts.{IsKnownFor};
 ghost use Rattle.group_plan.specs.Plans.{IsGroupPlanOver, query_of};
-ghost use Rattle.cube_query.specs.Slots.{entries_of, slot_of, AreSlots, CanPlace, Cover, Grow};
+ghost use Rattle.group_tallies.specs.Slots.{entries_of, slot_of, AreSlots, CanPlace, Cover, Grow};
 ghost use Rattle.cube_query.specs.WholeBatch.{has_one_group};
-ghost use Rattle.cube_query.specs.FoldInvariant.{AreGroupSlots};
+ghost use Rattle.group_tallies.specs.FoldInvariant.{AreGroupSlots};
 ghost use Rattle.cuboid_upkeep.specs.Codes.{modes_of};
 ghost use Rattle.cuboid_upkeep.specs.Grouping.{RepresentRows};
 ghost use Rattle.lattice.specs.Determined.{Serves};
@@ -35,13 +35,7 @@ use crate::cell_runs::merge_run;
 use crate::cell_slots::with_cells;
 use crate::chosen_rows::ChosenRows;
 use crate::column_rows::ColumnRows;
-use crate::columns::{count_in_all, make_room, no_columns};
-use crate::finish::answer_lines;
-use crate::finished::Groups;
 use crate::group_slots::group_slots_of;
-use crate::room::have_room;
-use crate::slots::Slots;
-use crate::tally::Tally;
 use crate::whole_batch::{has_one_group, selected_rows, with_batch};
 use column_kernels::Mask;
 use column_segment::{FactColumn, FactColumns, Segment};
@@ -51,6 +45,9 @@ use cuboid_upkeep::{CellNumbers, one_key_one_group};
 use dictionary::Dictionary;
 use dimensions::Dims;
 use group_plan::{FactRows, GroupPlan, RowSlice};
+use group_tallies::{
+    Groups, Slots, Tally, answer_lines, count_in_all, have_room, make_room, no_columns,
+};
 use std::alloc::{AllocError, Global};
 use std::marker::Model;
 use wire::Source;
@@ -84,7 +81,7 @@ impl Drop for Fold {
 impl Model for Fold {
     ghost use Rattle.cube_query.specs.Groups.{FoldState};
     ghost use Rattle.group_plan.specs.Plans.{query_of};
-    ghost use Rattle.cube_query.specs.FoldInvariant.{IsKept, all_tallies};
+    ghost use Rattle.group_tallies.specs.FoldInvariant.{IsKept, all_tallies};
 
     ghost Value = { FoldState };
 

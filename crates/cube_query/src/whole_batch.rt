@@ -8,15 +8,15 @@ ghost use Rattle.cube_model.specs.declared.measure.Agg.TheVariants.{Count};
 ghost use Rattle.cube_model.specs.Measures.{measure_of};
 ghost use Rattle.cube_model.specs.Selection.{is_selected};
 ghost use Rattle.column_kernels.specs.Masks.{selected_by};
-ghost use Rattle.cube_query.specs.Columns.{can_add, aggregate_size, tallies_at, tally_at};
-ghost use Rattle.cube_query.specs.Tallies.{merged_tally, aggregated, tally_of};
+ghost use Rattle.group_tallies.specs.Columns.{can_add, aggregate_size, tallies_at, tally_at};
+ghost use Rattle.group_tallies.specs.Tallies.{merged_tally, aggregated, tally_of};
 ghost use Rattle.cube_query.specs.WholeBatch.{HaveRoomAt, has_one_group, is_on_row, tallies_with_rows};
 
-use crate::tally::{Tally, TooLarge};
 use column_kernels::Mask;
 use column_segment::FactColumns;
 use cube_model::{Agg, Amount, Cond, Fault, Measure, Query};
 use group_plan::GroupPlanOver;
+use group_tallies::{Tally, TooLarge};
 use std::alloc::Global;
 
 /// Whether a query has no column, and no condition on a dimension: a mask tells its rows, and all are in one group.

@@ -7,7 +7,7 @@ use Rattle.std.specs.Cmp.{IsTotalOrder, back_total, nat_cmp_total, on_total, the
 use Rattle.std.specs.FinMap.{IsAntisymmetric, nat_cmp-IsAntisymmetric}
 use Rattle.cube_model.specs.declared.answer.Line.{Line}
 use Rattle.cube_model.specs.Order.{key_cmp_total, member_cmp_total}
-use Rattle.cube_query.specs.GroupLines.{line_at}
+use Rattle.group_tallies.specs.GroupLines.{line_at}
 use Rattle.line_order.specs.declared.arrangement.SortKey.{SortKey}
 use Rattle.line_order.specs.declared.arrangement.SortKey.TheVariants.{Column, Aggregate, Average}
 use Rattle.line_order.specs.declared.arrangement.Sorting.{Sorting}

@@ -9,7 +9,7 @@ use Rattle.std.proofs.lemmas.List.Sorted.{All-permutation, length_permutation}
 use Rattle.std.specs.List.Sorted.{IsPermutation, IsSortedBy}
 use Rattle.std.specs.Ordering.{is_lt}
 use Rattle.cube_model.specs.declared.answer.Line.{Line}
-use Rattle.cube_query.specs.GroupLines.{line_at}
+use Rattle.group_tallies.specs.GroupLines.{line_at}
 use Rattle.line_order.specs.declared.arrangement.Sorting.{Sorting}
 use Rattle.line_order.specs.Arranging.{arranged, limited, lines_at, place_cmp, places_for, sorted_places}
 use Rattle.line_order.proofs.Comparisons.{place_cmp_total, place_cmp-IsAntisymmetric}

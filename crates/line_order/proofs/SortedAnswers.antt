@@ -22,7 +22,7 @@ use Rattle.cube_model.specs.Keys.{key_cmp}
 use Rattle.cube_model.specs.Order.{key_cmp_total, key_cmp-IsAntisymmetric, member_cmp_total}
 use Rattle.cube_model.specs.Orders.{answer_cmp, value_cmp}
 use Rattle.cube_model.specs.Selection.{selected}
-use Rattle.cube_query.specs.GroupLines.{line_at}
+use Rattle.group_tallies.specs.GroupLines.{line_at}
 use Rattle.line_order.specs.declared.arrangement.Sorting.{Sorting}
 use Rattle.line_order.specs.Arranging.{place_cmp, sorted_places}
 use Rattle.line_order.specs.Lawful.{AnswersAreSorted}

@@ -5,7 +5,7 @@ use Rattle.std.specs.List.{range_with_len}
 use Rattle.std.specs.Ordering.{nat_cmp, ordering_then}
 use Rattle.cube_model.specs.Ascending.{ascending}
 use Rattle.cube_model.specs.declared.answer.Line.{Line}
-use Rattle.cube_query.specs.GroupLines.{line_at}
+use Rattle.group_tallies.specs.GroupLines.{line_at}
 use Rattle.line_order.specs.declared.arrangement.Arrangement.{Arrangement}
 use Rattle.line_order.specs.declared.arrangement.Sorting.{Sorting}
 use Rattle.line_order.specs.Sorting.{sorting_cmp}

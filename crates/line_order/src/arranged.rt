@@ -2,7 +2,7 @@
 ghost use Rattle.std.specs.Prelude.{◌≡◌, ◌<◌, ◌≤◌, length, None, IfErr, IfOk, IsOk};
 ghost use Rattle.std.specs.List.{All, range_with_len};
 ghost use Rattle.std.specs.Option.{ForSome, option_map};
-ghost use Rattle.cube_query.specs.GroupLines.{line_at};
+ghost use Rattle.group_tallies.specs.GroupLines.{line_at};
 ghost use Rattle.line_order.specs.Arranging.{arranged, limited, lines_at, places_for, sorted_places};
 
 use crate::arrangement::{Arrangement, Sorting};

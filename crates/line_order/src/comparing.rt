@@ -4,7 +4,7 @@ ghost use Rattle.std.specs.Prelude.{◌≡◌, length};
 ghost use Rattle.std.specs.Option.{option_map};
 ghost use Rattle.std.specs.Ordering.{nat_cmp, ordering_then};
 ghost use Rattle.cube_model.specs.Keys.{key_cmp, member_cmp};
-ghost use Rattle.cube_query.specs.GroupLines.{line_at};
+ghost use Rattle.group_tallies.specs.GroupLines.{line_at};
 ghost use Rattle.line_order.specs.Arranging.{place_cmp};
 ghost use Rattle.line_order.specs.Sorting.{average_at, directed, line_member, sort_key_cmp, text_member, value_at};
 

@@ -4,7 +4,7 @@ use Rattle.std.proofs.Common.{add-one}
 use Rattle.cube_model.specs.declared.rows.DimRows.{DimRows}
 use Rattle.cube_model.specs.declared.rows.LineOrder.{LineOrder}
 use Rattle.cube_model.specs.Admission.{all_rows}
-use Rattle.cube_query.specs.Limits.{AreFoldable}
+use Rattle.group_tallies.specs.Limits.{AreFoldable}
 use Rattle.mode_folds.specs.States.{CanTakeByModes, ModeFoldState, RepresentsModeRows, TakesByModes}
 use Rattle.object_store.specs.Content.{Content}
 use Rattle.warehouse_objects.specs.Represents.{Represents}

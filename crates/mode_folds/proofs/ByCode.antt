@@ -11,7 +11,7 @@ use Rattle.cube_model.specs.declared.query.Query.{Query}
 use Rattle.cube_model.specs.declared.rows.DimRows.{DimRows}
 use Rattle.cube_model.specs.declared.rows.LineOrder.{LineOrder}
 use Rattle.cube_query.specs.Groups.{FoldState, RepresentsRows}
-use Rattle.cube_query.specs.Limits.{AreFoldable}
+use Rattle.group_tallies.specs.Limits.{AreFoldable}
 use Rattle.dictionary.proofs.CallerLemmas.{bytes_eq-refl, bytes_eq-same, text_at_place}
 use Rattle.dictionary.specs.Columns.{place_of}
 use Rattle.lattice.specs.declared.view.View.{View}

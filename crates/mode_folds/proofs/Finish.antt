@@ -20,7 +20,7 @@ use Rattle.cube_model.specs.Order.{key_cmp_total, key_cmp-IsAntisymmetric}
 use Rattle.cube_model.specs.Orders.{in_order}
 use Rattle.cube_model.proofs.Entries.{entries_are}
 use Rattle.cube_query.specs.Groups.{FoldState, RepresentsRows}
-use Rattle.cube_query.specs.Limits.{AreFoldable}
+use Rattle.group_tallies.specs.Limits.{AreFoldable}
 use Rattle.mode_folds.specs.Joining.{FoldParts, HasValues, lines_of_entries}
 use Rattle.mode_folds.specs.Parts.{HaveQuery, RepresentByMode}
 use Rattle.mode_folds.specs.States.{RepresentsModeRows, fold_of, rows_by_mode, rows_if, rows_together}

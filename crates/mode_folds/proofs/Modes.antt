@@ -14,7 +14,7 @@ use Rattle.cube_model.specs.declared.rows.DimRows.{DimRows}
 use Rattle.cube_model.specs.declared.rows.LineOrder.{LineOrder}
 use Rattle.cube_model.specs.Answers.{answer}
 use Rattle.cube_query.specs.Groups.{FoldState, IsFoldable, RepresentsRows}
-use Rattle.cube_query.specs.Limits.{AreFoldable}
+use Rattle.group_tallies.specs.Limits.{AreFoldable}
 use Rattle.mode_folds.specs.Joining.{FoldParts, HasValues}
 use Rattle.mode_folds.proofs.Foldables.{foldable_filter}
 use Rattle.mode_queries.specs.Joining.{HaveValues, joined_keys, joined_lines, keys_by_mode, lines_of_mode, of_mode}

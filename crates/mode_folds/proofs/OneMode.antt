@@ -12,7 +12,7 @@ use Rattle.cube_model.specs.declared.query.Query.{Query}
 use Rattle.cube_model.specs.declared.rows.DimRows.{DimRows}
 use Rattle.cube_model.specs.declared.rows.LineOrder.{LineOrder}
 use Rattle.cube_query.specs.Groups.{CanTake, FoldState, RepresentsRows, Takes}
-use Rattle.cube_query.specs.Limits.{AreFoldable}
+use Rattle.group_tallies.specs.Limits.{AreFoldable}
 use Rattle.dictionary.proofs.CallerLemmas.{EachOnce-push, bytes_eq-apart, bytes_eq-refl, bytes_eq-same, bytes_eq-symm}
 use Rattle.dictionary.proofs.CallerLemmas.{place_again, place_last, place_within, text_at_place}
 use Rattle.dictionary.specs.Columns.{place_of}

@@ -19,7 +19,7 @@ use Rattle.cube_query.specs.Groups.{Begins, CanTake, FoldState, RepresentsRows, 
 use Rattle.dictionary.proofs.CallerLemmas.{bytes_eq-symm, list_any_here}
 use Rattle.dictionary.specs.Dictionary.{EachOnce}
 use Rattle.mode_folds.specs.Divided.{AreDivided, AreWithMore}
-use Rattle.cube_query.specs.Limits.{AreFoldable}
+use Rattle.group_tallies.specs.Limits.{AreFoldable}
 use Rattle.mode_folds.specs.Parts.{AreGrown, CanTakeEach, HaveQuery, RepresentByMode, TakeByMode, TakeEach}
 use Rattle.mode_folds.specs.States.{TakesByModes, fold_of, folds_together, rows_by_mode}
 use Rattle.mode_folds.specs.States.{TakesTogether, rows_if, rows_together}

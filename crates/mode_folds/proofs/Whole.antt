@@ -4,7 +4,7 @@ use Rattle.std.specs.Prelude.{OnOk, Result, Ok, Err, is_none, is_some}
 use Rattle.cube_model.specs.declared.rows.DimRows.{DimRows}
 use Rattle.cube_model.specs.declared.rows.LineOrder.{LineOrder}
 use Rattle.cube_query.specs.Groups.{CanTake, FoldState, RepresentsRows, Takes}
-use Rattle.cube_query.specs.Limits.{AreFoldable}
+use Rattle.group_tallies.specs.Limits.{AreFoldable}
 use Rattle.mode_folds.specs.States.{TakesTogether, folds_together, rows_if, rows_together}
 use Rattle.mode_folds.proofs.Finish.{passing_foldable}
 use Rattle.mode_folds.proofs.Takes.{passing-append, together_takes}

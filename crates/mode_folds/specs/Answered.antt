@@ -3,7 +3,7 @@ use Rattle.std.specs.Prelude.{List}
 use Rattle.cube_model.specs.declared.answer.Answer.{Answer}
 use Rattle.cube_model.specs.declared.answer.Line.{Line}
 use Rattle.cube_model.specs.declared.rows.DimRows.{DimRows}
-use Rattle.cube_query.specs.GroupLines.{AreGroupsOver, answer_over}
+use Rattle.group_tallies.specs.GroupLines.{AreGroupsOver, answer_over}
 use Rattle.mode_folds.specs.declared.answered.Answered.{Answered}
 use Rattle.mode_folds.specs.declared.answered.Answered.TheVariants.{Groups, Lines}
 use Rattle.mode_folds.specs.declared.answered.AnsweredLines.{AnsweredLines}

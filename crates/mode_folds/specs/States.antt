@@ -6,7 +6,7 @@ use Rattle.std.specs.List.{AllByRecursion}
 use Rattle.cube_model.specs.declared.rows.DimRows.{DimRows}
 use Rattle.cube_model.specs.declared.rows.LineOrder.{LineOrder}
 use Rattle.cube_query.specs.Groups.{FoldState, IsOver, RepresentsRows}
-use Rattle.cube_query.specs.Limits.{AreFoldable}
+use Rattle.group_tallies.specs.Limits.{AreFoldable}
 use Rattle.dictionary.specs.Dictionary.{EachOnce}
 use Rattle.mode_queries.specs.Joining.{has_coarser, have_modes, of_mode, passing}
 use Rattle.mode_queries.specs.declared.query.ModeQuery.{ModeQuery}

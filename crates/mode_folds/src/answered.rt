@@ -3,8 +3,8 @@ ghost use Rattle.std.specs.Prelude.{◌≡◌};
 ghost use Rattle.mode_folds.specs.Answered.{IsAnsweredOver, answered_over, lines_in};
 
 use cube_model::{Answer, Fault, Value};
-use cube_query::{GroupLines, Groups};
 use dimensions::Dims;
+use group_tallies::{GroupLines, Groups};
 use ssb_reports::Lines;
 use std::io::Write;
 

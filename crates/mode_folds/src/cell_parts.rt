@@ -4,7 +4,7 @@ ghost use Rattle.std.specs.List.{AllByRecursion};
 ghost use Rattle.cube_model.specs.Proper.{IsProper};
 ghost use Rattle.cube_model.specs.declared.rows.LineOrder.{LineOrder};
 ghost use Rattle.cube_query.specs.Groups.{IsOver};
-ghost use Rattle.cube_query.specs.Limits.{AreFoldable};
+ghost use Rattle.group_tallies.specs.Limits.{AreFoldable};
 ghost use Rattle.cuboid_upkeep.specs.Grouping.{RepresentRows};
 ghost use Rattle.lattice.specs.Determined.{Serves};
 ghost use Rattle.mode_folds.specs.Parts.{AreOfMode, HaveQuery, RepresentByMode, TakeByMode};

@@ -9,7 +9,7 @@ ghost use Rattle.cube_model.specs.declared.query.Query.{Query};
 ghost use Rattle.cube_model.specs.declared.rows.LineOrder.{LineOrder};
 ghost use Rattle.cube_model.specs.Keys.{key_cmp};
 ghost use Rattle.cube_query.specs.Groups.{IsOver};
-ghost use Rattle.cube_query.specs.Limits.{AreFoldable};
+ghost use Rattle.group_tallies.specs.Limits.{AreFoldable};
 ghost use Rattle.mode_folds.specs.Joining.{FoldParts, HasValues, lines_of_entries};
 ghost use Rattle.mode_folds.specs.Parts.{HaveQuery};
 ghost use Rattle.mode_folds.specs.States.{IsFoldableByModes, RepresentsModeRows, fold_of};

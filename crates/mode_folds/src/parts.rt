@@ -6,7 +6,7 @@ ghost use Rattle.std.specs.declared.vec.Vec.{Vec};
 ghost use Rattle.cube_model.specs.Proper.{IsProper};
 ghost use Rattle.cube_model.specs.declared.rows.LineOrder.{LineOrder};
 ghost use Rattle.cube_query.specs.Groups.{Begins, CanTake, FoldState, IsOver, Takes};
-ghost use Rattle.cube_query.specs.Limits.{AreFoldable};
+ghost use Rattle.group_tallies.specs.Limits.{AreFoldable};
 ghost use Rattle.mode_folds.specs.Parts.{AreGrown, CanTakeEach, HaveQuery, RepresentByMode, TakeByMode, TakeEach};
 
 use crate::dividing::divided;

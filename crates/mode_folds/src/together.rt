@@ -2,7 +2,7 @@
 ghost use Rattle.std.specs.Prelude.{◌≡◌, ◌⊎◌, ◌++◌, Err, List, IfErr, OnOk};
 ghost use Rattle.cube_model.specs.declared.rows.LineOrder.{LineOrder};
 ghost use Rattle.cube_query.specs.Groups.{IsOver, RepresentsRows};
-ghost use Rattle.cube_query.specs.Limits.{AreFoldable};
+ghost use Rattle.group_tallies.specs.Limits.{AreFoldable};
 ghost use Rattle.cuboid_upkeep.specs.Grouping.{RepresentRows};
 ghost use Rattle.lattice.specs.Determined.{Serves};
 ghost use Rattle.mode_folds.specs.States.{TakesTogether, folds_together, rows_together};

@@ -4,7 +4,7 @@ ghost use Rattle.mode_reports.specs.Lines.{reported_lines};
 
 use crate::form::Form;
 use cube_model::{Fault, Value};
-use cube_query::GroupLines;
+use group_tallies::GroupLines;
 use mode_answers::FoundByModes;
 use mode_folds::AnsweredLines;
 use planned_queries::Found;

@@ -2,7 +2,7 @@
 ghost use Rattle.std.specs.Prelude.{◌≡◌, ◌<◌, None, Some, length, not, slice_index_or, IfErr, OnOk};
 ghost use Rattle.std.specs.List.{list_all};
 ghost use Rattle.cube_model.specs.declared.answer.Member.TheVariants.{All};
-ghost use Rattle.cube_query.specs.GroupLines.{line_at};
+ghost use Rattle.group_tallies.specs.GroupLines.{line_at};
 ghost use Rattle.partial_reports.specs.Members.{are_plain_lines, ends_field, is_plain_line, is_plain_member};
 ghost use Rattle.partial_reports.specs.Members.{is_plain_text, member_cause};
 

@@ -9,7 +9,7 @@ use Rattle.cube_model.specs.declared.rows.LineOrder.{LineOrder}
 use Rattle.cube_model.specs.Admission.{all_rows}
 use Rattle.cube_model.specs.Answers.{answer}
 use Rattle.cube_query.specs.Groups.{FoldState, IsFoldable, RepresentsRows}
-use Rattle.cube_query.specs.Limits.{AreFoldable}
+use Rattle.group_tallies.specs.Limits.{AreFoldable}
 use Rattle.planner.specs.declared.price.Plan.{Plan}
 use Rattle.warehouse_objects.specs.Warehouse.{AreInOrder, Warehouse}
 use Rattle.warehouse_objects.proofs.CallerLemmas.{foldable}

@@ -5,8 +5,9 @@ ghost use Rattle.cube_model.specs.declared.rows.LineOrder.{LineOrder};
 ghost use Rattle.cube_query.specs.Groups.{IsFoldable, IsOver, RepresentsRows};
 
 use cube_model::{Answer, Fault};
-use cube_query::{Fold, GroupLines, Groups};
+use cube_query::Fold;
 use dimensions::Dims;
+use group_tallies::{GroupLines, Groups};
 use std::alloc::{AllocError, Global};
 use std::marker::Model;
 use std::rc::Rc;
@@ -27,7 +28,7 @@ impl Drop for Found {
 
 impl Model for Found {
     ghost use Rattle.cube_model.specs.declared.answer.Answer.{Answer};
-    ghost use Rattle.cube_query.specs.GroupLines.{AreGroupsOver, answer_over};
+    ghost use Rattle.group_tallies.specs.GroupLines.{AreGroupsOver, answer_over};
 
     ghost Value = { Answer };
 

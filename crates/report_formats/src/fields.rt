@@ -1,6 +1,6 @@
 //! The fields of a line.
 ghost use Rattle.std.specs.Prelude.{◌<◌, length};
-ghost use Rattle.cube_query.specs.GroupLines.{line_at};
+ghost use Rattle.group_tallies.specs.GroupLines.{line_at};
 
 use crate::asked::Asked;
 use crate::cells::{write_member_field, write_value_field};

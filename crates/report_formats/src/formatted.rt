@@ -1,7 +1,7 @@
 //! The report of an answer in a layout.
 ghost use Rattle.std.specs.Prelude.{◌≡◌, ◌<◌, ◌++◌, length, None};
 ghost use Rattle.std.specs.List.{flat_map};
-ghost use Rattle.cube_query.specs.GroupLines.{line_at};
+ghost use Rattle.group_tallies.specs.GroupLines.{line_at};
 ghost use Rattle.report_formats.specs.Arranged.{WritesOrLacksMemory};
 ghost use Rattle.report_formats.specs.Fields.{footer_text, formatted, formatted_header, laid_out, formatted_line};
 ghost use Rattle.report_formats.specs.Fields.{unarranged};

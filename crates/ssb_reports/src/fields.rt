@@ -6,7 +6,7 @@ ghost use Rattle.ssb_reports.specs.Writing.{Writes};
 use crate::field::Field;
 use crate::writing::write_bytes;
 use cube_model::Fault;
-use cube_query::GroupLine;
+use group_tallies::GroupLine;
 use std::io::Write;
 
 /// Fields by their places, which count from 0.

@@ -3,14 +3,14 @@ ghost use Rattle.std.specs.Prelude.{◌≡◌, ◌<◌, pos, List, length, slice
 ghost use Rattle.cube_model.specs.declared.answer.Line.{Line};
 ghost use Rattle.cube_model.specs.declared.answer.Member.TheVariants.{All, Text};
 ghost use Rattle.cube_model.specs.declared.answer.Value.TheVariants.{Whole};
-ghost use Rattle.cube_query.specs.GroupLines.{line_at};
+ghost use Rattle.group_tallies.specs.GroupLines.{line_at};
 ghost use Rattle.ssb_reports.specs.Report.{line_text};
 ghost use Rattle.ssb_reports.specs.Writing.{Writes};
 
 use crate::fields::{Members, Values};
 use crate::report::write_row;
 use cube_model::{Answer, Fault, Member, Value};
-use cube_query::GroupLines;
+use group_tallies::GroupLines;
 use std::io::Write;
 
 /// The lines of an answer by their places, which count from 0.

@@ -21,7 +21,7 @@ use Rattle.column_segment.specs.declared.columns.TextColumn.{TextColumn}
 use Rattle.column_segment.specs.declared.columns.TextColumn.TheVariants.{CommitDate, OrderPriority, ShipMode}
 use Rattle.column_segment.specs.declared.columns.TextColumn.TheVariants.{ShipPriority}
 use Rattle.batch_admission.proofs.CallerLemmas.{all_rows-last, in_range, known_both, passes}
-use Rattle.cube_query.specs.Limits.{AreFoldable}
+use Rattle.group_tallies.specs.Limits.{AreFoldable}
 use Rattle.batch_admission.specs.Totals.{totals_of}
 use Rattle.cube_model.specs.declared.measure.Measure.TheVariants.{Discounted, ExtendedPrice, Profit, Quantity, Revenue}
 use Rattle.cube_model.specs.declared.measure.Measure.TheVariants.{SupplyCost}

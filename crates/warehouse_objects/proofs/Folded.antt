@@ -15,7 +15,7 @@ use Rattle.column_segment.specs.Projected.{AgreeOn, HoldsNoneOf}
 use Rattle.column_segment.specs.Segment.{IsSegment, segment_of}
 use Rattle.column_segment.proofs.CallerLemmas.{IsSegment-one}
 use Rattle.cube_query.specs.Groups.{CanTake, FoldState, RepresentsRows}
-use Rattle.cube_query.specs.Limits.{AreFoldable}
+use Rattle.group_tallies.specs.Limits.{AreFoldable}
 use Rattle.warehouse_objects.specs.Represents.{Represents}
 use Rattle.warehouse_objects.specs.Warehouse.{Warehouse}
 use Rattle.warehouse_objects.proofs.Batches.{foldable, rows_next, segment_at, some_one}

@@ -9,7 +9,7 @@ ghost use Rattle.object_store.specs.Store.{content_of, device_of, has_failed};
 ghost use Rattle.column_segment.specs.Segment.{IsSegment};
 ghost use Rattle.cube_query.specs.Asked.{asked_columns};
 ghost use Rattle.cube_query.specs.Groups.{IsOver, RepresentsRows};
-ghost use Rattle.cube_query.specs.Limits.{AreFoldable};
+ghost use Rattle.group_tallies.specs.Limits.{AreFoldable};
 ghost use Rattle.warehouse_root.specs.Objects.{segment_id};
 ghost use Rattle.warehouse_objects.specs.Counted.{CountsBatch};
 ghost use Rattle.warehouse_objects.specs.Warehouse.{Warehouse};

@@ -2,7 +2,7 @@ use Rattle.std.proofs.Common.{◌≡◌, ◌∙◌, Err, ap, []}
 use Rattle.cube_model.specs.declared.fault.Fault.TheVariants.{BadLayout}
 use Rattle.std.proofs.lemmas.Result.{IfErr-weaker, IfOk-weaker, err_from_is_err_and}
 use Rattle.cube_model.specs.Answers.{answer}
-use Rattle.cube_query.proofs.Refusals.{never_improper}
+use Rattle.group_tallies.proofs.Refusals.{never_improper}
 use Rattle.cube_query.proofs.answer.fold.Goals as goal
 
 pub add_rows-requires : goal.add_rows-requires

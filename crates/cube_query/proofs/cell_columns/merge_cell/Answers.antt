@@ -7,8 +7,8 @@ use Rattle.cube_model.specs.declared.fault.Fault.TheVariants.{BadLayout}
 use Rattle.cube_model.specs.declared.measure.Agg.{Agg}
 use Rattle.cube_model.specs.declared.measure.Agg.TheVariants.{Count}
 use Rattle.cube_query.specs.CellTallies.{HasRoomForCells, MergesCells}
-use Rattle.cube_query.specs.Columns.{tally_at}
-use Rattle.cube_query.specs.declared.tally.Tally.{Tally}
+use Rattle.group_tallies.specs.Columns.{tally_at}
+use Rattle.group_tallies.specs.declared.tally.Tally.{Tally}
 use Rattle.cube_query.proofs.CellMerges.{AreMergedBelow-set, all_columns_merged, room_in}
 use Rattle.cube_query.proofs.CellParts.{tallies-set}
 use Rattle.cube_query.proofs.cell_columns.merge_cell.Goals as goal

@@ -1,5 +1,5 @@
 use Rattle.std.proofs.Common.{◌≡◌, ◌≢◌, ℕ, ◌∷◌, [], Some}
-use Rattle.cube_query.specs.Columns.{tallies_at}
+use Rattle.group_tallies.specs.Columns.{tallies_at}
 use Rattle.cube_query.proofs.CellMerges.{AreMergedBelow}
 use Rattle.cube_query.proofs.cell_columns.merge_cell.Given as goal
 

@@ -12,9 +12,9 @@ use Rattle.lattice.specs.declared.view.View.{View}
 use Rattle.group_plan.specs.Numbers.{group_count}
 use Rattle.cube_query.specs.CellSlots.{AreMergedIn, HaveNoRepresentative}
 use Rattle.cube_query.specs.CellTallies.{GroupsHaveRoomFor}
-use Rattle.cube_query.specs.Slots.{entries_of, Grow}
+use Rattle.group_tallies.specs.Slots.{entries_of, Grow}
 use Rattle.cube_query.proofs.CellSlots.{none_yet}
-use Rattle.cube_query.proofs.Placing.{Grow-same}
+use Rattle.group_tallies.proofs.Placing.{Grow-same}
 use Rattle.cube_query.proofs.RunMerging.{ran_later, ran_own, ran_stays, run_done, run_more, run_refused}
 use Rattle.cube_query.proofs.cell_runs.merge_run.Goals as goal
 

@@ -3,8 +3,8 @@ use Rattle.wire.specs.Runs.{HasRead}
 use Rattle.cuboid_cells.specs.Pieces.{AreLeft}
 use Rattle.cuboid_cells.specs.declared.cell.Cell.{Cell}
 use Rattle.group_plan.specs.Numbers.{group_count}
-use Rattle.cube_query.specs.Columns.{tallies_at}
-use Rattle.cube_query.specs.Slots.{entries_of, Cover, Grow}
+use Rattle.group_tallies.specs.Columns.{tallies_at}
+use Rattle.group_tallies.specs.Slots.{entries_of, Cover, Grow}
 use Rattle.cube_query.proofs.RunMerging.{AreMergedTo}
 use Rattle.cube_query.proofs.cell_runs.merge_run.Given as goal
 

@@ -8,10 +8,10 @@ use Rattle.cuboid_cells.specs.declared.cell.Cell.{Cell}
 use Rattle.cube_query.specs.CellSlots.{AreMergedIn}
 use Rattle.cuboid_upkeep.specs.CellNumbers.{AskedOfCells}
 use Rattle.group_plan.specs.Numbers.{group_count}
-use Rattle.cube_query.specs.Slots.{entries_of, Grow}
-use Rattle.cube_query.specs.declared.slots.Slots.{Slots}
-use Rattle.cube_query.specs.declared.tally.Tally.{Tally}
-use Rattle.cube_query.proofs.Placing.{Grow-same}
+use Rattle.group_tallies.specs.Slots.{entries_of, Grow}
+use Rattle.group_tallies.specs.declared.slots.Slots.{Slots}
+use Rattle.group_tallies.specs.declared.tally.Tally.{Tally}
+use Rattle.group_tallies.proofs.Placing.{Grow-same}
 use Rattle.cube_query.proofs.CellMerges.{no_cell}
 use Rattle.cube_query.proofs.CellSlots.{none_yet, one_more, rooms_next}
 use Rattle.cube_query.proofs.cell_slots.merge_cells.Goals as goal

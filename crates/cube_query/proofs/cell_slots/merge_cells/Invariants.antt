@@ -1,8 +1,8 @@
 use Rattle.std.proofs.Common.{◌≡◌, ℕ, ◌≤◌, List, length, take}
 use Rattle.group_plan.specs.Numbers.{group_count}
 use Rattle.cube_query.specs.CellSlots.{AreMergedIn}
-use Rattle.cube_query.specs.Columns.{tallies_at}
-use Rattle.cube_query.specs.Slots.{entries_of, Cover, Grow}
+use Rattle.group_tallies.specs.Columns.{tallies_at}
+use Rattle.group_tallies.specs.Slots.{entries_of, Cover, Grow}
 use Rattle.cube_query.proofs.cell_slots.merge_cells.Given as goal
 
 abbrev pub invariant-loop-place : goal.invariant-loop-place

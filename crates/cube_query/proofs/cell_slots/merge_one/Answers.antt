@@ -2,7 +2,7 @@ use Rattle.std.proofs.Common.{◌≡◌, ℕ, None, Option, Err, ap, inl, subst,
 use Rattle.std.proofs.lemmas.Result.{err_from_is_err_and}
 use Rattle.cube_model.specs.declared.fault.Fault.TheVariants.{BadLayout}
 use Rattle.cube_query.specs.CellSlots.{IsCellSlot}
-use Rattle.cube_query.specs.Slots.{entries_of}
+use Rattle.group_tallies.specs.Slots.{entries_of}
 use Rattle.cube_query.proofs.CellMerges.{columns_without_it}
 use Rattle.cube_query.proofs.cell_slots.merge_one.Goals as goal
 

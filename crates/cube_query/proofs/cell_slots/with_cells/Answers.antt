@@ -5,12 +5,12 @@ use Rattle.std.specs.declared.vec.Vec.{Vec}
 use Rattle.cube_model.specs.declared.fault.Fault.TheVariants.{BadLayout}
 use Rattle.group_plan.specs.Numbers.{group_count}
 use Rattle.cube_query.specs.CellTallies.{GroupsHaveRoomFor}
-use Rattle.cube_query.specs.Slots.{entries_of, Grow}
-use Rattle.cube_query.specs.declared.slots.Slots.{Slots}
-use Rattle.cube_query.specs.declared.tally.Tally.{Tally}
+use Rattle.group_tallies.specs.Slots.{entries_of, Grow}
+use Rattle.group_tallies.specs.declared.slots.Slots.{Slots}
+use Rattle.group_tallies.specs.declared.tally.Tally.{Tally}
 use Rattle.cube_query.proofs.CellMerges.{as_many}
 use Rattle.cube_query.proofs.CellSlots.{rooms_of_copy}
-use Rattle.cube_query.proofs.Placing.{Grow-same}
+use Rattle.group_tallies.proofs.Placing.{Grow-same}
 use Rattle.cube_query.proofs.cell_slots.with_cells.Goals as goal
 
 pub merge_cells-requires-clause-columns : goal.merge_cells-requires-clause-columns

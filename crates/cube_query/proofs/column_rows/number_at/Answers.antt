@@ -1,6 +1,6 @@
 use Rattle.std.proofs.Common.{◌∙◌, w32, []}
 use Rattle.std.specs.Int.{from_le_bytes}
-use Rattle.cube_query.proofs.Lists.{number_at_place}
+use Rattle.group_tallies.proofs.Lists.{number_at_place}
 use Rattle.cube_query.proofs.column_rows.number_at.Goals as goal
 
 pub returns-then-place-column : goal.returns-then-place-column

@@ -1,8 +1,8 @@
 use Rattle.std.proofs.Common.{subst}
 use Rattle.group_plan.specs.Numbers.{group_count, IsGroupNumber}
 use Rattle.group_plan.specs.Rows.{row_at}
-use Rattle.cube_query.specs.Slots.{entries_of}
-use Rattle.cube_query.proofs.Placing.{Grow-place}
+use Rattle.group_tallies.specs.Slots.{entries_of}
+use Rattle.group_tallies.proofs.Placing.{Grow-place}
 use Rattle.cube_query.proofs.group_slots.group_slot_of.Goals as goal
 
 pub returns-in_ok-slot-in-Ok-Some-clause-cover : goal.returns-in_ok-slot-in-Ok-Some-clause-cover

@@ -1,9 +1,9 @@
 use Rattle.std.proofs.Common.{◌≡◌, ◌+◌, ◌++◌, ◌∷◌, ◌<◌, [], sym, subst, take, length, arith}
 use Rattle.std.proofs.lemmas.List.{take_more}
 use Rattle.group_plan.specs.Rows.{no_row, row_at}
-use Rattle.cube_query.specs.Slots.{entries_of}
-use Rattle.cube_query.specs.FoldInvariant.{AreGroupSlots}
-use Rattle.cube_query.proofs.Marking.{AreGroupSlots-keep, AreGroupSlots-push}
+use Rattle.group_tallies.specs.Slots.{entries_of}
+use Rattle.group_tallies.specs.FoldInvariant.{AreGroupSlots}
+use Rattle.group_tallies.proofs.Marking.{AreGroupSlots-keep, AreGroupSlots-push}
 use Rattle.cube_query.proofs.group_slots.group_slots_of.Goals as goal
 
 pub loop-place-preserved : goal.loop-place-preserved

@@ -1,7 +1,7 @@
 use Rattle.std.proofs.Common.{take}
 use Rattle.group_plan.specs.Numbers.{group_count}
-use Rattle.cube_query.specs.Slots.{entries_of, Cover, Grow}
-use Rattle.cube_query.specs.FoldInvariant.{AreGroupSlots}
+use Rattle.group_tallies.specs.Slots.{entries_of, Cover, Grow}
+use Rattle.group_tallies.specs.FoldInvariant.{AreGroupSlots}
 use Rattle.cube_query.proofs.group_slots.group_slots_of.Given as goal
 
 abbrev pub invariant-loop-place : goal.invariant-loop-place

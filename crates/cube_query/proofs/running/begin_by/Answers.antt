@@ -1,7 +1,7 @@
 use Rattle.std.proofs.Common.{◌≡◌, ◌∙◌, ℕ, [], ap, refl, subst}
-use Rattle.cube_query.specs.Columns.{tallies_at}
-use Rattle.cube_query.specs.Slots.{entries_of, AreSlots, Cover}
-use Rattle.cube_query.specs.Tallies.{tallies_of}
+use Rattle.group_tallies.specs.Columns.{tallies_at}
+use Rattle.group_tallies.specs.Slots.{entries_of, AreSlots, Cover}
+use Rattle.group_tallies.specs.Tallies.{tallies_of}
 use Rattle.group_plan.specs.Plans.{query_of}
 use Rattle.group_plan.proofs.Extending.{plan_of_over}
 use Rattle.cube_query.proofs.Folds.{begun}

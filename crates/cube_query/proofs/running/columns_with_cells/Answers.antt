@@ -9,7 +9,7 @@ use Rattle.cuboid_upkeep.proofs.Represented.{represents_among}
 use Rattle.group_plan.specs.Plans.{query_of}
 use Rattle.cube_query.specs.CellSlots.{HaveNoRepresentative, asked_of}
 use Rattle.cube_query.specs.CellTallies.{GroupsHaveRoomFor}
-use Rattle.cube_query.specs.Slots.{entries_of}
+use Rattle.group_tallies.specs.Slots.{entries_of}
 use Rattle.cube_query.proofs.running.columns_with_cells.Goals as goal
 
 pub returns-clause-refused : goal.returns-clause-refused

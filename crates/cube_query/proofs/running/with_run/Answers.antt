@@ -7,7 +7,7 @@ use Rattle.cuboid_upkeep.specs.Codes.{modes_of}
 use Rattle.group_plan.specs.Plans.{query_of}
 use Rattle.cube_query.specs.CellSlots.{HaveNoRepresentative, asked_of}
 use Rattle.cube_query.specs.CellTallies.{GroupsHaveRoomFor}
-use Rattle.cube_query.specs.Slots.{entries_of}
+use Rattle.group_tallies.specs.Slots.{entries_of}
 use Rattle.cube_query.proofs.running.with_run.Goals as goal
 
 pub returns-clause-refused : goal.returns-clause-refused

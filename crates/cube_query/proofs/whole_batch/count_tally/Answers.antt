@@ -1,7 +1,7 @@
 use Rattle.std.proofs.Common.{◌≡◌, ◌∙◌, pos, rules}
 use Rattle.column_kernels.specs.Masks.{selected_by}
 use Rattle.column_kernels.proofs.CallerLemmas.{count_selected}
-use Rattle.cube_query.specs.declared.tally.Tally.{Tally}
+use Rattle.group_tallies.specs.declared.tally.Tally.{Tally}
 use Rattle.cube_query.proofs.BatchTallies.{tally_noughts}
 use Rattle.cube_query.proofs.whole_batch.count_tally.Goals as goal
 

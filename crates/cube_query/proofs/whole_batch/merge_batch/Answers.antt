@@ -3,11 +3,11 @@ use Rattle.std.specs.Prelude.{nat_abs}
 use Rattle.std.proofs.lemmas.List.{length-map}
 use Rattle.cube_model.specs.declared.rows.LineOrder.{LineOrder}
 use Rattle.column_kernels.specs.Masks.{selected_by}
-use Rattle.cube_query.specs.Columns.{can_add, no_tally, aggregate_size, tally_at}
-use Rattle.cube_query.specs.Tallies.{aggregated}
-use Rattle.cube_query.specs.declared.tally.Tally.{Tally}
-use Rattle.cube_query.proofs.Refusals.{on_err}
-use Rattle.cube_query.proofs.Sums.{FitsSigned-small, nat_abs-+ℤ, nat_abs-total}
+use Rattle.group_tallies.specs.Columns.{can_add, no_tally, aggregate_size, tally_at}
+use Rattle.group_tallies.specs.Tallies.{aggregated}
+use Rattle.group_tallies.specs.declared.tally.Tally.{Tally}
+use Rattle.group_tallies.proofs.Refusals.{on_err}
+use Rattle.group_tallies.proofs.Sums.{FitsSigned-small, nat_abs-+ℤ, nat_abs-total}
 use Rattle.cube_query.proofs.WholeBatches.{can_add_parts, same_at}
 use Rattle.cube_query.proofs.whole_batch.merge_batch.Goals as goal
 

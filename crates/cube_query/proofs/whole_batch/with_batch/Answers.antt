@@ -5,11 +5,11 @@ use Rattle.std.specs.declared.alloc.Global.{Global}
 use Rattle.std.specs.declared.vec.Vec.{Vec}
 use Rattle.cube_model.specs.declared.measure.Agg.TheVariants.{Count}
 use Rattle.column_kernels.specs.Masks.{selected_by}
-use Rattle.cube_query.specs.Columns.{can_add, aggregate_size, tallies_at, tally_at}
-use Rattle.cube_query.specs.Tallies.{merged_tally, aggregated, tally_of}
+use Rattle.group_tallies.specs.Columns.{can_add, aggregate_size, tallies_at, tally_at}
+use Rattle.group_tallies.specs.Tallies.{merged_tally, aggregated, tally_of}
 use Rattle.cube_query.specs.WholeBatch.{HaveRoomAt}
-use Rattle.cube_query.specs.declared.tally.Tally.{Tally}
-use Rattle.cube_query.proofs.Columnwise.{All-at}
+use Rattle.group_tallies.specs.declared.tally.Tally.{Tally}
+use Rattle.group_tallies.proofs.Columnwise.{All-at}
 use Rattle.cube_query.proofs.WholeBatches.{one_column, set_at}
 use Rattle.cube_query.proofs.whole_batch.with_batch.Goals as goal
 

@@ -1,6 +1,6 @@
 use Rattle.std.proofs.Common.{◌≡◌, ℕ, take}
 use Rattle.column_kernels.specs.Masks.{selected_by}
-use Rattle.cube_query.specs.Columns.{tallies_at}
+use Rattle.group_tallies.specs.Columns.{tallies_at}
 use Rattle.cube_query.specs.WholeBatch.{tallies_with_rows}
 use Rattle.cube_query.proofs.whole_batch.with_batch.Given as goal
 

@@ -1,7 +1,7 @@
 use Rattle.std.proofs.Common.{◌≡◌, ◌∙◌, sym, min, length, arith}
 use Rattle.std.specs.Ordering.{nat_cmp}
 use Rattle.cube_model.specs.Keys.{member_cmp}
-use Rattle.cube_query.specs.GroupLines.{line_at}
+use Rattle.group_tallies.specs.GroupLines.{line_at}
 use Rattle.line_order.proofs.KeyLoop.{at_end}
 use Rattle.line_order.proofs.comparing.compare_keys.Goals as goal
 

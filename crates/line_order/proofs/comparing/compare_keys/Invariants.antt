@@ -1,6 +1,6 @@
 use Rattle.std.proofs.Common.{◌≡◌, drop}
 use Rattle.cube_model.specs.Keys.{key_cmp}
-use Rattle.cube_query.specs.GroupLines.{line_at}
+use Rattle.group_tallies.specs.GroupLines.{line_at}
 use Rattle.line_order.proofs.comparing.compare_keys.Given as goal
 
 abbrev pub invariant-loop-column : goal.invariant-loop-column

@@ -5,7 +5,7 @@ use Rattle.std.specs.Map.{lookup}
 use Rattle.cube_model.specs.Answers.{answer}
 use Rattle.cube_model.specs.Keys.{key_cmp}
 use Rattle.mode_folds.specs.States.{rows_together}
-use Rattle.cube_query.specs.Limits.{AreFoldable}
+use Rattle.group_tallies.specs.Limits.{AreFoldable}
 use Rattle.cube_model.specs.declared.fault.Fault.TheVariants.{BadLayout}
 use Rattle.mode_folds.proofs.Counted.{same_error}
 use Rattle.mode_folds.specs.Joining.{HasValues}

@@ -1,6 +1,6 @@
 use Rattle.std.proofs.Common.{◌≡◌, drop}
 use Rattle.std.specs.List.{list_all}
-use Rattle.cube_query.specs.GroupLines.{line_at}
+use Rattle.group_tallies.specs.GroupLines.{line_at}
 use Rattle.partial_reports.specs.Members.{is_plain_member}
 use Rattle.partial_reports.proofs.members.is_plain_line.Given as goal
 

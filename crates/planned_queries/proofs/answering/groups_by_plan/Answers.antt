@@ -6,7 +6,7 @@ use Rattle.cube_model.specs.Answers.{answer}
 use Rattle.cube_model.specs.declared.query.Query.{Query}
 use Rattle.cube_model.specs.declared.rows.DimRows.{DimRows}
 use Rattle.cube_query.specs.Groups.{RepresentsRows}
-use Rattle.cube_query.specs.Limits.{AreFoldable}
+use Rattle.group_tallies.specs.Limits.{AreFoldable}
 use Rattle.warehouse_objects.proofs.CallerLemmas.{foldable}
 use Rattle.planned_queries.proofs.Cuboids.{members_in}
 use Rattle.planned_queries.proofs.answering.groups_by_plan.Goals as goal

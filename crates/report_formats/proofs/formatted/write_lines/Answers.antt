@@ -1,7 +1,7 @@
 use Rattle.std.proofs.Common.{◌<◌, length, rules}
 use Rattle.std.proofs.lemmas.List.{get_or_default}
 use Rattle.std.proofs.lemmas.Result.{err_from_is_err_and}
-use Rattle.cube_query.specs.GroupLines.{line_at}
+use Rattle.group_tallies.specs.GroupLines.{line_at}
 use Rattle.ssb_reports.proofs.Beginnings.{Writes-stop_after}
 use Rattle.ssb_reports.proofs.Rows.{flat_map-around}
 use Rattle.report_formats.specs.Fields.{formatted_line}

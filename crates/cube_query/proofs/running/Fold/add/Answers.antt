@@ -5,16 +5,16 @@ use Rattle.std.proofs.lemmas.List.{with_items_is}
 use Rattle.std.specs.declared.alloc.Global.{Global}
 use Rattle.std.specs.declared.vec.Vec.{Vec}
 use Rattle.cube_query.specs.Asked.{AreSame, is_asked}
-use Rattle.cube_query.specs.FoldInvariant.{HaveRoom, CountIn, IsKept}
+use Rattle.group_tallies.specs.FoldInvariant.{HaveRoom, CountIn, IsKept}
 use Rattle.cube_query.specs.Groups.{CanTake, FoldState, IsOver, RepresentsRows}
-use Rattle.cube_query.specs.Slots.{entries_of}
-use Rattle.cube_query.specs.declared.tally.Tally.{Tally}
+use Rattle.group_tallies.specs.Slots.{entries_of}
+use Rattle.group_tallies.specs.declared.tally.Tally.{Tally}
 use Rattle.group_plan.specs.Plans.{query_of}
 use Rattle.cube_query.proofs.AskedRefusals.{known_for, room_same, slots_same}
-use Rattle.cube_query.proofs.Columnwise.{tallies-length}
+use Rattle.group_tallies.proofs.Columnwise.{tallies-length}
 use Rattle.cube_query.proofs.Folds.{HaveRoom-ready, kept_count, kept_ready, shown, shown_ready, represents_count}
 use Rattle.cube_query.proofs.Known.{known_after}
-use Rattle.cube_query.proofs.Marking.{AreGroupSlots-length}
+use Rattle.group_tallies.proofs.Marking.{AreGroupSlots-length}
 use Rattle.cube_query.proofs.running.Fold.add.Goals as goal
 
 pub returns-in_err-group_slots-clause-err : goal.returns-in_err-group_slots-clause-err

@@ -10,10 +10,10 @@ use Rattle.lattice.specs.Determined.{Serves}
 use Rattle.cube_query.specs.CellSlots.{AreMergedIn, asked_of}
 use Rattle.cube_query.specs.CellTallies.{GroupsHaveRoomFor}
 use Rattle.cube_query.specs.Groups.{CanTake, FoldState, IsOver, RepresentsRows}
-use Rattle.cube_query.specs.Slots.{entries_of}
-use Rattle.cube_query.specs.declared.tally.Tally.{Tally}
+use Rattle.group_tallies.specs.Slots.{entries_of}
+use Rattle.group_tallies.specs.declared.tally.Tally.{Tally}
 use Rattle.cube_query.proofs.CellFolds.{kept_merged, room_for_cells, shown_with_slots, represents_merged}
-use Rattle.cube_query.proofs.Columnwise.{tallies-length}
+use Rattle.group_tallies.proofs.Columnwise.{tallies-length}
 use Rattle.cube_query.proofs.Known.{known_after}
 use Rattle.cube_query.proofs.running.Fold.add_cells.Goals as goal
 

@@ -10,16 +10,16 @@ use Rattle.cube_model.specs.declared.measure.Agg.{Agg}
 use Rattle.column_kernels.specs.Masks.{selected_by}
 use Rattle.group_plan.specs.Plans.{query_of}
 use Rattle.cube_query.specs.Asked.{AreSame, is_asked}
-use Rattle.cube_query.specs.Columns.{tallies_at}
+use Rattle.group_tallies.specs.Columns.{tallies_at}
 use Rattle.cube_query.specs.Groups.{CanTake, FoldState, IsOver, RepresentsRows, Takes}
-use Rattle.cube_query.specs.Slots.{entries_of}
+use Rattle.group_tallies.specs.Slots.{entries_of}
 use Rattle.cube_query.specs.WholeBatch.{HaveRoomAt, has_one_group, tallies_with_rows}
-use Rattle.cube_query.specs.declared.tally.Tally.{Tally}
+use Rattle.group_tallies.specs.declared.tally.Tally.{Tally}
 use Rattle.cube_query.proofs.AskedRefusals.{marks_same, masked_same, room_at_same}
 use Rattle.cube_query.proofs.BatchFolds.{kept_batch, kept_one, place_first, room_one, shown_one, slot_within}
 use Rattle.cube_query.proofs.BatchFolds.{represents_batch, takes_none}
 use Rattle.cube_query.proofs.Choosing.{can_take_marked, takes_all}
-use Rattle.cube_query.proofs.Columnwise.{tallies-length}
+use Rattle.group_tallies.proofs.Columnwise.{tallies-length}
 use Rattle.cube_query.proofs.WholeBatches.{mask_keeps, none_selected, some_selected}
 use Rattle.cube_query.proofs.running.Fold.add_masked.Goals as goal
 

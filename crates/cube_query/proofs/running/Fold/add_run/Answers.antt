@@ -12,13 +12,13 @@ use Rattle.lattice.specs.Determined.{Serves}
 use Rattle.cube_query.specs.CellRuns.{AreWantedMerged}
 use Rattle.cube_query.specs.CellSlots.{asked_of}
 use Rattle.cube_query.specs.CellTallies.{GroupsHaveRoomFor}
-use Rattle.cube_query.specs.Columns.{tallies_at}
-use Rattle.cube_query.specs.FoldInvariant.{IsKept}
+use Rattle.group_tallies.specs.Columns.{tallies_at}
+use Rattle.group_tallies.specs.FoldInvariant.{IsKept}
 use Rattle.cube_query.specs.Groups.{CanTake, FoldState, IsOver, RepresentsRows}
-use Rattle.cube_query.specs.Slots.{entries_of}
-use Rattle.cube_query.specs.declared.tally.Tally.{Tally}
+use Rattle.group_tallies.specs.Slots.{entries_of}
+use Rattle.group_tallies.specs.declared.tally.Tally.{Tally}
 use Rattle.cube_query.proofs.CellFolds.{kept_after, represents_wanted, room_for_cells}
-use Rattle.cube_query.proofs.Columnwise.{tallies-length}
+use Rattle.group_tallies.proofs.Columnwise.{tallies-length}
 use Rattle.cube_query.proofs.Folds.{shown}
 use Rattle.cube_query.proofs.Known.{known_after}
 use Rattle.cube_query.proofs.running.Fold.add_run.Goals as goal

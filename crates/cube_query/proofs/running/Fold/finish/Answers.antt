@@ -2,10 +2,11 @@ use Rattle.std.proofs.Common.{◌≡◌, ◌∙◌, Err, sym, ap, subst}
 use Rattle.std.proofs.lemmas.Result.{err_from_is_err_and}
 use Rattle.cube_model.specs.declared.fault.Fault.TheVariants.{BadLayout}
 use Rattle.cube_model.specs.Answers.{answer}
-use Rattle.cube_query.specs.FoldInvariant.{AreTallied, IsFold}
-use Rattle.cube_query.specs.Groups.{FoldState, IsFoldable, IsOver, RepresentsRows, finest}
-use Rattle.cube_query.specs.Limits.{AreFoldable}
-use Rattle.cube_query.specs.Slots.{entries_of}
+use Rattle.group_tallies.specs.FoldInvariant.{AreTallied, IsFold}
+use Rattle.cube_query.specs.Groups.{FoldState, IsFoldable, IsOver, RepresentsRows}
+use Rattle.group_tallies.specs.Groups.{finest}
+use Rattle.group_tallies.specs.Limits.{AreFoldable}
+use Rattle.group_tallies.specs.Slots.{entries_of}
 use Rattle.group_plan.specs.Numbers.{Asked}
 use Rattle.group_plan.specs.Plans.{query_of}
 use Rattle.cube_query.proofs.Folds.{fold_over, tallied_for}

@@ -1,9 +1,10 @@
 use Rattle.std.proofs.Common.{◌∙◌, sym, ap, subst}
 use Rattle.std.proofs.lemmas.Result.{IfOk-weaker}
 use Rattle.cube_model.specs.Answers.{answer}
-use Rattle.cube_query.specs.FoldInvariant.{AreTallied}
-use Rattle.cube_query.specs.Groups.{FoldState, IsFoldable, IsOver, RepresentsRows, finest}
-use Rattle.cube_query.specs.Slots.{entries_of}
+use Rattle.group_tallies.specs.FoldInvariant.{AreTallied}
+use Rattle.cube_query.specs.Groups.{FoldState, IsFoldable, IsOver, RepresentsRows}
+use Rattle.group_tallies.specs.Groups.{finest}
+use Rattle.group_tallies.specs.Slots.{entries_of}
 use Rattle.group_plan.specs.Plans.{query_of}
 use Rattle.cube_query.proofs.Folds.{fold_over, tallied_for}
 use Rattle.cube_query.proofs.running.Fold.into_groups.Goals as goal

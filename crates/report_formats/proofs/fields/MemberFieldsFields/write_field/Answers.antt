@@ -1,6 +1,6 @@
 use Rattle.std.proofs.Common.{◌≡◌, ◌∙◌, [], ap, get_or, option_map}
 use Rattle.cube_model.specs.declared.answer.Member.TheVariants.{All}
-use Rattle.cube_query.specs.GroupLines.{line_at}
+use Rattle.group_tallies.specs.GroupLines.{line_at}
 use Rattle.mode_queries.specs.Names.{column_names}
 use Rattle.mode_queries.specs.Joining.{member_of}
 use Rattle.report_formats.specs.Fields.{member_field, member_fields}

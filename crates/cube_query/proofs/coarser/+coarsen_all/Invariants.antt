@@ -1,4 +1,0 @@
-use Rattle.cube_query.proofs.coarser.+coarsen_all.Given as goal
-
-abbrev pub decreases-coarsen_all : goal.decreases-coarsen_all
-decreases-coarsen_all l = l.count

@@ -1,9 +1,0 @@
-use Rattle.std.proofs.Common.{◌≡◌, ◌≤◌, ℕ, take, length}
-use Rattle.std.specs.List.{AllByRecursion}
-use Rattle.cube_query.specs.Columns.{tallies_at}
-use Rattle.cube_query.proofs.columns.lengthen_all.Given as goal
-
-abbrev pub invariant-loop-i : goal.invariant-loop-i
-invariant-loop-i l = ((slot : ℕ) → tallies_at l.columns slot ≡ tallies_at l.initial.columns slot)
-    × AllByRecursion (λ column. l.len ≤ length column.items) (take l.i l.columns)
-    × (length l.columns ≡ length l.initial.columns)

@@ -1,9 +1,0 @@
-use Rattle.std.proofs.Common.{◌∙◌, sym, ap, length}
-use Rattle.group_plan.specs.Plans.{query_of}
-use Rattle.group_plan.proofs.EachDigit.{key_length}
-use Rattle.cube_query.proofs.finished.GroupLine.columns.Goals as goal
-
-pub returns : goal.returns
-returns c =
-    rw (← c.self.view_is) (c.len.ensures ∙ ap (λ q. length q.columns) c.query.ensures
-    ∙ sym (key_length c.self.inside.dims.now (query_of c.self.inside.plan.now).columns c.self.inside.number))

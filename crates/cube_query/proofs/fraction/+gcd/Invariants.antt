@@ -1,4 +1,0 @@
-use Rattle.cube_query.proofs.fraction.+gcd.Given as goal
-
-abbrev pub decreases-gcd : goal.decreases-gcd
-decreases-gcd l = l.b

@@ -1,6 +1,0 @@
-use Rattle.std.proofs.Common.{◌≡◌, take}
-use Rattle.cube_query.specs.GroupLines.{lines_by}
-use Rattle.cube_query.proofs.lines.lines_among.Given as goal
-
-abbrev pub invariant-loop-i : goal.invariant-loop-i
-invariant-loop-i l = l.lines.items ≡ lines_by l.plan.dimensions l.plan.query l.columns (take l.i l.groups)

@@ -1,0 +1,12 @@
+pub mod Coarser
+pub mod Columns
+pub mod FoldInvariant
+pub mod GroupLines
+pub mod Groups
+pub mod Limits
+pub mod Numbered
+pub mod PlaceTables
+pub mod Ranks
+pub mod Room
+pub mod Slots
+pub mod Tallies
