@@ -100,11 +100,6 @@ pub fn finding(alloc: Global, batches: u32) -> Result<(u32, Answer), Fault> {
     Ok((batches, answer(alloc, &[(&[], 2000)], batches)?))
 }
 
-/// Whether just this is found on a disk.
-pub fn is_found(alloc: Global, disk: MemDisk, batches: u32) -> bool {
-    found(alloc, disk) == finding(alloc, batches)
-}
-
 /// Whether a session answers a query of the benchmark as worked by hand, over this many batches.
 fn is_right<D: Sectors>(
     alloc: Global,

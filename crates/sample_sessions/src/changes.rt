@@ -1,8 +1,6 @@
 //! Devices of which some bytes were changed.
-use crate::sessions::{loaded, opened};
 use cube_model::Fault;
 use sector_device::{MemDisk, Sectors};
-use std::alloc::Global;
 
 /// A sector, a place in it, and the bytes that are there from then on.
 pub type Change = (u32, usize, &'static [u8]);
@@ -34,21 +32,4 @@ pub fn make_change(disk: &mut MemDisk, change: Change) -> Result<(), Fault> {
     } else {
         Err(Fault::Device)
     }
-}
-
-/// A disk of 64 sectors with so many batches of the three sample rows, and a change.
-pub fn changed(alloc: Global, batches: u32, change: Change) -> Result<MemDisk, Fault> {
-    let mut disk = loaded(alloc, batches)?.close();
-    make_change(&mut disk, change)?;
-    Ok(disk)
-}
-
-/// How the opening of such a disk is refused, if it is.
-pub fn refused_opening(
-    alloc: Global,
-    batches: u32,
-    change: Change,
-) -> Result<Option<Fault>, Fault> {
-    let disk = changed(alloc, batches, change)?;
-    Ok(opened(alloc, disk).err())
 }

@@ -11,9 +11,9 @@ mod scripts;
 mod sessions;
 mod stored;
 
-pub use answers::{Lines, answer, ask, finding, first_other, found, is_found, report};
+pub use answers::{Lines, answer, ask, finding, first_other, found, report};
 pub use by_mode::{Revenue, has_revenues};
-pub use changes::{Change, changed, make_change, refused_opening, sector};
+pub use changes::{Change, make_change, sector};
 pub use crashed::{OPENING, SUBMIT, half_opened, refusal};
 pub use scripts::{Expected, Given, Numbers, Script, first_other_reply};
 pub use sessions::{

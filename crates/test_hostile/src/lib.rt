@@ -1,12 +1,10 @@
-//! Tests of what is hostile: readers and writers that fail at each call under the thirteen reports, texts that are cut
-//! at each place, devices that give other bytes than were written, images that break each rule of the layout in turn,
-//! a life in which objects are dropped, cut off at each device call, and a campaign of failing calls over a whole life.
+//! Tests of what is hostile: readers and writers that fail at each call under the thirteen reports, devices that give
+//! other bytes than were written, images that break each rule of the layout in turn, a life in which objects are
+//! dropped, cut off at each device call, and a campaign of failing calls over a whole life.
 #![tactic(auto)]
 
 #[cfg(test)]
 mod campaign;
-#[cfg(test)]
-mod cut_texts;
 #[cfg(test)]
 mod lying;
 #[cfg(test)]

@@ -4,7 +4,7 @@ ghost use Rattle.sector_device.specs.Device.{CountsFailure};
 
 use cube_model::Fault;
 use sample_sessions::{add, report, sample_dims, submit};
-use sample_star::{FACTS, Fact, ONE_CUSTOMER, STRANGER, THIRD_FACT, Turning};
+use sample_star::{FACTS, Fact, ONE_CUSTOMER, STRANGER, THIRD_FACT};
 use sector_device::{DeviceError, MemDisk, Sectors};
 use ssb_reports::QNumber;
 use std::alloc::Global;
@@ -178,9 +178,17 @@ fn lived<D: Sectors + Drop>(alloc: Global, made: Result<Session<D>, (Fault, D)>)
     }
 }
 
-/// Whether each call of a creation, a life, an opening and a second life is allowed.
-fn is_right<D: Sectors + Drop>(alloc: Global, device: D) -> Result<bool, Fault> {
+/// Whether each call of a creation, a life, an opening and a second life is allowed on a device that gives other bytes
+/// after so many calls, and fails at each of some number.
+fn is_right(alloc: Global, honest: u64, fails_every: u64) -> Result<bool, Fault> {
     let dims = sample_dims(alloc)?;
+    let device = Lying {
+        inner: MemDisk::new(alloc, 64)?,
+        honest,
+        fails_every,
+        calls: 0,
+        failures: 0,
+    };
     let (first, device) = lived(alloc, create(alloc, device, dims));
     let (second, _) = lived(alloc, open(alloc, device));
     Ok(first && second)
@@ -190,32 +198,11 @@ fn is_right<D: Sectors + Drop>(alloc: Global, device: D) -> Result<bool, Fault> 
 const CALLS: u64 = 240;
 
 #[test]
-fn each_call_returns_on_a_device_that_turns(rt: HostRuntime) -> Result<(), Fail> {
-    for honest in 0..CALLS {
-        let device = Turning::new(MemDisk::new(rt.alloc(), 64)?, honest);
-        assert!(rt; is_right(rt.alloc(), device)?, "{honest}");
-    }
-    Ok(())
-}
-
-/// Whether all is allowed on a device that gives other bytes after so many calls, and fails at each of some number.
-fn is_right_lying(alloc: Global, honest: u64, fails_every: u64) -> Result<bool, Fault> {
-    let device = Lying {
-        inner: MemDisk::new(alloc, 64)?,
-        honest,
-        fails_every,
-        calls: 0,
-        failures: 0,
-    };
-    is_right(alloc, device)
-}
-
-#[test]
 fn each_call_returns_on_a_device_that_lies(rt: HostRuntime) -> Result<(), Fail> {
     for honest in 0..CALLS {
         for fails_every in [0, 2, 7, 50] {
             assert!(rt;
-                is_right_lying(rt.alloc(), honest, fails_every)?,
+                is_right(rt.alloc(), honest, fails_every)?,
                 "{honest} {fails_every}"
             );
         }

@@ -775,9 +775,8 @@ fn each_rule_is_checked(rt: HostRuntime) {
     ];
     for (table, (added, rules)) in tables.iter().enumerate() {
         for (rule, changes, wanted) in rules.iter() {
-            assert_eq!(rt;
-                seen(rt.alloc(), *added, changes),
-                Ok(*wanted),
+            assert!(rt;
+                seen(rt.alloc(), *added, changes) == Ok(*wanted),
                 "table {table}: {rule}"
             );
         }

@@ -1,10 +1,10 @@
 //! Readers and writers that fail at each of their calls, under the thirteen reports.
-use cube_model::{Answer, Fault, Query};
-use sample_sessions::{loaded, report};
-use sample_star::{TABLES, Taker, WhenFull, byte_by_byte};
+use cube_model::{Fault, Query};
+use sample_star::{TABLES, Taker, WhenFull, in_pieces};
 use ssb_eval::eval_texts;
-use ssb_reports::{QNumber, query_of, write_report};
+use ssb_reports::{QNumber, query_of};
 use std::alloc::Global;
+use std::test::Fail;
 
 /// The thirteen reports over the sample tables, worked out by hand.
 static REPORTS: [(QNumber, &[u8]); 13] = [
@@ -54,128 +54,67 @@ static WRITERS: [(usize, WhenFull); 6] = [
     (1, WhenFull::TakesNone),
 ];
 
-/// What comes of a report of so many bytes where a writer takes so many. With just their room a flush fails, or there
-/// is none to fail.
-fn end_of(bytes: usize, room: usize, when_full: WhenFull) -> Result<(), Fault> {
-    if room > bytes || (room == bytes && when_full == WhenFull::TakesNone) {
-        Ok(())
+/// Tables that are read in pieces of so many bytes, and the read at which each fails, counted from 1 (at 0 it does
+/// not); and a writer: how many bytes it takes at most a write, how many in all, and what it does then.
+#[derive(Clone, Copy)]
+struct Case {
+    piece: usize,
+    fails: [u32; 5],
+    most: usize,
+    room: usize,
+    when_full: WhenFull,
+}
+
+/// What comes of a report of so many bytes, and how many of them are written. With just the room of the report a flush
+/// fails, or there is none to fail.
+fn end_of(bytes: usize, case: &Case) -> (Result<(), Fault>, usize) {
+    if case.fails != [0; 5] {
+        (Err(Fault::Input), 0)
+    } else if case.room > bytes || (case.room == bytes && case.when_full == WhenFull::TakesNone) {
+        (Ok(()), bytes)
     } else {
-        Err(Fault::Output)
+        (Err(Fault::Output), case.room)
     }
 }
 
-/// A query, its answer, and the text of both.
-#[derive(Drop)]
-struct Made {
-    query: Query,
-    answer: Answer,
-    text: &'static [u8],
-}
-
-/// Whether a writer with so much room gets just so much of a report.
-fn is_taken(alloc: Global, report: &Made, writer: (usize, WhenFull), room: usize) -> bool {
-    let (most, when_full) = writer;
-    let mut taker = Taker::new(alloc, room);
-    taker.most = most;
-    taker.when_full = when_full;
-    let done = write_report(&report.query, &report.answer, &mut taker);
-    let taken = report.text.get(..room).unwrap_or(report.text);
-    done == end_of(report.text.len(), room, when_full) && taker.bytes.as_slice() == taken
-}
-
-/// How many cases there were, and the first that came out otherwise, by its place among them from 1.
-#[derive(Clone, Copy, Debug, PartialEq, Eq)]
-struct Outcome {
-    cases: u32,
-    wrong: Option<u32>,
-}
-
-const NONE_YET: Outcome = Outcome {
-    cases: 0,
-    wrong: None,
-};
-
-impl Outcome {
-    /// Counts a case.
-    fn count(&mut self, is_right: bool) {
-        self.cases = self.cases.saturating_add(1);
-        if !is_right {
-            self.wrong = self.wrong.or(Some(self.cases));
-        }
-    }
-}
-
-/// Has each writer fail after each number of bytes of a report.
-fn fail_writes(alloc: Global, report: &Made, outcome: &mut Outcome) {
-    for writer in WRITERS {
-        for room in 0..report.text.len().saturating_add(2) {
-            outcome.count(is_taken(alloc, report, writer, room));
-        }
-    }
-}
-
-fn failed_writes(alloc: Global) -> Result<Outcome, Fault> {
-    let mut session = loaded(alloc, 1)?;
-    let mut outcome = NONE_YET;
-    for (number, text) in &REPORTS {
-        let made = Made {
-            query: query_of(alloc, *number)?,
-            answer: report(alloc, &mut session, 1, *number)?,
-            text,
-        };
-        fail_writes(alloc, &made, &mut outcome);
-    }
-    Ok(outcome)
-}
-
-/// The reports have 681 bytes together, and each writer fails at each place of each, after it, and not at all.
-const WRITES: u32 = 6 * (681 + 13 * 2);
-
-#[test]
-fn each_write_of_a_report_fails_in_turn(rt: HostRuntime) {
-    assert_eq!(rt;
-        failed_writes(rt.alloc()),
-        Ok(Outcome {
-            cases: WRITES,
-            wrong: None
-        })
-    );
-}
-
-/// What a query answers over the sample tables that are read byte by byte, where the one at a place fails at a read,
-/// counted from 1; at 0 none does.
-fn evaluate(
-    alloc: Global,
-    query: &Query,
-    table: usize,
-    read: u32,
-    out: &mut Vec<u8>,
-) -> Result<(), Fault> {
-    let mut fails = [0; 5];
-    if let Some(fails_at) = fails.get_mut(table) {
-        *fails_at = read;
-    }
-    eval_texts(
+/// Whether a query over the sample tables comes to its report, or to just so much of it.
+fn is_right(alloc: Global, query: &Query, text: &[u8], case: &Case) -> bool {
+    let mut taker = Taker::new(alloc, case.room);
+    taker.most = case.most;
+    taker.when_full = case.when_full;
+    let [customer, supplier, part, date, lineorder] = case.fails;
+    let piece = case.piece.max(1);
+    let done = eval_texts(
         alloc,
-        byte_by_byte(TABLES.customer).failing_at(fails[0]),
-        byte_by_byte(TABLES.supplier).failing_at(fails[1]),
-        byte_by_byte(TABLES.part).failing_at(fails[2]),
-        byte_by_byte(TABLES.date).failing_at(fails[3]),
-        byte_by_byte(TABLES.lineorder).failing_at(fails[4]),
+        in_pieces(TABLES.customer, piece).failing_at(customer),
+        in_pieces(TABLES.supplier, piece).failing_at(supplier),
+        in_pieces(TABLES.part, piece).failing_at(part),
+        in_pieces(TABLES.date, piece).failing_at(date),
+        in_pieces(TABLES.lineorder, piece).failing_at(lineorder),
         query,
-        out,
-    )
+        &mut taker,
+    );
+    let (end, count) = end_of(text.len(), case);
+    done == end && Some(taker.bytes.as_slice()) == text.get(..count)
 }
 
-/// Whether tables of which one fails at a read give no report, or, where none fails, a report.
-fn is_read(alloc: Global, query: &Query, table: usize, read: u32, text: &[u8]) -> bool {
-    let mut out = Vec::new(alloc);
-    let done = evaluate(alloc, query, table, read, &mut out);
-    if read == 0 {
-        done == Ok(()) && out.as_slice() == text
-    } else {
-        done == Err(Fault::Input) && out.is_empty()
+/// The first writer, and the number of bytes after which it fails, with which that is not so.
+fn first_wrong_write(alloc: Global, query: &Query, text: &[u8]) -> Option<(usize, usize)> {
+    for (place, (most, when_full)) in WRITERS.iter().enumerate() {
+        for room in 0..text.len().saturating_add(2) {
+            let case = Case {
+                piece: usize::MAX,
+                fails: [0; 5],
+                most: *most,
+                room,
+                when_full: *when_full,
+            };
+            if !is_right(alloc, query, text, &case) {
+                return Some((place, room));
+            }
+        }
     }
+    None
 }
 
 /// The bytes of the five tables.
@@ -187,40 +126,34 @@ const LENGTHS: [u32; 5] = [
     TABLES.lineorder.len() as u32,
 ];
 
-/// Has each table fail at each read, that at its end too, after a reading of all.
-fn fail_reads(
-    alloc: Global,
-    number: QNumber,
-    text: &[u8],
-    outcome: &mut Outcome,
-) -> Result<(), Fault> {
-    let query = query_of(alloc, number)?;
-    for (table, length) in LENGTHS.iter().enumerate() {
-        for read in 0..length.saturating_add(2) {
-            outcome.count(is_read(alloc, &query, table, read, text));
+/// The first table, and its read that fails, or none at 0, and that at its end too, with which it is not so.
+fn first_wrong_read(alloc: Global, query: &Query, text: &[u8]) -> Option<(usize, u32)> {
+    for table in 0..5 {
+        for read in 0..LENGTHS[table].saturating_add(2) {
+            let mut case = Case {
+                piece: 1,
+                fails: [0; 5],
+                most: usize::MAX,
+                room: usize::MAX,
+                when_full: WhenFull::Fails,
+            };
+            case.fails[table] = read;
+            if !is_right(alloc, query, text, &case) {
+                return Some((table, read));
+            }
         }
     }
-    Ok(())
+    None
 }
-
-fn failed_reads(alloc: Global) -> Result<Outcome, Fault> {
-    let mut outcome = NONE_YET;
-    for (number, text) in &REPORTS {
-        fail_reads(alloc, *number, text, &mut outcome)?;
-    }
-    Ok(outcome)
-}
-
-/// The tables have 644 bytes together, and each fails at each read, at its end, and not at all.
-const READS: u32 = 13 * (644 + 5 * 2);
 
 #[test]
-fn each_read_of_a_table_fails_in_turn(rt: HostRuntime) {
-    assert_eq!(rt;
-        failed_reads(rt.alloc()),
-        Ok(Outcome {
-            cases: READS,
-            wrong: None
-        })
-    );
+fn each_read_and_each_write_under_a_report_fails_in_turn(rt: HostRuntime) -> Result<(), Fail> {
+    for (number, text) in &REPORTS {
+        let query = query_of(rt.alloc(), *number)?;
+        let write = first_wrong_write(rt.alloc(), &query, text);
+        assert!(rt; write == None, "{number:?}: {write:?}");
+        let read = first_wrong_read(rt.alloc(), &query, text);
+        assert!(rt; read == None, "{number:?}: {read:?}");
+    }
+    Ok(())
 }

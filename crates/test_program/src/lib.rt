@@ -1,19 +1,11 @@
-//! Tests of `query_words`, `table_hints`, `ssb_eval`, `warehouse_jobs` and `command_files`: the words of queries, what
-//! is said after a refusal, the way from the texts of the tables to a report, the jobs on a warehouse, and the status
-//! at the end. What the program prints is in the pages of `user_pages`.
+//! Tests of `table_hints` and `warehouse_jobs`: what is said after a refusal that no page shows, and loads and
+//! additions whose reader, writer or device fails. What the program prints, and the words of queries, are in the pages
+//! of `user_pages`; failures under `eval` are in `test_hostile`.
 #![tactic(auto)]
 
 #[cfg(test)]
-mod eval;
+mod crashes;
+#[cfg(test)]
+mod failures;
 #[cfg(test)]
 mod hints;
-#[cfg(test)]
-mod jobs;
-#[cfg(test)]
-mod kept;
-#[cfg(test)]
-mod readers;
-#[cfg(test)]
-mod spelled_queries;
-#[cfg(test)]
-mod words;

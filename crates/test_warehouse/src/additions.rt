@@ -1,6 +1,6 @@
 //! Runs of commands that add rows to the dimensions.
 use cube_model::{Attr, Axis, Fault, MemberPlace};
-use sample_sessions::{Expected, Given, Lines, Numbers, first_other_reply};
+use sample_sessions::{Expected, Given, Lines, Numbers};
 use sample_star::{
     Asked, BY_CITY, Day, EVERY_ROW, FIRST_CUSTOMER, FIRST_DAY, FIRST_FACT, FIRST_PART,
     FIRST_SUPPLIER, Fact, Location, MOVED_CUSTOMER, NO_ROWS, ONE_CUSTOMER, Product, STRANGER, Star,
@@ -80,7 +80,7 @@ const TWO_CITIES: Lines = &[(&["UNITED KI1"], 1), (&["UNITED ST1"], 1)];
 
 /// A customer is added and has a row then. Refused additions change nothing, and leave their number to the next, which
 /// is empty.
-static ONE_CUSTOMER_MORE: [(Given, Expected); 22] = [
+pub(crate) static ONE_CUSTOMER_MORE: [(Given, Expected); 22] = [
     (
         Given::Submit(1, &[STRANGER, FIRST_FACT]),
         Expected::Refused(Fault::UnknownCustomer { row: 1 }),
@@ -222,7 +222,7 @@ const BY_SUPPLIER: Asked<'static> = Asked {
 
 /// One addition of a row to each dimension, of which no key was known. The nation of the new supplier is before those
 /// that there were.
-static A_ROW_OF_EACH: [(Given, Expected); 9] = [
+pub(crate) static A_ROW_OF_EACH: [(Given, Expected); 9] = [
     (
         Given::Submit(
             1,
@@ -280,12 +280,3 @@ static A_ROW_OF_EACH: [(Given, Expected); 9] = [
         Expected::Answer(&[(&["FRANCE"], 1), (&["UNITED KINGDOM"], 1)]),
     ),
 ];
-
-#[test]
-fn additions_are_as_worked_by_hand(rt: HostRuntime) {
-    assert_eq!(rt;
-        first_other_reply(rt.alloc(), 64, &ONE_CUSTOMER_MORE),
-        Ok(None)
-    );
-    assert_eq!(rt; first_other_reply(rt.alloc(), 64, &A_ROW_OF_EACH), Ok(None));
-}

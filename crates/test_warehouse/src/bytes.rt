@@ -1,17 +1,9 @@
 //! The bytes of the device, by hand.
+use crate::steps::{Step, after};
 use cube_model::Fault;
-use sample_sessions::{add, fresh, loaded, sector};
-use sample_star::ONE_CUSTOMER;
+use sample_sessions::sector;
+use sample_star::{FACTS, ONE_CUSTOMER};
 use std::alloc::Global;
-
-/// A sector of some bytes and zeros.
-fn padded(bytes: &[u8]) -> [u8; 512] {
-    let mut sector = [0; 512];
-    for (to, from) in sector.iter_mut().zip(bytes) {
-        *to = *from;
-    }
-    sector
-}
 
 /// The superblock of the first generation: 64 sectors, and a catalogue of 140 bytes in sector 6.
 const FIRST_SUPERBLOCK: &[u8] =
@@ -44,25 +36,6 @@ const SECOND_CATALOGUE: &[u8] = b"CAT1\x05\x00\x00\x00\x44\x00\x00\x00\
 \x34\x21\x00\x00\x00\x00\x00\x00\x43\x03\x00\x00\x00\x00\x00\x00\
 \x03\x00\x00\x00";
 
-/// How many batches, a sector, and its bytes without the zeros at the end.
-static SECTORS: [(u32, u32, &[u8]); 9] = [
-    (0, 0, b""),
-    (0, 1, FIRST_SUPERBLOCK),
-    (0, 6, FIRST_CATALOGUE),
-    (0, 7, b""),
-    (1, 0, SECOND_SUPERBLOCK),
-    (1, 1, FIRST_SUPERBLOCK),
-    (1, 6, FIRST_CATALOGUE),
-    (1, 8, SECOND_CATALOGUE),
-    (1, 9, b""),
-];
-
-/// What is in a sector of a disk with so many batches of the three sample rows.
-fn stored(alloc: Global, batches: u32, place: u32) -> Result<[u8; 512], Fault> {
-    let mut disk = loaded(alloc, batches)?.close();
-    sector(&mut disk, place)
-}
-
 /// The third superblock, of the second layout: a catalogue of 176 bytes in sector 9.
 const MOVED_SUPERBLOCK: &[u8] =
     b"SSBCUBE1\x02\x00\x00\x00\x40\x00\x00\x00\x03\x00\x00\x00\x00\x00\x00\x00\
@@ -70,72 +43,6 @@ const MOVED_SUPERBLOCK: &[u8] =
 
 /// The two ship modes, in the order of first use.
 const SHIP_MODES: &[u8] = b"SHP2\x02\x00\x00\x00\x03AIR\x04RAIL";
-
-/// A sector, and its bytes without the zeros at the end, after one batch and a move to the second layout.
-static MOVED_SECTORS: [(u32, &[u8]); 3] = [
-    (0, SECOND_SUPERBLOCK),
-    (1, MOVED_SUPERBLOCK),
-    (6, SHIP_MODES),
-];
-
-/// What is in a sector of a disk with one batch of the three sample rows that was moved to the second layout.
-fn moved(alloc: Global, place: u32) -> Result<[u8; 512], Fault> {
-    let mut session = loaded(alloc, 1)?;
-    session.migrate(alloc)?;
-    let mut disk = session.close();
-    sector(&mut disk, place)
-}
-
-#[test]
-fn a_move_puts_the_ship_modes_and_a_superblock(rt: HostRuntime) {
-    for (place, bytes) in &MOVED_SECTORS {
-        assert_eq!(rt;
-            moved(rt.alloc(), *place),
-            Ok(padded(bytes)),
-            "sector {place}"
-        );
-    }
-}
-
-#[test]
-fn superblocks_and_catalogues_are_as_laid_out_by_hand(rt: HostRuntime) {
-    for (batches, place, bytes) in &SECTORS {
-        assert_eq!(rt;
-            stored(rt.alloc(), *batches, *place),
-            Ok(padded(bytes)),
-            "sector {place} after {batches}"
-        );
-    }
-}
-
-/// A sector, and how the object in it begins: the dimensions of two rows each, and the segments of three.
-static OBJECTS: [(u32, &[u8; 12]); 6] = [
-    (2, b"DIM1\x00\x00\x00\x00\x02\x00\x00\x00"),
-    (3, b"DIM1\x01\x00\x00\x00\x02\x00\x00\x00"),
-    (4, b"DIM1\x02\x00\x00\x00\x02\x00\x00\x00"),
-    (5, b"DIM1\x03\x00\x00\x00\x02\x00\x00\x00"),
-    (6, b"SEG1\x02\x00\x00\x00\x03\x00\x00\x00"),
-    (7, b"SEG1\x01\x00\x00\x00\x03\x00\x00\x00"),
-];
-
-/// How a sector of a disk with two batches begins.
-fn beginning(alloc: Global, place: u32) -> Result<[u8; 12], Fault> {
-    let sector = stored(alloc, 2, place)?;
-    let mut bytes = [0; 12];
-    bytes.copy_from_slice(&sector[..12]);
-    Ok(bytes)
-}
-
-#[test]
-fn the_objects_of_two_batches_have_their_places(rt: HostRuntime) {
-    for (place, wanted) in &OBJECTS {
-        assert_eq!(rt;
-            beginning(rt.alloc(), *place),
-            Ok(**wanted),
-            "sector {place}"
-        );
-    }
-}
 
 /// The superblock after an addition and no batch: a catalogue of 140 bytes in sector 8.
 const ADDED_SUPERBLOCK: &[u8] =
@@ -163,29 +70,67 @@ const ADDED_CATALOGUE: &[u8] = b"CAT1\x04\x00\x00\x00\x40\x00\x00\x00\
 \x04\x00\x00\x00\x05\x00\x00\x00\x61\x00\x00\x00\x00\x00\x00\x00\
 \x00\x00\x00\x00\x00\x00\x00\x00\x01\x00\x00\x00";
 
-/// A sector after the addition, and its bytes without the zeros at the end.
-static ADDED: [(u32, &[u8]); 5] = [
-    (0, ADDED_SUPERBLOCK),
-    (1, FIRST_SUPERBLOCK),
-    (6, FIRST_CATALOGUE),
-    (7, THREE_CUSTOMERS),
-    (8, ADDED_CATALOGUE),
+const NO_STEP: &[Step] = &[];
+
+const ONE_BATCH: &[Step] = &[Step::Batch(&FACTS)];
+
+const TWO_BATCHES: &[Step] = &[Step::Batch(&FACTS), Step::Batch(&FACTS)];
+
+const MOVED: &[Step] = &[Step::Batch(&FACTS), Step::Migrate];
+
+const ADDED: &[Step] = &[Step::Add(&ONE_CUSTOMER)];
+
+/// The steps after which a disk is looked at, a sector, the bytes that it begins with, and up to where zeros follow
+/// them: to its end, or, of an object, nowhere.
+type Stored = (&'static [Step], u32, &'static [u8], usize);
+
+static STORED: [Stored; 23] = [
+    (NO_STEP, 0, b"", 512),
+    (NO_STEP, 1, FIRST_SUPERBLOCK, 512),
+    (NO_STEP, 6, FIRST_CATALOGUE, 512),
+    (NO_STEP, 7, b"", 512),
+    (ONE_BATCH, 0, SECOND_SUPERBLOCK, 512),
+    (ONE_BATCH, 1, FIRST_SUPERBLOCK, 512),
+    (ONE_BATCH, 6, FIRST_CATALOGUE, 512),
+    (ONE_BATCH, 8, SECOND_CATALOGUE, 512),
+    (ONE_BATCH, 9, b"", 512),
+    // The dimensions of two rows each, and the segments of three.
+    (TWO_BATCHES, 2, b"DIM1\x00\x00\x00\x00\x02\x00\x00\x00", 12),
+    (TWO_BATCHES, 3, b"DIM1\x01\x00\x00\x00\x02\x00\x00\x00", 12),
+    (TWO_BATCHES, 4, b"DIM1\x02\x00\x00\x00\x02\x00\x00\x00", 12),
+    (TWO_BATCHES, 5, b"DIM1\x03\x00\x00\x00\x02\x00\x00\x00", 12),
+    (TWO_BATCHES, 6, b"SEG1\x02\x00\x00\x00\x03\x00\x00\x00", 12),
+    (TWO_BATCHES, 7, b"SEG1\x01\x00\x00\x00\x03\x00\x00\x00", 12),
+    (MOVED, 0, SECOND_SUPERBLOCK, 512),
+    (MOVED, 1, MOVED_SUPERBLOCK, 512),
+    (MOVED, 6, SHIP_MODES, 512),
+    (ADDED, 0, ADDED_SUPERBLOCK, 512),
+    (ADDED, 1, FIRST_SUPERBLOCK, 512),
+    (ADDED, 6, FIRST_CATALOGUE, 512),
+    (ADDED, 7, THREE_CUSTOMERS, 512),
+    (ADDED, 8, ADDED_CATALOGUE, 512),
 ];
 
-/// What is in a sector of a disk without batches to whose dimensions a customer was added.
-fn stored_with_one_more(alloc: Global, place: u32) -> Result<[u8; 512], Fault> {
-    let mut session = fresh(alloc)?;
-    add(alloc, &mut session, 1, &ONE_CUSTOMER)?;
-    sector(&mut session.close(), place)
+/// Whether a sector has some bytes, and zeros after them up to a place.
+fn has_bytes(sector: &[u8; 512], bytes: &[u8], end: usize) -> bool {
+    for (place, byte) in sector.iter().enumerate().take(end) {
+        if *byte != bytes.get(place).copied().unwrap_or(0) {
+            return false;
+        }
+    }
+    true
+}
+
+fn is_stored(alloc: Global, stored: &Stored) -> Result<bool, Fault> {
+    let (steps, place, bytes, end) = stored;
+    let mut disk = after(alloc, steps)?.close();
+    let found = sector(&mut disk, *place)?;
+    Ok(has_bytes(&found, bytes, *end))
 }
 
 #[test]
-fn an_addition_is_as_laid_out_by_hand(rt: HostRuntime) {
-    for (place, bytes) in &ADDED {
-        assert_eq!(rt;
-            stored_with_one_more(rt.alloc(), *place),
-            Ok(padded(bytes)),
-            "sector {place}"
-        );
+fn sectors_are_as_laid_out_by_hand(rt: HostRuntime) {
+    for (row, stored) in STORED.iter().enumerate() {
+        assert!(rt; is_stored(rt.alloc(), stored) == Ok(true), "row {row}");
     }
 }

@@ -1,63 +1,53 @@
-//! Devices on which nothing can be made or opened.
+//! Devices on which nothing can be made or opened, and the last generation.
+use crate::hostile::reopened;
+use crate::steps::{Step, take};
 use cube_model::Fault;
-use sample_sessions::{
-    Change, changed, created, is_found, loaded, opened, sample_dims, status, submit,
-};
+use sample_sessions::{Change, sample_dims, status};
 use sample_star::FACTS;
 use sector_device::MemDisk;
 use std::alloc::Global;
-use warehouse::{Status, create};
+use warehouse::{Session, Status, create, open};
 
-/// How a creation on a disk ends, and the disk then.
-fn created_again(alloc: Global, disk: MemDisk) -> Result<(Option<Fault>, MemDisk), Fault> {
-    let dims = sample_dims(alloc)?;
-    match create(alloc, disk, dims) {
-        Ok(session) => Ok((None, session.close())),
-        Err((fault, disk)) => Ok((Some(fault), disk)),
+/// How a creation or an opening ended, and the disk then.
+fn ended(made: Result<Session<MemDisk>, (Fault, MemDisk)>) -> (Option<Fault>, MemDisk) {
+    match made {
+        Ok(session) => (None, session.close()),
+        Err((fault, disk)) => (Some(fault), disk),
     }
 }
 
-/// How a second creation ends on a disk with so many batches of the three sample rows, and whether these are found
-/// then.
-fn second_creation(alloc: Global, batches: u32) -> Result<(Option<Fault>, bool), Fault> {
-    let disk = loaded(alloc, batches)?.close();
-    let (fault, disk) = created_again(alloc, disk)?;
-    Ok((fault, is_found(alloc, disk, batches)))
+/// How an opening of a new disk of so many sectors ends, a creation on it, another creation, and another opening.
+fn outcomes(alloc: Global, sectors: u32) -> Result<[Option<Fault>; 4], Fault> {
+    let (found, disk) = ended(open(alloc, MemDisk::new(alloc, sectors)?));
+    let (made, disk) = ended(create(alloc, disk, sample_dims(alloc)?));
+    let (made_again, disk) = ended(create(alloc, disk, sample_dims(alloc)?));
+    let (found_again, _) = ended(open(alloc, disk));
+    Ok([found, made, made_again, found_again])
 }
 
 #[test]
-fn a_second_creation_is_refused(rt: HostRuntime) {
-    for batches in [0, 1, 2] {
-        assert_eq!(rt;
-            second_creation(rt.alloc(), batches),
-            Ok((Some(Fault::AlreadyFormatted), true))
-        );
-    }
+fn a_warehouse_is_made_once_on_at_least_64_sectors(rt: HostRuntime) {
+    assert!(rt; outcomes(rt.alloc(), 63) == Ok([Some(Fault::DeviceSize); 4]));
+    assert!(rt;
+        outcomes(rt.alloc(), 64)
+            == Ok([
+                Some(Fault::NotFormatted),
+                None,
+                Some(Fault::AlreadyFormatted),
+                None
+            ])
+    );
 }
 
-/// How a creation, and an opening, on a new disk of so many sectors end.
-fn outcomes(alloc: Global, sectors: u32) -> Result<(Option<Fault>, Option<Fault>), Fault> {
-    let creation = created(alloc, MemDisk::new(alloc, sectors)?).err();
-    let opening = opened(alloc, MemDisk::new(alloc, sectors)?).err();
-    Ok((creation, opening))
-}
-
-#[test]
-fn a_device_has_at_least_64_sectors(rt: HostRuntime) {
-    let size = Some(Fault::DeviceSize);
-    let empty = Some(Fault::NotFormatted);
-    assert_eq!(rt; outcomes(rt.alloc(), 63), Ok((size, size)));
-    assert_eq!(rt; outcomes(rt.alloc(), 64), Ok((None, empty)));
-}
+const SAMPLE: Step = Step::Batch(&FACTS);
 
 /// The greatest generation, which is odd.
 const LAST: Change = (1, 16, b"\xff\xff\xff\xff\xff\xff\xff\xff");
 
 /// How a warehouse at that generation refuses a batch, if it does, and its status then.
 fn worn(alloc: Global) -> Result<(Option<Fault>, Status), Fault> {
-    let disk = changed(alloc, 0, LAST)?;
-    let mut session = opened(alloc, disk)?;
-    let refused = submit(alloc, &mut session, 1, &FACTS).err();
+    let mut session = reopened(alloc, &[], LAST)?;
+    let refused = take(alloc, &mut session, &SAMPLE).err();
     Ok((refused, session.status()?))
 }
 
@@ -67,5 +57,5 @@ fn the_last_generation_takes_no_batch(rt: HostRuntime) {
         generation: 18_446_744_073_709_551_615,
         ..status(0, 0)
     };
-    assert_eq!(rt; worn(rt.alloc()), Ok((Some(Fault::Worn), last)));
+    assert!(rt; worn(rt.alloc()) == Ok((Some(Fault::Worn), last)));
 }

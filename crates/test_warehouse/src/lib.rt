@@ -8,38 +8,26 @@ mod additions;
 #[cfg(test)]
 mod bytes;
 #[cfg(test)]
-mod calls;
-#[cfg(test)]
 mod crashes;
 #[cfg(test)]
 mod example;
 #[cfg(test)]
-mod failures;
-#[cfg(test)]
 mod formatting;
-#[cfg(test)]
-mod full;
 #[cfg(test)]
 mod hostile;
 #[cfg(test)]
-mod many_additions;
-#[cfg(test)]
-mod many_batches;
-#[cfg(test)]
-mod many_rows;
+mod limits;
 #[cfg(test)]
 mod memory;
 #[cfg(test)]
-mod migrations;
-#[cfg(test)]
 mod planned;
-#[cfg(test)]
-mod queries;
 #[cfg(test)]
 mod roots;
 #[cfg(test)]
 mod scripts;
 #[cfg(test)]
 mod sparse;
+#[cfg(test)]
+mod steps;
 #[cfg(test)]
 mod upkeep;

@@ -1,107 +1,103 @@
-//! Calls in which one allocation may fail. Each is then made again.
-use cube_model::{Answer, Fault};
-use sample_sessions::{created, finding, has_revenues, opened_again, report, submit};
-use sample_star::FACTS;
+//! A life of which one allocation may fail. The call is then made again.
+use crate::steps::{Step, take};
+use cube_model::Fault;
+use sample_sessions::{
+    THREE, answer, fresh, has_revenues, opened_again, report, status, with_cuboids,
+};
+use sample_star::{FACTS, ONE_CUSTOMER};
 use sector_device::MemDisk;
 use ssb_reports::QNumber;
 use std::alloc::Global;
-use std::test::Fail;
-use warehouse::Session;
+use warehouse::{Layout, Session, Status};
 
-/// A warehouse without batches, at the first or the second try.
-fn made(alloc: Global) -> Result<Session<MemDisk>, Fault> {
-    match created(alloc, MemDisk::new(alloc, 64)?) {
-        Ok(session) => Ok(session),
-        Err(_) => created(alloc, MemDisk::new(alloc, 64)?),
-    }
-}
+/// Each call that commits.
+static STEPS: [Step; 7] = [
+    Step::Batch(&FACTS),
+    Step::Choose(3),
+    Step::Upkeep,
+    Step::Add(&ONE_CUSTOMER),
+    Step::Batch(&FACTS),
+    Step::Migrate,
+    Step::Batch(&FACTS),
+];
 
-/// A session with one batch of the three sample rows more. A submit that answers `Memory` is made again, and after
-/// `Device` the disk is opened again: it could not note a write.
-fn with_batch(
+/// A session after a step. One that answers `Memory` is taken again, and after `Device` the disk is opened again: it
+/// could not note a write.
+fn after_step(
     alloc: Global,
     mut session: Session<MemDisk>,
-    number: u32,
+    step: &Step,
 ) -> Result<Session<MemDisk>, Fault> {
-    match submit(alloc, &mut session, number, &FACTS) {
+    let before = session.status()?.generation;
+    match take(alloc, &mut session, step) {
         Ok(()) => Ok(session),
         Err(Fault::Memory) => {
-            submit(alloc, &mut session, number, &FACTS)?;
+            take(alloc, &mut session, step)?;
             Ok(session)
         }
-        Err(Fault::Device) => again(alloc, session.close(), number),
+        Err(Fault::Device) => reopened(alloc, session.close(), before, step),
         Err(fault) => Err(fault),
     }
 }
 
-/// What is on a disk, with the batch of a number if that did not arrive.
-fn again(alloc: Global, disk: MemDisk, number: u32) -> Result<Session<MemDisk>, Fault> {
+/// What is on a disk, with a step that was begun at a generation if it did not arrive. An opening finishes an upkeep.
+fn reopened(
+    alloc: Global,
+    disk: MemDisk,
+    before: u64,
+    step: &Step,
+) -> Result<Session<MemDisk>, Fault> {
     let mut session = opened_again(alloc, disk)?;
-    if session.status()?.batches < number {
-        submit(alloc, &mut session, number, &FACTS)?;
+    if session.status()?.generation == before {
+        take(alloc, &mut session, step)?;
     }
     Ok(session)
 }
 
-/// A session that was moved to the second layout. A move that answers `Memory` is made again, and after `Device` the
-/// disk is opened again.
-fn moved(alloc: Global, mut session: Session<MemDisk>) -> Result<Session<MemDisk>, Fault> {
-    match session.migrate(alloc) {
-        Ok(()) => Ok(session),
-        Err(Fault::Memory) => {
-            session.migrate(alloc)?;
-            Ok(session)
-        }
-        Err(Fault::Device) => {
-            let mut session = opened_again(alloc, session.close())?;
-            session.migrate(alloc)?;
-            Ok(session)
-        }
-        Err(fault) => Err(fault),
-    }
-}
-
-/// How many batches a session has, and what it answers over them at the first or the second try.
-fn seen(alloc: Global, session: &mut Session<MemDisk>) -> Result<(u32, Answer), Fault> {
-    let batches = session.status()?.batches;
-    match report(alloc, session, batches, QNumber::Q11) {
-        Ok(answer) => Ok((batches, answer)),
-        Err(_) => Ok((batches, report(alloc, session, batches, QNumber::Q11)?)),
-    }
-}
-
-/// Whether a session of three batches answers what it is to answer by ship mode, at the first or the second try.
-fn modes_are_right(alloc: Global, session: &mut Session<MemDisk>) -> Result<bool, Fault> {
-    let wanted = [("AIR", 4425), ("RAIL", 5820)];
-    match has_revenues(alloc, session, 3, &wanted) {
-        Ok(right) => Ok(right),
-        Err(_) => has_revenues(alloc, session, 3, &wanted),
-    }
-}
-
-/// What is found after a creation, three submits and a move to the second layout, and whether it is right by ship mode.
-fn found_at_last(alloc: Global) -> Result<(u32, Answer, bool), Fault> {
-    let mut session = match made(alloc) {
+/// The session at the end of the life, opened again.
+fn lived(alloc: Global) -> Result<Session<MemDisk>, Fault> {
+    let mut session = match fresh(alloc) {
         Ok(session) => session,
-        Err(_) => made(alloc)?,
+        Err(_) => fresh(alloc)?,
     };
-    for number in 1..=3 {
-        session = with_batch(alloc, session, number)?;
+    for step in &STEPS {
+        session = after_step(alloc, session, step)?;
     }
-    let session = moved(alloc, session)?;
-    let mut session = opened_again(alloc, session.close())?;
-    let (batches, answer) = seen(alloc, &mut session)?;
-    Ok((batches, answer, modes_are_right(alloc, &mut session)?))
+    opened_again(alloc, session.close())
+}
+
+/// Whether a session answers the first query of the benchmark and one by ship mode as it should, and audits.
+fn is_right(alloc: Global, session: &mut Session<MemDisk>) -> Result<bool, Fault> {
+    let found = report(alloc, session, 3, QNumber::Q11)?;
+    Ok(
+        found == answer(alloc, &[(&[], 2000)], 3)?
+            && has_revenues(alloc, session, 3, &[("AIR", 4425), ("RAIL", 5820)])?
+            && session.audit(alloc)?,
+    )
+}
+
+/// The status at the end, but for its generation, and whether that is right, at the first or the second try.
+fn found_at_last(alloc: Global) -> Result<(Status, bool), Fault> {
+    let mut session = lived(alloc)?;
+    let status = Status {
+        generation: 0,
+        ..session.status()?
+    };
+    match is_right(alloc, &mut session) {
+        Ok(right) => Ok((status, right)),
+        Err(_) => Ok((status, is_right(alloc, &mut session)?)),
+    }
 }
 
 #[test]
-fn one_want_of_memory_is_made_good(rt: HostRuntime) -> Result<(), Fail> {
-    let found = found_at_last(rt.alloc());
-    let wanted = match finding(rt.alloc(), 3) {
-        Ok(wanted) => wanted,
-        Err(_) => finding(rt.alloc(), 3)?,
+fn one_want_of_memory_is_made_good(rt: HostRuntime) {
+    let plain = Status {
+        layout: Layout::Second,
+        additions: 1,
+        target: 1,
+        generation: 0,
+        ..status(3, 9)
     };
-    let (batches, answer) = wanted;
-    assert_eq!(rt; found, Ok((batches, answer, true)));
-    Ok(())
+    let wanted = (with_cuboids(plain, &THREE), true);
+    assert!(rt; found_at_last(rt.alloc()) == Ok(wanted));
 }

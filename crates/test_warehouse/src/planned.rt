@@ -1,11 +1,12 @@
-//! Plans over stored cuboids, answers by them, and how many sectors these read.
-use cube_model::{Agg, Answer, Attr, Fault, Items, Measure};
+//! Plans over stored cuboids, answers by them, and how many sectors these and the steps of a query read.
+use crate::steps::{Step, after};
+use cube_model::{Agg, Answer, Attr, Fault, Items, Measure, Query};
 use mode_queries::{ModeCond, ModeQuery};
-use sample_sessions::{Lines, answer, loaded, store_views, submit, with_three};
+use sample_sessions::{Lines, answer};
 use sample_star::{Asked, EVERY_ROW, FACTS, THIRD_FACT, query, text};
 use sector_device::MemDisk;
 use std::alloc::Global;
-use warehouse::{Plan, Priced, Session};
+use warehouse::{Plan, Priced, Running, Session, Stepped};
 
 const BY_YEAR: Asked<'static> = Asked {
     columns: &[Attr::DateYear],
@@ -18,49 +19,46 @@ const BY_WEEK: Asked<'static> = Asked {
     ..BY_YEAR
 };
 
-/// A warehouse with three cuboids, of which that of days and manufacturers serves a query by dates alone.
-#[derive(Clone, Copy)]
-enum Made {
-    /// One batch of the three sample rows, which the cuboids hold.
-    Three,
-    /// And a second batch of the third row, which they do not hold.
-    WithTail,
-    /// The same, once they hold it.
-    KeptUp,
-    /// Ten batches of the sample rows, which they hold since one upkeep.
-    Ten,
-}
+/// One batch of the three sample rows, and three cuboids that hold it, of which that of days and manufacturers serves a
+/// query by dates alone.
+const THREE: &[Step] = &[
+    Step::Batch(&FACTS),
+    Step::Views(&[59, 203, 248]),
+    Step::Upkeep,
+];
 
-fn with_tail(alloc: Global) -> Result<Session<MemDisk>, Fault> {
-    let mut session = with_three(alloc, 1)?;
-    submit(alloc, &mut session, 2, &[THIRD_FACT])?;
-    Ok(session)
-}
+/// And a second batch of the third row, which they do not hold.
+const WITH_TAIL: &[Step] = &[
+    Step::Batch(&FACTS),
+    Step::Views(&[59, 203, 248]),
+    Step::Upkeep,
+    Step::Batch(&[THIRD_FACT]),
+];
 
-fn kept_up(alloc: Global) -> Result<Session<MemDisk>, Fault> {
-    let mut session = with_tail(alloc)?;
-    session.upkeep(alloc)?;
-    Ok(session)
-}
+/// The same, once they hold it.
+const KEPT_UP: &[Step] = &[
+    Step::Batch(&FACTS),
+    Step::Views(&[59, 203, 248]),
+    Step::Upkeep,
+    Step::Batch(&[THIRD_FACT]),
+    Step::Upkeep,
+];
 
-fn ten(alloc: Global) -> Result<Session<MemDisk>, Fault> {
-    let mut session = loaded(alloc, 1)?;
-    store_views(alloc, &mut session, &[59, 203, 248])?;
-    for number in 2..=10 {
-        submit(alloc, &mut session, number, &FACTS)?;
-    }
-    session.upkeep(alloc)?;
-    Ok(session)
-}
-
-fn made_as(alloc: Global, made: Made) -> Result<Session<MemDisk>, Fault> {
-    match made {
-        Made::Three => with_three(alloc, 1),
-        Made::WithTail => with_tail(alloc),
-        Made::KeptUp => kept_up(alloc),
-        Made::Ten => ten(alloc),
-    }
-}
+/// Ten batches of the sample rows, which they hold since one upkeep.
+const TEN: &[Step] = &[
+    Step::Views(&[59, 203, 248]),
+    Step::Batch(&FACTS),
+    Step::Batch(&FACTS),
+    Step::Batch(&FACTS),
+    Step::Batch(&FACTS),
+    Step::Batch(&FACTS),
+    Step::Batch(&FACTS),
+    Step::Batch(&FACTS),
+    Step::Batch(&FACTS),
+    Step::Batch(&FACTS),
+    Step::Batch(&FACTS),
+    Step::Upkeep,
+];
 
 /// The view's number and the mark of a plan's cuboid, or nothing of a scan, and what the plan reads.
 type Read = (Option<(u16, u32)>, u64);
@@ -72,39 +70,9 @@ fn read_of(priced: &Priced) -> Read {
     }
 }
 
-/// Whether a session lists just these plans for a query over its first batches, and takes the first of them.
-fn are_plans(
-    alloc: Global,
-    session: &Session<MemDisk>,
-    as_of: u32,
-    asked: &Asked<'_>,
-    wanted: &[Read],
-) -> Result<bool, Fault> {
-    let query = query(alloc, asked)?;
-    let plans = session.plans(alloc, as_of, &query)?;
-    let taken = session.plan(alloc, as_of, &query)?;
-    Ok(
-        plans.iter().map(read_of).eq(wanted.iter().copied())
-            && plans.first().map(|priced| priced.plan) == Some(taken),
-    )
-}
-
-/// What a session answers to a query over its first batches, and how many sectors that reads.
-fn asked_of(
-    alloc: Global,
-    session: &mut Session<MemDisk>,
-    as_of: u32,
-    asked: &Asked<'_>,
-) -> Result<(Answer, u64), Fault> {
-    let query = query(alloc, asked)?;
-    let before = session.device().reads();
-    let answer = session.query(alloc, as_of, &query)?;
-    Ok((answer, session.device().reads().saturating_sub(before)))
-}
-
 /// A query over the first batches of a warehouse.
 struct Case {
-    made: Made,
+    steps: &'static [Step],
     as_of: u32,
     asked: Asked<'static>,
     /// Every plan that answers it, the one that is taken first.
@@ -120,7 +88,7 @@ const OF_TWO: Lines = &[(&["1993"], 980), (&["1997"], 2930)];
 
 static CASES: [Case; 7] = [
     Case {
-        made: Made::Three,
+        steps: THREE,
         as_of: 1,
         asked: BY_YEAR,
         plans: &[(Some((248, 1)), 2), (None, 3)],
@@ -128,7 +96,7 @@ static CASES: [Case; 7] = [
         sectors: 1,
     },
     Case {
-        made: Made::WithTail,
+        steps: WITH_TAIL,
         as_of: 1,
         asked: BY_YEAR,
         plans: &[(Some((248, 1)), 2), (None, 3)],
@@ -137,7 +105,7 @@ static CASES: [Case; 7] = [
     },
     // The cells, and the one row of the second batch.
     Case {
-        made: Made::WithTail,
+        steps: WITH_TAIL,
         as_of: 2,
         asked: BY_YEAR,
         plans: &[(Some((248, 1)), 3), (None, 4)],
@@ -146,7 +114,7 @@ static CASES: [Case; 7] = [
     },
     // The cells hold the second batch, which is not asked.
     Case {
-        made: Made::KeptUp,
+        steps: KEPT_UP,
         as_of: 1,
         asked: BY_YEAR,
         plans: &[(None, 3)],
@@ -154,7 +122,7 @@ static CASES: [Case; 7] = [
         sectors: 1,
     },
     Case {
-        made: Made::KeptUp,
+        steps: KEPT_UP,
         as_of: 2,
         asked: BY_YEAR,
         plans: &[(Some((248, 2)), 3), (None, 4)],
@@ -163,7 +131,7 @@ static CASES: [Case; 7] = [
     },
     // Ten batches in one run of two cells.
     Case {
-        made: Made::Ten,
+        steps: TEN,
         as_of: 10,
         asked: BY_YEAR,
         plans: &[(Some((248, 10)), 2), (None, 30)],
@@ -172,7 +140,7 @@ static CASES: [Case; 7] = [
     },
     // A day has one week.
     Case {
-        made: Made::Ten,
+        steps: TEN,
         as_of: 10,
         asked: BY_WEEK,
         plans: &[(Some((248, 10)), 2), (None, 30)],
@@ -181,25 +149,81 @@ static CASES: [Case; 7] = [
     },
 ];
 
-/// Whether the plans of a case are as wanted, what is answered, and whether it reads few sectors.
-fn outcome_of(alloc: Global, case: &Case) -> Result<(bool, Answer, bool), Fault> {
-    let mut session = made_as(alloc, case.made)?;
-    let planned = are_plans(alloc, &session, case.as_of, &case.asked, case.plans)?;
-    let (answer, reads) = asked_of(alloc, &mut session, case.as_of, &case.asked)?;
-    Ok((planned, answer, reads <= case.sectors))
+/// What a query over the first batches is answered, and how many sectors that reads.
+fn asked_of(
+    alloc: Global,
+    session: &mut Session<MemDisk>,
+    as_of: u32,
+    query: &Query,
+) -> Result<(Answer, u64), Fault> {
+    let before = session.device().reads();
+    let answer = session.query(alloc, as_of, query)?;
+    Ok((answer, session.device().reads().saturating_sub(before)))
 }
 
-fn wanted(alloc: Global, lines: Lines) -> Result<(bool, Answer, bool), Fault> {
-    Ok((true, answer(alloc, lines, 1)?, true))
+/// Whether just the plans of a case are listed, the answer is as wanted, and it reads few sectors.
+fn is_answered(alloc: Global, case: &Case) -> Result<bool, Fault> {
+    let mut session = after(alloc, case.steps)?;
+    let query = query(alloc, &case.asked)?;
+    let plans = session.plans(alloc, case.as_of, &query)?;
+    let (found, reads) = asked_of(alloc, &mut session, case.as_of, &query)?;
+    Ok(
+        plans.iter().map(read_of).eq(case.plans.iter().copied())
+            && found == answer(alloc, case.lines, 1)?
+            && reads <= case.sectors,
+    )
 }
 
 #[test]
 fn queries_are_answered_by_the_plan_that_reads_least(rt: HostRuntime) {
     for (place, case) in CASES.iter().enumerate() {
-        assert_eq!(rt;
-            outcome_of(rt.alloc(), case),
-            wanted(rt.alloc(), case.lines),
-            "case {place}"
+        assert!(rt; is_answered(rt.alloc(), case) == Ok(true), "case {place}");
+    }
+}
+
+/// Two batches, of which the second has the third row alone, and no cuboids.
+const TWO: &[Step] = &[Step::Batch(&FACTS), Step::Batch(&[THIRD_FACT])];
+
+/// Over how many of them the revenue by years is asked, and how many sectors each step reads.
+static READS: [(u32, &[u64]); 3] = [(0, &[0]), (1, &[1, 0]), (2, &[1, 1, 0])];
+
+/// How many sectors each step of a running query reads.
+fn reads_of_steps(
+    alloc: Global,
+    session: &mut Session<MemDisk>,
+    mut running: Running,
+) -> Result<Vec<u64>, Fault> {
+    let mut reads = Vec::new(alloc);
+    for _ in 0..9 {
+        let before = session.device().reads();
+        let stepped = session.step(alloc, running);
+        reads.push(session.device().reads().saturating_sub(before))?;
+        match stepped {
+            Stepped::More(next) => running = next,
+            Stepped::Done(_) => return Ok(reads),
+            Stepped::Refused(_, fault) => return Err(fault),
+        }
+    }
+    Err(Fault::NotRunning)
+}
+
+/// Whether the start of the query reads nothing, and its steps read so many sectors.
+fn are_read(alloc: Global, as_of: u32, wanted: &[u64]) -> Result<bool, Fault> {
+    let mut session = after(alloc, TWO)?;
+    let query = query(alloc, &BY_YEAR)?;
+    let before = session.device().reads();
+    let running = session.start(alloc, as_of, &query)?;
+    let at_start = session.device().reads().saturating_sub(before);
+    let reads = reads_of_steps(alloc, &mut session, running)?;
+    Ok(at_start == 0 && reads.as_slice() == wanted)
+}
+
+#[test]
+fn a_step_reads_one_batch(rt: HostRuntime) {
+    for (as_of, reads) in &READS {
+        assert!(rt;
+            are_read(rt.alloc(), *as_of, reads) == Ok(true),
+            "as of {as_of}"
         );
     }
 }
@@ -207,8 +231,8 @@ fn queries_are_answered_by_the_plan_that_reads_least(rt: HostRuntime) {
 /// A query that may look at ship modes, over one batch of the three sample rows in the second layout.
 #[derive(Clone, Copy)]
 struct ByModes {
-    /// The numbers of the views whose cuboids hold the batch.
-    views: &'static [u16],
+    /// The steps that make the warehouse.
+    steps: &'static [Step],
     asked: Asked<'static>,
     /// The place of the ship mode among the columns, if it is one of them.
     place: Option<usize>,
@@ -220,7 +244,12 @@ struct ByModes {
 
 /// View 507 has a cell for each of two ship modes. Views 59 and 251 do not group by ship mode.
 const BY_MODE: ByModes = ByModes {
-    views: &[59, 251, 507],
+    steps: &[
+        Step::Batch(&FACTS),
+        Step::Migrate,
+        Step::Views(&[59, 251, 507]),
+        Step::Upkeep,
+    ],
     asked: EVERY_ROW,
     place: Some(0),
     between: None,
@@ -236,7 +265,12 @@ static BY_MODES: [ByModes; 6] = [
         ..BY_MODE
     },
     ByModes {
-        views: &[59, 251],
+        steps: &[
+            Step::Batch(&FACTS),
+            Step::Migrate,
+            Step::Views(&[59, 251]),
+            Step::Upkeep,
+        ],
         plans: &[(None, 3)],
         ..BY_MODE
     },
@@ -248,7 +282,12 @@ static BY_MODES: [ByModes; 6] = [
     },
     // View 504 has a cell for each row: the scan is taken at a tie.
     ByModes {
-        views: &[504, 507],
+        steps: &[
+            Step::Batch(&FACTS),
+            Step::Migrate,
+            Step::Views(&[504, 507]),
+            Step::Upkeep,
+        ],
         asked: BY_YEAR,
         plans: &[(None, 3), (Some((504, 1)), 3)],
         ..BY_MODE
@@ -282,10 +321,7 @@ fn moded_query(alloc: Global, case: &ByModes) -> Result<ModeQuery, Fault> {
 
 /// Whether just the plans of a case are listed.
 fn are_moded_plans(alloc: Global, case: &ByModes) -> Result<bool, Fault> {
-    let mut session = loaded(alloc, 1)?;
-    session.migrate(alloc)?;
-    store_views(alloc, &mut session, case.views)?;
-    session.upkeep(alloc)?;
+    let session = after(alloc, case.steps)?;
     let asked = moded_query(alloc, case)?;
     let plans = session.moded_plans(alloc, 1, &asked)?;
     Ok(plans.iter().map(read_of).eq(case.plans.iter().copied()))
@@ -294,6 +330,9 @@ fn are_moded_plans(alloc: Global, case: &ByModes) -> Result<bool, Fault> {
 #[test]
 fn cuboids_by_ship_mode_serve_queries_that_look_at_them(rt: HostRuntime) {
     for (place, case) in BY_MODES.iter().enumerate() {
-        assert_eq!(rt; are_moded_plans(rt.alloc(), case), Ok(true), "case {place}");
+        assert!(rt;
+            are_moded_plans(rt.alloc(), case) == Ok(true),
+            "case {place}"
+        );
     }
 }

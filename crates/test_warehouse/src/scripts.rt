@@ -1,7 +1,12 @@
-//! Runs of commands: batches that are taken or refused, queries over the first batches, and the numbers of the
-//! warehouse.
+//! Runs of commands, these and those of other modules: batches that are taken or refused, queries over the first
+//! batches, and the numbers of the warehouse.
+use crate::additions::{A_ROW_OF_EACH, ONE_CUSTOMER_MORE};
+use crate::upkeep::scripts::{
+    CHOICES, CUBOIDS_OVER_ADDITIONS, KEPT, LIFE, MOVES, NO_MOVE, SLOTS, STEPS, STEPS_AFTER_CELLS,
+    STEPS_OVER_ADDITIONS,
+};
 use cube_model::{Agg, Fault, Measure};
-use sample_sessions::{Expected, Given, first_other_reply};
+use sample_sessions::{Expected, Given, Script, first_other_reply};
 use sample_star::{Asked, DISCOUNTED, EVERY_ROW, FACTS, FIRST_FACT, Fact, STRANGER, THIRD_FACT};
 
 /// A row without any money.
@@ -118,7 +123,25 @@ static ABSOLUTE: [(Given, Expected); 4] = [
 
 #[test]
 fn the_replies_are_as_worked_by_hand(rt: HostRuntime) {
-    assert_eq!(rt; first_other_reply(rt.alloc(), 64, &RUN), Ok(None));
-    assert_eq!(rt; first_other_reply(rt.alloc(), 64, &AT_THE_LIMIT), Ok(None));
-    assert_eq!(rt; first_other_reply(rt.alloc(), 64, &ABSOLUTE), Ok(None));
+    let scripts: [(u32, Script); 15] = [
+        (64, &RUN),
+        (64, &AT_THE_LIMIT),
+        (64, &ABSOLUTE),
+        (64, &ONE_CUSTOMER_MORE),
+        (64, &A_ROW_OF_EACH),
+        (64, &CHOICES),
+        (64, &KEPT),
+        (256, &LIFE),
+        (64, &STEPS),
+        (64, &STEPS_AFTER_CELLS),
+        (64, &SLOTS),
+        (64, &STEPS_OVER_ADDITIONS),
+        (64, &CUBOIDS_OVER_ADDITIONS),
+        (64, &MOVES),
+        (64, &NO_MOVE),
+    ];
+    for (place, (sectors, script)) in scripts.iter().enumerate() {
+        let other = first_other_reply(rt.alloc(), *sectors, script);
+        assert!(rt; other == Ok(None), "script {place}: {other:?}");
+    }
 }

@@ -1,5 +1,5 @@
 //! A warehouse in a sparse file of 2 GB.
-use cube_model::{Answer, Fault};
+use cube_model::Fault;
 use file_device::{Existing, FileDisk, Host, Unread};
 use sample_sessions::{created, finding, found, submit};
 use sample_star::FACTS;
@@ -18,11 +18,6 @@ fn make(rt: &HostRuntime, path: &str) -> Result<(), Fault> {
     submit(rt.alloc(), &mut session, 1, &FACTS)
 }
 
-/// How many batches are found in a file, and what the first query of the benchmark answers over them.
-fn found_in(rt: &HostRuntime, path: &str) -> Result<(u32, Answer), Fault> {
-    found(rt.alloc(), Disk::open(rt, path)?)
-}
-
 /// The file, in the folder in which the tests run.
 const PATH: &str = "sparse_warehouse";
 
@@ -30,8 +25,8 @@ const PATH: &str = "sparse_warehouse";
 fn a_warehouse_in_a_file_of_2_gb_is_found_again(rt: HostRuntime) -> Result<(), Fail> {
     let _ = fs::remove_file(&rt, PATH);
     make(&rt, PATH)?;
-    let found = found_in(&rt, PATH);
-    fs::remove_file(&rt, PATH)?;
-    assert_eq!(rt; found, finding(rt.alloc(), 1));
+    let found = found(rt.alloc(), Disk::open(&rt, PATH)?);
+    let _ = fs::remove_file(&rt, PATH);
+    assert!(rt; found == finding(rt.alloc(), 1));
     Ok(())
 }

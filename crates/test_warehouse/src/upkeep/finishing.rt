@@ -13,25 +13,25 @@ use warehouse::{Session, Status, StoredCuboid};
 /// The calls of the commit of the target: the catalogue, a sync, the superblock, a sync.
 const AIM: u64 = 4;
 
-/// A disk after an opening and an upkeep that crashed after so many calls.
-fn cut_after(alloc: Global, disk: MemDisk, calls: u64) -> Result<MemDisk, Fault> {
+/// A session of so many batches of the sample rows that stores three cuboids without a batch.
+fn with_views(alloc: Global, batches: u32) -> Result<Session<MemDisk>, Fault> {
+    let mut session = loaded(alloc, 1)?;
+    store_views(alloc, &mut session, &[59, 203, 248])?;
+    for number in 2..=batches {
+        submit(alloc, &mut session, number, &FACTS)?;
+    }
+    Ok(session)
+}
+
+/// The disk of it after an upkeep that crashed right after the commit of the target. A catalogue has so many sectors
+/// more than one.
+fn cut_off(alloc: Global, batches: u32, sectors: u64) -> Result<MemDisk, Fault> {
+    let disk = with_views(alloc, batches)?.close();
+    let calls = sectors.saturating_mul(2).saturating_add(OPENING + AIM);
     let fuse = Fuse::new(disk, calls.saturating_add(1), true, false);
     let mut session = opened(alloc, fuse)?;
     let _refused = session.upkeep(alloc);
     Ok(session.close().close().crash(&[]))
-}
-
-/// A session of one batch of the sample rows that stores three cuboids without a batch.
-fn with_views(alloc: Global) -> Result<Session<MemDisk>, Fault> {
-    let mut session = loaded(alloc, 1)?;
-    store_views(alloc, &mut session, &[59, 203, 248])?;
-    Ok(session)
-}
-
-/// The disk of it after an upkeep that crashed right after the commit of the target.
-fn cut_off(alloc: Global) -> Result<MemDisk, Fault> {
-    let disk = with_views(alloc)?.close();
-    cut_after(alloc, disk, OPENING + AIM)
 }
 
 /// The three cuboids of which the first hold so many batches, each in one run, and the others none.
@@ -52,34 +52,99 @@ fn cuboids(brought: usize, batches: u32) -> [StoredCuboid; 3] {
     cuboids
 }
 
-/// The status at a generation, where all of so many batches are the target, and the first cuboids hold them.
-fn stage(batches: u32, generation: u64, brought: usize) -> Status {
-    let plain = Status {
-        target: batches,
-        generation,
-        ..status(batches, u64::from(batches).saturating_mul(3))
-    };
-    with_cuboids(plain, &cuboids(brought, batches))
+/// An upkeep that was cut off: how many batches there are, how many sectors a catalogue has more than one, and a change
+/// of the disk. And what an opening leaves: the generation, and how many cuboids hold the batches.
+struct Case {
+    batches: u32,
+    sectors: u64,
+    change: Change,
+    generation: u64,
+    brought: usize,
 }
 
-/// The status of a disk as it is, and after an opening of it.
-fn before_and_after(alloc: Global) -> Result<(Status, Status), Fault> {
-    let session = as_is(alloc, cut_off(alloc)?)?;
-    let before = session.status()?;
-    let session = opened(alloc, session.close())?;
-    Ok((before, session.status()?))
+/// A change that leaves the name as it is.
+const NONE: Change = (0, 0, b"SSB");
+
+/// The last generation but one, which is even, in the superblock of the generation that the upkeep reached.
+const LAST_BUT_ONE: Change = (0, 16, b"\xfe\xff\xff\xff\xff\xff\xff\xff");
+
+/// How many cuboids find an extent on a full device: first fits by hand, of one sector for each object and three for a
+/// catalogue.
+static CASES: [Case; 6] = [
+    Case {
+        batches: 1,
+        sectors: 0,
+        change: NONE,
+        generation: 7,
+        brought: 3,
+    },
+    Case {
+        batches: 1,
+        sectors: 0,
+        change: LAST_BUT_ONE,
+        generation: 18_446_744_073_709_551_615,
+        brought: 1,
+    },
+    Case {
+        batches: 47,
+        sectors: 2,
+        change: NONE,
+        generation: 53,
+        brought: 3,
+    },
+    Case {
+        batches: 48,
+        sectors: 2,
+        change: NONE,
+        generation: 53,
+        brought: 2,
+    },
+    Case {
+        batches: 49,
+        sectors: 2,
+        change: NONE,
+        generation: 53,
+        brought: 1,
+    },
+    Case {
+        batches: 51,
+        sectors: 2,
+        change: NONE,
+        generation: 54,
+        brought: 0,
+    },
+];
+
+/// The status after an opening, and the first of the benchmark's queries that is answered otherwise then, if one is.
+type Seen = (Status, Option<QNumber>);
+
+fn seen(alloc: Global, case: &Case) -> Result<Seen, Fault> {
+    let mut disk = cut_off(alloc, case.batches, case.sectors)?;
+    make_change(&mut disk, case.change)?;
+    let mut session = opened(alloc, disk)?;
+    let other = first_other(alloc, &mut session, case.batches)?;
+    Ok((session.status()?, other))
+}
+
+fn wanted(case: &Case) -> Seen {
+    let plain = Status {
+        target: case.batches,
+        generation: case.generation,
+        ..status(case.batches, u64::from(case.batches).saturating_mul(3))
+    };
+    let cuboids = cuboids(case.brought, case.batches);
+    (with_cuboids(plain, &cuboids), None)
 }
 
 #[test]
-fn an_opening_finishes_an_upkeep(rt: HostRuntime) {
-    assert_eq!(rt;
-        before_and_after(rt.alloc()),
-        Ok((stage(1, 4, 0), status_of_three()))
-    );
+fn an_opening_finishes_an_upkeep_where_it_can(rt: HostRuntime) {
+    for (place, case) in CASES.iter().enumerate() {
+        assert!(rt; seen(rt.alloc(), case) == Ok(wanted(case)), "case {place}");
+    }
 }
 
-/// The calls of that opening. Each cuboid has six: the segment is read, and its commit writes the cells, the catalogue,
-/// a sync, the superblock, a sync.
+/// The calls of the opening over one batch. Each cuboid has six: the segment is read, and its commit writes the cells,
+/// the catalogue, a sync, the superblock, a sync.
 const FINISHING: u64 = OPENING + 18;
 
 /// How that opening is refused that crashes after so many calls, if it is, how many batches are left then, the status
@@ -87,7 +152,7 @@ const FINISHING: u64 = OPENING + 18;
 type Outcome = (Option<Fault>, u32, Status, bool);
 
 fn outcome(alloc: Global, calls: u64, picks: &[u32]) -> Result<Outcome, Fault> {
-    let (fault, disk) = half_opened(alloc, cut_off(alloc)?, calls);
+    let (fault, disk) = half_opened(alloc, cut_off(alloc, 1, 0)?, calls);
     let session = as_is(alloc, disk.crash(picks))?;
     let batches = session.status()?.batches;
     let mut session = opened(alloc, session.close())?;
@@ -117,60 +182,7 @@ static PICKS: [&[u32]; 4] = [
 #[test]
 fn a_crashed_opening_is_finished_by_the_next(rt: HostRuntime) {
     for picks in &PICKS {
-        assert_eq!(rt; first_wrong(rt.alloc(), picks), Ok(None), "{picks:?}");
+        let wrong = first_wrong(rt.alloc(), picks);
+        assert!(rt; wrong == Ok(None), "{picks:?}: {wrong:?}");
     }
-}
-
-/// The three cuboids over so many batches on 64 sectors, after an upkeep that crashed right after the commit of
-/// the target. A catalogue has three sectors then, two more than over one batch.
-fn crowded(alloc: Global, batches: u32) -> Result<MemDisk, Fault> {
-    let mut session = with_views(alloc)?;
-    for number in 2..=batches {
-        submit(alloc, &mut session, number, &FACTS)?;
-    }
-    cut_after(alloc, session.close(), OPENING + 2 + AIM + 2)
-}
-
-/// The status after an opening, and the first of the benchmark's queries that is answered otherwise then, if one is.
-type Seen = (Status, Option<QNumber>);
-
-fn seen(alloc: Global, disk: MemDisk) -> Result<Seen, Fault> {
-    let mut session = opened(alloc, disk)?;
-    let status = session.status()?;
-    let other = first_other(alloc, &mut session, status.batches)?;
-    Ok((status, other))
-}
-
-fn seen_when_crowded(alloc: Global, batches: u32) -> Result<Seen, Fault> {
-    let disk = crowded(alloc, batches)?;
-    seen(alloc, disk)
-}
-
-/// How many batches there are, the generation that an opening reaches, and how many cuboids find an extent: first
-/// fits by hand, of one sector for each object and three for a catalogue.
-static CROWDED: [(u32, u64, usize); 4] = [(47, 53, 3), (48, 53, 2), (49, 53, 1), (51, 54, 0)];
-
-#[test]
-fn a_full_device_is_opened_with_some_cuboids_left(rt: HostRuntime) {
-    for (batches, generation, brought) in &CROWDED {
-        assert_eq!(rt;
-            seen_when_crowded(rt.alloc(), *batches),
-            Ok((stage(*batches, *generation, *brought), None))
-        );
-    }
-}
-
-/// The last generation but one, which is even, in the superblock of the generation that the upkeep reached.
-const LAST_BUT_ONE: Change = (0, 16, b"\xfe\xff\xff\xff\xff\xff\xff\xff");
-
-fn seen_when_worn(alloc: Global) -> Result<Seen, Fault> {
-    let mut disk = cut_off(alloc)?;
-    make_change(&mut disk, LAST_BUT_ONE)?;
-    seen(alloc, disk)
-}
-
-#[test]
-fn the_last_generation_is_opened_with_some_cuboids_left(rt: HostRuntime) {
-    let last = stage(1, 18_446_744_073_709_551_615, 1);
-    assert_eq!(rt; seen_when_worn(rt.alloc()), Ok((last, None)));
 }

@@ -1,4 +1,4 @@
-//! A cuboid of as many cells as there may be, and one more.
+//! A batch of as many rows and a cuboid of as many cells as there may be, and one more.
 use cube_model::Fault;
 use dimensions::Dims;
 use sample_sessions::{created_over, status, store_views, with_cuboids};
@@ -7,15 +7,13 @@ use sector_device::MemDisk;
 use std::alloc::Global;
 use warehouse::{Session, Status, StoredCuboid};
 
-/// The dimensions of more pairs of a city and a brand than a cuboid may have cells.
-fn dims(alloc: Global) -> Result<Dims, Fault> {
-    let rows = rows_of_pairs(alloc)?;
-    Dims::build(alloc, &rows)
-}
-
+/// A warehouse of more pairs of a city and a brand than a cuboid may have cells, which stores their cuboid.
 fn created(alloc: Global) -> Result<Session<MemDisk>, Fault> {
-    let dims = dims(alloc)?;
-    created_over(alloc, MemDisk::new(alloc, 262_144)?, dims)
+    let rows = rows_of_pairs(alloc)?;
+    let dims = Dims::build(alloc, &rows)?;
+    let mut session = created_over(alloc, MemDisk::new(alloc, 262_144)?, dims)?;
+    store_views(alloc, &mut session, &[51])?;
+    Ok(session)
 }
 
 /// A batch: its number, its first pair of city and brand, and how many rows it has, each of the next pair.
@@ -27,45 +25,41 @@ fn submit(alloc: Global, session: &mut Session<MemDisk>, batch: Batch) -> Result
     session.submit(alloc, number, rows.as_slice())
 }
 
-/// Four batches of 65,536 rows, each row another pair: as many pairs as a cuboid may have cells.
-const FOUR: [Batch; 4] = [
-    (1, 0, 65_536),
-    (2, 65_536, 65_536),
-    (3, 131_072, 65_536),
-    (4, 196_608, 65_536),
+/// Batches that are submitted, how the upkeep after them is refused, if it is, and the status then: how many batches
+/// and rows there are, the generation, and the mark of the cuboid, which has all its cells in one run.
+struct Stage {
+    batches: &'static [Batch],
+    refused: Option<Fault>,
+    status: (u32, u64, u64, u32),
+}
+
+/// Four batches of 65,536 rows, each row another pair: as many pairs as a cuboid may have cells. Then a row of a pair
+/// that is there, and one of a new pair.
+static STAGES: [Stage; 3] = [
+    Stage {
+        batches: &[
+            (1, 0, 65_536),
+            (2, 65_536, 65_536),
+            (3, 131_072, 65_536),
+            (4, 196_608, 65_536),
+        ],
+        refused: None,
+        status: (4, 262_144, 8, 4),
+    },
+    Stage {
+        batches: &[(5, 262_143, 1)],
+        refused: None,
+        status: (5, 262_145, 11, 5),
+    },
+    Stage {
+        batches: &[(6, 262_144, 1)],
+        refused: Some(Fault::TooManyCells { view: 51 }),
+        status: (6, 262_146, 13, 5),
+    },
 ];
 
-/// A session with the four batches that stores the cuboid of cities and brands.
-fn with_four(alloc: Global) -> Result<Session<MemDisk>, Fault> {
-    let mut session = created(alloc)?;
-    for batch in FOUR {
-        submit(alloc, &mut session, batch)?;
-    }
-    store_views(alloc, &mut session, &[51])?;
-    Ok(session)
-}
-
-/// How an upkeep ends, and the status then.
-type Kept = (Option<Fault>, Status);
-
-fn kept_up(alloc: Global, session: &mut Session<MemDisk>) -> Result<Kept, Fault> {
-    let refused = session.upkeep(alloc).err();
-    Ok((refused, session.status()?))
-}
-
-/// An upkeep over the four batches, one after a fifth of a pair that is there, and one after a sixth of a new pair.
-fn outcomes(alloc: Global) -> Result<[Kept; 3], Fault> {
-    let mut session = with_four(alloc)?;
-    let four = kept_up(alloc, &mut session)?;
-    submit(alloc, &mut session, (5, 262_143, 1))?;
-    let five = kept_up(alloc, &mut session)?;
-    submit(alloc, &mut session, (6, 262_144, 1))?;
-    Ok([four, five, kept_up(alloc, &mut session)?])
-}
-
-/// The status of so many batches with so many rows at a generation, with the cuboid of cities and brands at a mark, all
-/// its cells in one run.
-fn full(batches: u32, rows: u64, generation: u64, mark: u32) -> Status {
+fn wanted(stage: &Stage) -> Status {
+    let (batches, rows, generation, mark) = stage.status;
     let plain = Status {
         target: batches,
         generation,
@@ -80,15 +74,29 @@ fn full(batches: u32, rows: u64, generation: u64, mark: u32) -> Status {
     with_cuboids(plain, &[cuboid])
 }
 
+/// Whether a session comes to a stage.
+fn comes_to(alloc: Global, session: &mut Session<MemDisk>, stage: &Stage) -> Result<bool, Fault> {
+    for batch in stage.batches {
+        submit(alloc, session, *batch)?;
+    }
+    let refused = session.upkeep(alloc).err();
+    Ok(refused == stage.refused && session.status()? == wanted(stage))
+}
+
+/// How a batch of a row too many is refused, if it is, and the first stage to which the session does not come then, if
+/// there is one.
+fn outcome(alloc: Global) -> Result<(Option<Fault>, Option<usize>), Fault> {
+    let mut session = created(alloc)?;
+    let refused = submit(alloc, &mut session, (1, 0, 65_537)).err();
+    for (place, stage) in STAGES.iter().enumerate() {
+        if !comes_to(alloc, &mut session, stage)? {
+            return Ok((refused, Some(place)));
+        }
+    }
+    Ok((refused, None))
+}
+
 #[test]
-fn a_cuboid_of_too_many_cells_stays_as_it_was(rt: HostRuntime) {
-    let refused = Some(Fault::TooManyCells { view: 51 });
-    assert_eq!(rt;
-        outcomes(rt.alloc()),
-        Ok([
-            (None, full(4, 262_144, 8, 4)),
-            (None, full(5, 262_145, 11, 5)),
-            (refused, full(6, 262_146, 13, 5)),
-        ])
-    );
+fn a_batch_and_a_cuboid_have_their_greatest_sizes(rt: HostRuntime) {
+    assert_eq!(rt; outcome(rt.alloc()), Ok((Some(Fault::TooManyRows), None)));
 }

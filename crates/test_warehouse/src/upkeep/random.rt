@@ -1,9 +1,9 @@
 //! Random calls of a session, and its numbers by plain counting.
-use crate::upkeep::plain::{Row, draw_row, groups};
-use crate::upkeep::random_queries::created;
+use crate::upkeep::plain::{Row, SEVERAL, draw_row, groups};
 use cube_model::Fault;
-use sample_sessions::{opened, status, store_views};
-use sample_star::{Draw, line_order};
+use dimensions::Dims;
+use sample_sessions::{ask, created_over, status, store_views};
+use sample_star::{AVERAGES, Asked, CUBE, Draw, PROFIT, ROLLUP, dim_rows, line_order};
 use sector_device::MemDisk;
 use std::alloc::Global;
 use warehouse::{MOST_CUBOIDS, Session, Status, StoredCuboid};
@@ -18,10 +18,14 @@ struct Run {
     is_audited: bool,
 }
 
+/// A run over a warehouse without batches on 2,048 sectors.
 fn begun(alloc: Global, seed: u64) -> Result<Run, Fault> {
+    let rows = dim_rows(alloc, &SEVERAL)?;
+    let dims = Dims::build(alloc, &rows)?;
+    let session = created_over(alloc, MemDisk::new(alloc, 2_048)?, dims)?;
     Ok(Run {
         draw: Draw::new(seed),
-        session: created(alloc)?,
+        session,
         status: status(0, 0),
         rows: Vec::new(alloc),
         is_audited: true,
@@ -77,18 +81,6 @@ fn with_views(status: &Status, numbers: &[u16]) -> Status {
         cuboids,
         ..*status
     }
-}
-
-/// Stores the greedy list of up to four views.
-fn choose(alloc: Global, run: &mut Run) -> Result<(), Fault> {
-    let k = run.draw.below(5) as u8;
-    let chosen = run.session.choose(alloc, k)?;
-    let mut numbers = Vec::new(alloc);
-    for one in chosen {
-        numbers.push(one.view.index())?;
-    }
-    run.status = with_views(&run.status, numbers.as_slice());
-    Ok(())
 }
 
 /// Stores up to four random views.
@@ -167,23 +159,35 @@ fn keep_up(alloc: Global, run: &mut Run) -> Result<(), Fault> {
     Ok(())
 }
 
+static QUERIES: [Asked<'static>; 4] = [CUBE, ROLLUP, AVERAGES, PROFIT];
+
+/// Asks queries of each kind over all batches. Each has an answer.
+fn ask_each(alloc: Global, run: &mut Run) -> Result<(), Fault> {
+    for asked in &QUERIES {
+        let _answer = ask(alloc, &mut run.session, run.status.batches, asked)?;
+    }
+    Ok(())
+}
+
 /// Makes a random call.
-fn step(alloc: Global, run: &mut Run) -> Result<(), Fault> {
+fn make_call(alloc: Global, run: &mut Run) -> Result<(), Fault> {
     match run.draw.below(32) {
-        0 => choose(alloc, run),
-        1 => store(alloc, run),
+        0 => store(alloc, run),
+        1 => ask_each(alloc, run),
         call if call % 2 == 0 => load(alloc, run),
         _ => keep_up(alloc, run),
     }
 }
 
 /// How many calls a run has.
-const CALLS: u32 = 40;
+const CALLS: u32 = 80;
 
-/// The first call of a run after which the session is not as wanted.
-fn first_wrong(alloc: Global, run: &mut Run) -> Result<Option<u32>, Fault> {
+/// The first call of a run after which the session is not as wanted, if there is one.
+fn first_wrong(alloc: Global, seed: u64) -> Result<Option<u32>, Fault> {
+    let mut run = begun(alloc, seed)?;
+    store(alloc, &mut run)?;
     for call in 0..CALLS {
-        step(alloc, run)?;
+        make_call(alloc, &mut run)?;
         if !run.is_audited || run.session.status()? != run.status {
             return Ok(Some(call));
         }
@@ -191,27 +195,10 @@ fn first_wrong(alloc: Global, run: &mut Run) -> Result<Option<u32>, Fault> {
     Ok(None)
 }
 
-/// Whether the same is found once the session of a run is closed and opened again.
-fn is_found_again(alloc: Global, run: Run) -> Result<bool, Fault> {
-    let Run {
-        session,
-        status,
-        ..
-    } = run;
-    let mut session = opened(alloc, session.close())?;
-    Ok(session.status()? == status && session.audit(alloc)?)
-}
-
-/// The first call of a run after which the session is not as wanted, and whether the same is found again at its end.
-fn outcome(alloc: Global, seed: u64) -> Result<(Option<u32>, bool), Fault> {
-    let mut run = begun(alloc, seed)?;
-    let wrong = first_wrong(alloc, &mut run)?;
-    Ok((wrong, is_found_again(alloc, run)?))
-}
-
 #[test]
 fn random_calls_leave_the_cuboids_that_plain_counting_gives(rt: HostRuntime) {
     for seed in 0..4 {
-        assert_eq!(rt; outcome(rt.alloc(), seed), Ok((None, true)), "{seed}");
+        let wrong = first_wrong(rt.alloc(), seed);
+        assert!(rt; wrong == Ok(None), "{seed}: {wrong:?}");
     }
 }

@@ -1,10 +1,10 @@
-//! Runs of commands: choices of cuboids, their upkeep and audits, queries that run step by step, and additions to the
-//! dimensions between all these.
-use cube_model::{Agg, Attr, Fault, Measure};
-use sample_sessions::{Expected, Given, Lines, Numbers, THREE, TWO_CELLS, first_other_reply};
+//! Runs of commands: choices of cuboids, their upkeep and audits, queries that run step by step, additions to the
+//! dimensions between all these, and moves to the second layout.
+use cube_model::{Agg, Attr, Fault, Measure, MemberPlace};
+use sample_sessions::{Expected, Given, Lines, Numbers, THREE, TWO_CELLS};
 use sample_star::{
-    Asked, BY_CITY, CITIES, DISCOUNTED, Day, EVERY_ROW, FACTS, FIRST_CUSTOMER, FIRST_DAY, Location,
-    NO_ROWS, ONE_CUSTOMER, STRANGER, Star, THIRD_FACT,
+    Asked, BY_CITY, CITIES, DISCOUNTED, Day, EVERY_ROW, FACTS, FIRST_CUSTOMER, FIRST_DAY,
+    FIRST_FACT, Fact, Location, NO_ROWS, ONE_CUSTOMER, STRANGER, Star, THIRD_FACT,
 };
 use warehouse::StoredCuboid;
 
@@ -46,7 +46,7 @@ const THREE_OF_TWO: [StoredCuboid; 3] = [
 
 /// How many views are asked for, and the greedy list with the benefits. At the fourth place views 243 and 251 have
 /// the same benefit.
-static CHOICES: [(Given, Expected); 9] = [
+pub(crate) static CHOICES: [(Given, Expected); 9] = [
     (Given::Submit(1, &FACTS), Expected::Done),
     (Given::Choose(0), Expected::Chosen(&[])),
     (Given::Choose(1), Expected::Chosen(&[(59, 8)])),
@@ -89,7 +89,7 @@ const FILLED: Numbers = Numbers {
 };
 
 /// An upkeep fills three cuboids, a second one writes nothing, and a choice keeps the cells of what it chooses again.
-static KEPT: [(Given, Expected); 14] = [
+pub(crate) static KEPT: [(Given, Expected); 14] = [
     (Given::Submit(1, &FACTS), Expected::Done),
     (
         Given::Choose(3),
@@ -126,7 +126,7 @@ static KEPT: [(Given, Expected); 14] = [
 ];
 
 /// A whole life: batches, a choice, upkeeps and reports.
-static LIFE: [(Given, Expected); 12] = [
+pub(crate) static LIFE: [(Given, Expected); 12] = [
     (Given::Submit(1, &FACTS), Expected::Done),
     (
         Given::Choose(3),
@@ -180,7 +180,7 @@ const YEARS_OF_ONE: Lines = &[(&["1993"], 980), (&["1997"], 2435)];
 const YEARS_OF_TWO: Lines = &[(&["1993"], 980), (&["1997"], 2930)];
 
 /// Two queries on their way over the one batch that there was.
-static STEPS: [(Given, Expected); 14] = [
+pub(crate) static STEPS: [(Given, Expected); 14] = [
     (Given::Submit(1, &FACTS), Expected::Done),
     (Given::Start(0, 1, BY_YEAR), Expected::Done),
     (Given::Start(15, 1, BY_YEAR), Expected::Done),
@@ -198,7 +198,7 @@ static STEPS: [(Given, Expected); 14] = [
 ];
 
 /// The cells hold the first batch. Later choices and batches change nothing of the answer.
-static STEPS_BEHIND_CELLS: [(Given, Expected); 12] = [
+pub(crate) static STEPS_AFTER_CELLS: [(Given, Expected); 12] = [
     (Given::Submit(1, &FACTS), Expected::Done),
     (
         Given::Choose(3),
@@ -218,7 +218,7 @@ static STEPS_BEHIND_CELLS: [(Given, Expected); 12] = [
 
 /// Slots that there are not, or that are empty. A refused start leaves its slot, and another one takes the place of
 /// what ran there.
-static SLOTS: [(Given, Expected); 16] = [
+pub(crate) static SLOTS: [(Given, Expected); 16] = [
     (Given::Submit(1, &FACTS), Expected::Done),
     (Given::Step(0), Expected::Refused(Fault::NotRunning)),
     (Given::Step(16), Expected::Refused(Fault::NotRunning)),
@@ -273,7 +273,7 @@ const EARLIER: Star<'static> = Star {
 };
 
 /// Queries that were started before an addition answer as they would have.
-static STEPS_OVER_ADDITIONS: [(Given, Expected); 15] = [
+pub(crate) static STEPS_OVER_ADDITIONS: [(Given, Expected); 15] = [
     (Given::Submit(1, &FACTS), Expected::Done),
     (Given::Start(0, 1, BY_CITY), Expected::Done),
     (Given::Start(15, 1, BY_CITY), Expected::Done),
@@ -292,7 +292,7 @@ static STEPS_OVER_ADDITIONS: [(Given, Expected); 15] = [
 ];
 
 /// Cuboids that hold a batch hold it after additions, and are brought to a batch of a new customer.
-static CUBOIDS_OVER_ADDITIONS: [(Given, Expected); 24] = [
+pub(crate) static CUBOIDS_OVER_ADDITIONS: [(Given, Expected); 24] = [
     (Given::Submit(1, &FACTS), Expected::Done),
     (
         Given::Choose(3),
@@ -343,39 +343,47 @@ static CUBOIDS_OVER_ADDITIONS: [(Given, Expected); 24] = [
     (Given::Audit, Expected::Audited(true)),
 ];
 
-#[test]
-fn choices_are_as_worked_by_hand(rt: HostRuntime) {
-    assert_eq!(rt; first_other_reply(rt.alloc(), 64, &CHOICES), Ok(None));
-}
+/// A row whose ship mode is the text that means all of them.
+const RESERVED: Fact<'static> = Fact {
+    shipmode: "ALL",
+    ..FIRST_FACT
+};
 
-#[test]
-fn upkeeps_are_as_worked_by_hand(rt: HostRuntime) {
-    assert_eq!(rt; first_other_reply(rt.alloc(), 64, &KEPT), Ok(None));
-}
+/// A move to the second layout keeps batches and cuboids, and may be asked for again. No ship mode is the text that
+/// means all of them then.
+pub(crate) static MOVES: [(Given, Expected); 12] = [
+    (Given::Submit(1, &FACTS), Expected::Done),
+    (
+        Given::Choose(3),
+        Expected::Chosen(&[(59, 8), (203, 6), (248, 6)]),
+    ),
+    (Given::Upkeep, Expected::Done),
+    (Given::Start(0, 1, BY_YEAR), Expected::Done),
+    (Given::Migrate, Expected::Done),
+    (Given::Migrate, Expected::Done),
+    (Given::Audit, Expected::Audited(true)),
+    (Given::Step(0), Expected::Answer(YEARS_OF_ONE)),
+    (Given::Query(1, BY_YEAR), Expected::Answer(YEARS_OF_ONE)),
+    (
+        Given::Submit(2, &[FIRST_FACT, RESERVED]),
+        Expected::Refused(Fault::ReservedMember {
+            place: MemberPlace::InBatch { row: 2 },
+        }),
+    ),
+    (Given::Submit(2, &[THIRD_FACT]), Expected::Done),
+    (Given::Query(2, BY_YEAR), Expected::Answer(YEARS_OF_TWO)),
+];
 
-#[test]
-fn a_life_is_as_worked_by_hand(rt: HostRuntime) {
-    assert_eq!(rt; first_other_reply(rt.alloc(), 256, &LIFE), Ok(None));
-}
-
-#[test]
-fn queries_step_in_their_slots(rt: HostRuntime) {
-    assert_eq!(rt; first_other_reply(rt.alloc(), 64, &STEPS), Ok(None));
-    assert_eq!(rt;
-        first_other_reply(rt.alloc(), 64, &STEPS_BEHIND_CELLS),
-        Ok(None)
-    );
-    assert_eq!(rt; first_other_reply(rt.alloc(), 64, &SLOTS), Ok(None));
-}
-
-#[test]
-fn additions_leave_queries_and_cuboids(rt: HostRuntime) {
-    assert_eq!(rt;
-        first_other_reply(rt.alloc(), 64, &STEPS_OVER_ADDITIONS),
-        Ok(None)
-    );
-    assert_eq!(rt;
-        first_other_reply(rt.alloc(), 64, &CUBOIDS_OVER_ADDITIONS),
-        Ok(None)
-    );
-}
+/// A ship mode that is this text leaves the first layout. The first such row is named.
+pub(crate) static NO_MOVE: [(Given, Expected); 5] = [
+    (Given::Submit(1, &FACTS), Expected::Done),
+    (Given::Submit(2, &[FIRST_FACT, RESERVED]), Expected::Done),
+    (Given::Submit(3, &[RESERVED, RESERVED]), Expected::Done),
+    (
+        Given::Migrate,
+        Expected::Refused(Fault::ReservedMember {
+            place: MemberPlace::InStoredBatch { batch: 2, row: 2 },
+        }),
+    ),
+    (Given::Status, Expected::Plain(3, 7)),
+];
