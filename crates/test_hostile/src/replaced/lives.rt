@@ -22,7 +22,7 @@ pub(crate) enum Step {
     /// The addition of the third customer.
     Add,
     Migrate,
-    /// The questions, over all batches.
+    /// The questions, over all batches. `BadQuery` where one is answered otherwise than it should be.
     Ask,
 }
 
@@ -145,8 +145,11 @@ fn take<D: Sectors>(
         Step::Migrate => session.migrate(alloc),
         Step::Ask => {
             let batches = session.status()?.batches;
-            let _right = are_answered(alloc, session, batches, life)?;
-            Ok(())
+            if are_answered(alloc, session, batches, life)? {
+                Ok(())
+            } else {
+                Err(Fault::BadQuery)
+            }
         }
     }
 }
