@@ -2,7 +2,6 @@ pub mod CallerLemmas
 pub mod Choosing
 pub mod Folds
 pub mod Known
-pub mod Loops
 pub mod Steps
 mod CellMerges
 mod CellSlots

@@ -9,7 +9,6 @@ mod PartLines
 mod VersionLines
 mod WordLines
 mod WordTexts
-pub mod Everywhere
 pub mod Plain
 pub mod Pushed
 pub mod Read

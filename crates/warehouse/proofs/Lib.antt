@@ -14,11 +14,9 @@ pub mod FoundLaws
 mod Caught
 pub mod Cuboids
 pub mod Asking
-mod Pairing
 pub mod Wider
 mod Compared
 mod Choices
-pub mod Outcomes
 pub mod Migrated
 pub mod Numbering
 pub mod Performing
