@@ -1,13 +1,14 @@
 //! The files that the words of a command name.
 use crate::refusal::Refusal;
+use crate::system::System;
 use crate::table_paths::{shown, table_path};
 use clap::ArgMatches;
 use cube_model::Fault;
 use std::alloc::Global;
 use std::cell::Cell;
 use std::fs;
+use std::fs::File;
 use std::io::{self, Read};
-use std::rt::Files;
 use table_hints::Table;
 
 /// The files of the dimensions.
@@ -66,11 +67,11 @@ fn keep_error(reads: &Reads, place: usize, error: io::Error) {
 }
 
 /// Opens the files of the dimensions, in the order of the command.
-pub fn open_dimensions<'k, R: Files + AllocGlobal>(
-    rt: &R,
+pub fn open_dimensions<'k>(
+    rt: &System,
     given: &ArgMatches<'_>,
     reads: &'k Reads,
-) -> Result<DimensionFiles<GivenFile<'k, R::File>>, Fault> {
+) -> Result<DimensionFiles<GivenFile<'k, File>>, Fault> {
     Ok(DimensionFiles {
         customer: open(rt, given, Table::Customer, reads)?,
         supplier: open(rt, given, Table::Supplier, reads)?,
@@ -80,11 +81,11 @@ pub fn open_dimensions<'k, R: Files + AllocGlobal>(
 }
 
 /// Opens the files of the dimensions that the command names, in its order.
-pub fn open_named<'k, R: Files + AllocGlobal>(
-    rt: &R,
+pub fn open_named<'k>(
+    rt: &System,
     given: &ArgMatches<'_>,
     reads: &'k Reads,
-) -> Result<DimensionFiles<NamedFile<GivenFile<'k, R::File>>>, Fault> {
+) -> Result<DimensionFiles<NamedFile<GivenFile<'k, File>>>, Fault> {
     Ok(DimensionFiles {
         customer: named(rt, given, Table::Customer, reads)?,
         supplier: named(rt, given, Table::Supplier, reads)?,
@@ -109,12 +110,12 @@ impl<F: Read> Read for NamedFile<F> {
 }
 
 // Opens the file of a table, where the command names one.
-fn named<'k, R: Files + AllocGlobal>(
-    rt: &R,
+fn named<'k>(
+    rt: &System,
     given: &ArgMatches<'_>,
     table: Table,
     reads: &'k Reads,
-) -> Result<NamedFile<GivenFile<'k, R::File>>, Fault> {
+) -> Result<NamedFile<GivenFile<'k, File>>, Fault> {
     let file = match given.get_str(table.name()) {
         Some(path) => Some(open_table(rt, path, table, reads)?),
         None => None,
@@ -123,12 +124,12 @@ fn named<'k, R: Files + AllocGlobal>(
 }
 
 /// Opens the file of a table.
-pub fn open<'k, R: Files + AllocGlobal>(
-    rt: &R,
+pub fn open<'k>(
+    rt: &System,
     given: &ArgMatches<'_>,
     table: Table,
     reads: &'k Reads,
-) -> Result<GivenFile<'k, R::File>, Fault> {
+) -> Result<GivenFile<'k, File>, Fault> {
     match table_path(rt.alloc(), given, table)? {
         Some(path) => open_table(rt, path.as_str(), table, reads),
         None => Err(Fault::Input),
@@ -136,24 +137,19 @@ pub fn open<'k, R: Files + AllocGlobal>(
 }
 
 // The place of a table's file is that of the table in the order in which they are read.
-fn open_table<'k, R: Files>(
-    rt: &R,
+fn open_table<'k>(
+    rt: &System,
     path: &str,
     table: Table,
     reads: &'k Reads,
-) -> Result<GivenFile<'k, R::File>, Fault> {
+) -> Result<GivenFile<'k, File>, Fault> {
     let place = table as usize;
     let file = open_file(rt, path, place, reads)?;
     Ok(GivenFile::new(file, place, reads))
 }
 
 /// Opens a file, which has a place among those of a command.
-pub fn open_file<R: Files>(
-    rt: &R,
-    path: &str,
-    place: usize,
-    reads: &Reads,
-) -> Result<R::File, Fault> {
+pub fn open_file(rt: &System, path: &str, place: usize, reads: &Reads) -> Result<File, Fault> {
     match fs::open(rt, path) {
         Ok(file) => Ok(file),
         Err(error) => {
@@ -201,7 +197,7 @@ pub fn unread_among(alloc: Global, paths: &[&str], reads: &Reads) -> Refusal {
 
 /// Opens a file once more. Only a regular file is the same when it is read again, and another, such as a pipe, is not
 /// even opened: that might wait for a program that writes it.
-pub fn open_again<R: Files>(rt: &R, path: &str) -> Option<R::File> {
+pub fn open_again(rt: &System, path: &str) -> Option<File> {
     if fs::metadata(rt, path).ok()?.is_file() {
         fs::open(rt, path).ok()
     } else {
@@ -210,7 +206,7 @@ pub fn open_again<R: Files>(rt: &R, path: &str) -> Option<R::File> {
 }
 
 /// Why a file cannot be opened, or its first byte not be read. What is neither a file nor a folder is not opened.
-pub fn first_error<R: Files>(rt: &R, path: &str) -> Option<io::Error> {
+pub fn first_error(rt: &System, path: &str) -> Option<io::Error> {
     let kind = match fs::metadata(rt, path) {
         Ok(metadata) => metadata,
         Err(error) => return Some(error),
@@ -227,7 +223,7 @@ pub fn first_error<R: Files>(rt: &R, path: &str) -> Option<io::Error> {
 }
 
 /// The bytes of some files together, if each is a regular file.
-pub fn byte_count<R: Files>(rt: &R, paths: &[&str]) -> Option<u64> {
+pub fn byte_count(rt: &System, paths: &[&str]) -> Option<u64> {
     let mut bytes = 0u64;
     for path in paths {
         match fs::metadata(rt, path) {

@@ -3,6 +3,7 @@ ghost use Rattle.std.specs.Prelude.{◌≤◌, length};
 ghost use Rattle.std.specs.Io.{ReadsAtMost};
 
 use std::cell::Cell;
+use std::fs::File;
 use std::io::{self, Read};
 
 /// A file, or standard input.

@@ -19,6 +19,7 @@ pub mod screens;
 pub mod sizes;
 mod split;
 pub mod streams;
+pub mod system;
 pub mod table_files;
 pub mod table_paths;
 pub mod table_refusals;

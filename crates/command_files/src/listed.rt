@@ -2,6 +2,7 @@
 use crate::query::{NOTHING_ASKED, asks_nothing, query_of};
 use crate::refusal::Refusal;
 use crate::split::words_of_line;
+use crate::system::System;
 use clap::error::ErrorKind;
 use command_words::listed_query;
 use cube_model::Fault;
@@ -9,7 +10,6 @@ use mode_queries::ModeQuery;
 use std::alloc::{AllocError, Global};
 use std::fs;
 use std::io::{self, Read};
-use std::rt::Files;
 
 /// A query of a list.
 #[derive(Drop)]
@@ -46,10 +46,7 @@ pub fn list_name(path: &str) -> &str {
 }
 
 /// The queries of a file, in its order. `-` is standard input. The first line that is no query is refused.
-pub fn listed_queries<R: Files + AllocGlobal + Input>(
-    rt: &R,
-    path: &str,
-) -> Result<Vec<ListedQuery>, Refusal> {
+pub fn listed_queries(rt: &System, path: &str) -> Result<Vec<ListedQuery>, Refusal> {
     let text = match path {
         "-" => io::read_to_string(rt.alloc(), rt.reader()),
         path => text_of(rt, path),
@@ -60,7 +57,7 @@ pub fn listed_queries<R: Files + AllocGlobal + Input>(
     }
 }
 
-fn text_of<R: Files + AllocGlobal>(rt: &R, path: &str) -> io::Result<String> {
+fn text_of(rt: &System, path: &str) -> io::Result<String> {
     let file = fs::open(rt, path)?;
     io::read_to_string(rt.alloc(), file)
 }

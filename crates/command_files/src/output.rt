@@ -1,16 +1,17 @@
 //! Standard output.
 use crate::exit::DONE;
 use crate::refusal::Refusal;
+use crate::system::System;
 use crate::watched::Watched;
 use cube_model::Fault;
 use std::alloc::Global;
 use std::io::{self, BufWriter, ErrorKind, Printer};
 
 /// Standard output with a buffer, with why a write to it failed.
-pub type Output<'r, R> = Watched<BufWriter<Printer<'r, R>>>;
+pub type Output<'r> = Watched<BufWriter<Printer<'r, System>>>;
 
 /// Standard output, of which no write has failed yet.
-pub fn output<R: AllocGlobal + Print>(rt: &R) -> Result<Output<'_, R>, Fault> {
+pub fn output(rt: &System) -> Result<Output<'_>, Fault> {
     match BufWriter::new(rt.alloc(), io::writer(rt)) {
         Ok(out) => Ok(Watched::new(out)),
         Err(_) => Err(Fault::Memory),

@@ -1,4 +1,5 @@
 //! How far a command has read its file.
+use crate::system::System;
 use std::cell::Cell;
 use std::io::{self, Read};
 use std::rt::Clock;
@@ -12,20 +13,20 @@ const STEP: u64 = 8 * MEGABYTE;
 
 /// A reader that counts what is read, where that is asked for, and says on standard error how far it is, where that is
 /// watched. It takes its line back at the end.
-pub struct Progress<'r, 't, R: Clock + Eprint, F: Read + Drop> {
-    rt: &'r R,
+pub struct Progress<'r, 't, F: Read + Drop> {
+    rt: &'r System,
     reader: F,
     tally: &'t Cell<Tally>,
 }
 
-impl<'r, 't, R: Clock + Eprint, F: Read + Drop> Progress<'r, 't, R, F> {
+impl<'r, 't, F: Read + Drop> Progress<'r, 't, F> {
     /// A reader of which nothing was read yet, and what counts it.
-    pub fn new(rt: &'r R, reader: F, tally: &'t Cell<Tally>) -> Progress<'r, 't, R, F> {
+    pub fn new(rt: &'r System, reader: F, tally: &'t Cell<Tally>) -> Progress<'r, 't, F> {
         Progress { rt, reader, tally }
     }
 }
 
-impl<R: Clock + Eprint, F: Read + Drop> Read for Progress<'_, '_, R, F> {
+impl<F: Read + Drop> Read for Progress<'_, '_, F> {
     ghost remaining = { λ progress. F.remaining progress.reader };
 
     fn read(&mut self, buf: &mut [u8]) -> io::Result<usize> {
@@ -39,7 +40,7 @@ impl<R: Clock + Eprint, F: Read + Drop> Read for Progress<'_, '_, R, F> {
     }
 }
 
-impl<R: Clock + Eprint, F: Read + Drop> Drop for Progress<'_, '_, R, F> {
+impl<F: Read + Drop> Drop for Progress<'_, '_, F> {
     fn drop(self) {
         let Progress {
             rt,
@@ -80,7 +81,7 @@ pub struct Tally {
 impl Tally {
     /// Nothing was read yet of so many bytes, 0 where they are not known. Where there is no clock nothing is said or
     /// counted.
-    pub fn new<R: Clock>(rt: &R, length: u64, wanted: Wanted) -> Tally {
+    pub fn new(rt: &System, length: u64, wanted: Wanted) -> Tally {
         let (began, has_clock) = match rt.monotonic() {
             Ok(now) => (now, true),
             Err(_) => (Duration::ZERO, false),
@@ -108,7 +109,7 @@ impl Tally {
     }
 
     /// The time since the reading began, where there is a clock.
-    pub fn passed<R: Clock>(&self, rt: &R) -> Duration {
+    pub fn passed(&self, rt: &System) -> Duration {
         match rt.monotonic() {
             Ok(now) => now.saturating_sub(self.began),
             Err(_) => Duration::ZERO,
@@ -116,7 +117,7 @@ impl Tally {
     }
 
     // Counts the next bytes, and says so at each step.
-    fn pass<R: Clock + Eprint>(&mut self, rt: &R, bytes: &[u8]) {
+    fn pass(&mut self, rt: &System, bytes: &[u8]) {
         let lines = bytes.iter().filter(|byte| **byte == b'\n').count();
         self.lines = self.lines.saturating_add(lines as u64);
         self.read = self.read.saturating_add(bytes.len() as u64);
@@ -130,7 +131,7 @@ impl Tally {
     }
 
     // What standard error does with it is of no account.
-    fn say<R: Clock + Eprint>(&self, rt: &R) {
+    fn say(&self, rt: &System) {
         let rows = self.lines;
         let read = self.read / MEGABYTE;
         let length = self.length / MEGABYTE;

@@ -4,13 +4,13 @@
 //! the disk: under the name itself no other program ever finds a part of a report.
 use crate::exit::DONE;
 use crate::refusal::Refusal;
+use crate::system::System;
 use crate::watched::Watched;
 use clap::ArgMatches;
 use cube_model::Fault;
 use std::alloc::{AllocError, Global};
-use std::fs::{self, OpenFile, OpenOptions};
+use std::fs::{self, File, OpenOptions};
 use std::io::{self, BufWriter, ErrorKind};
-use std::rt::Files;
 
 /// A file that a report is written to, with why a write to it failed.
 pub type Saved<F> = Watched<BufWriter<F>>;
@@ -22,12 +22,12 @@ pub fn part_of(alloc: Global, path: &str) -> Result<String, AllocError> {
 
 /// Makes the file that a report is written to, unless it or the file that it becomes is there. With `--overwrite` the
 /// latter may be.
-pub fn begin<R: Files + AllocGlobal>(
-    rt: &R,
+pub fn begin(
+    rt: &System,
     given: &ArgMatches<'_>,
     path: &str,
     part: &str,
-) -> Result<Saved<R::File>, Refusal> {
+) -> Result<Saved<File>, Refusal> {
     if let Some(hint) = in_the_way(rt, given, path) {
         return Err(unsaved(format!(in rt.alloc(); "{path}: {hint}")));
     }
@@ -45,7 +45,7 @@ pub fn begin<R: Files + AllocGlobal>(
 }
 
 // Why a report cannot get the name of a file, where it cannot.
-fn in_the_way<R: Files>(rt: &R, given: &ArgMatches<'_>, path: &str) -> Option<&'static str> {
+fn in_the_way(rt: &System, given: &ArgMatches<'_>, path: &str) -> Option<&'static str> {
     match fs::symlink_metadata(rt, path) {
         Err(_) => None,
         Ok(_) if !given.get_flag("overwrite") => {
@@ -57,11 +57,7 @@ fn in_the_way<R: Files>(rt: &R, given: &ArgMatches<'_>, path: &str) -> Option<&'
 }
 
 // A file with a buffer. It is removed where there is no memory for that.
-fn buffered<R: Files + AllocGlobal>(
-    rt: &R,
-    part: &str,
-    file: R::File,
-) -> Result<Saved<R::File>, Refusal> {
+fn buffered(rt: &System, part: &str, file: File) -> Result<Saved<File>, Refusal> {
     match BufWriter::new(rt.alloc(), file) {
         Ok(out) => Ok(Watched::new(out)),
         Err(_) => {
@@ -72,7 +68,7 @@ fn buffered<R: Files + AllocGlobal>(
 }
 
 /// Gives a report that is whole its name, once it is on the disk, and gives the status of the program.
-pub fn finish<R: Files + AllocGlobal>(rt: &R, path: &str, part: &str) -> Result<u8, Refusal> {
+pub fn finish(rt: &System, path: &str, part: &str) -> Result<u8, Refusal> {
     match named(rt, path, part) {
         Ok(()) => Ok(DONE),
         Err(error) => {
@@ -82,13 +78,13 @@ pub fn finish<R: Files + AllocGlobal>(rt: &R, path: &str, part: &str) -> Result<
     }
 }
 
-fn named<R: Files>(rt: &R, path: &str, part: &str) -> io::Result<()> {
+fn named(rt: &System, path: &str, part: &str) -> io::Result<()> {
     fs::open(rt, part)?.sync_all()?;
     fs::rename(rt, part, path)
 }
 
 /// Removes what was written of a report that is not whole.
-pub fn remove<R: Files>(rt: &R, part: &str) {
+pub fn remove(rt: &System, part: &str) {
     let _removed = fs::remove_file(rt, part);
 }
 

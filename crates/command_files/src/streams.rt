@@ -1,6 +1,7 @@
 //! The handles of the three standard streams.
+use crate::system::System;
 use std::fs;
-use std::rt::Files;
+use std::fs::File;
 
 /// Handles that only read, which are held while the program runs.
 ///
@@ -16,7 +17,7 @@ pub struct Held<F> {
 }
 
 /// Takes the handles of the standard streams that are closed, where there are some.
-pub fn hold_streams<R: Files>(rt: &R) -> Held<R::File> {
+pub fn hold_streams(rt: &System) -> Held<File> {
     Held {
         first: fs::open(rt, "/").ok(),
         second: fs::open(rt, "/").ok(),

@@ -3,13 +3,14 @@ use crate::exit::DONE;
 use crate::output::{is_closed, unwritten};
 use crate::refusal::Refusal;
 use crate::saving::{cut_off, unsaved};
+use crate::system::System;
 use crate::table_paths::path_in;
 use crate::watched::Watched;
 use clap::ArgMatches;
 use cube_model::Fault;
 use std::fs;
+use std::fs::File;
 use std::io::{BufWriter, Write};
-use std::rt::Files;
 use table_hints::Table;
 
 /// What writes the lines of tables.
@@ -20,8 +21,8 @@ pub trait TableLines {
 
 /// Writes the files of some tables into a folder, and says so of each. Where one of them is there already none is
 /// written, unless `--overwrite` is given.
-pub fn save_tables<R: Files + AllocGlobal + Print, T: TableLines>(
-    rt: &R,
+pub fn save_tables<T: TableLines>(
+    rt: &System,
     given: &ArgMatches<'_>,
     folder: &str,
     tables: &[Table],
@@ -37,11 +38,7 @@ pub fn save_tables<R: Files + AllocGlobal + Print, T: TableLines>(
 }
 
 // Refuses to replace a file.
-fn keep_files<R: Files + AllocGlobal>(
-    rt: &R,
-    folder: &str,
-    tables: &[Table],
-) -> Result<(), Refusal> {
+fn keep_files(rt: &System, folder: &str, tables: &[Table]) -> Result<(), Refusal> {
     for table in tables {
         let path = path_in(rt.alloc(), folder, *table)?;
         if fs::metadata(rt, path.as_str()).is_ok() {
@@ -54,8 +51,8 @@ fn keep_files<R: Files + AllocGlobal>(
 }
 
 // Writes the file of a table, and says so.
-fn save_table<R: Files + AllocGlobal + Print, T: TableLines>(
-    rt: &R,
+fn save_table<T: TableLines>(
+    rt: &System,
     folder: &str,
     table: Table,
     lines: &mut T,
@@ -74,10 +71,10 @@ fn save_table<R: Files + AllocGlobal + Print, T: TableLines>(
 }
 
 // Writes the lines of a table to its file.
-fn write_file<R: Files + AllocGlobal, T: TableLines>(
-    rt: &R,
+fn write_file<T: TableLines>(
+    rt: &System,
     path: &str,
-    file: R::File,
+    file: File,
     table: Table,
     lines: &mut T,
 ) -> Result<(), Refusal> {

@@ -1,12 +1,12 @@
 //! How long a command took.
 use crate::progress::{Tally, Wanted, rate};
+use crate::system::System;
 use clap::ArgMatches;
 use std::fmt;
-use std::rt::Clock;
 use std::time::{CpuClock, Duration};
 
 /// The clock of a command that reads no file of fact rows.
-pub fn begin<R: Clock>(rt: &R) -> Tally {
+pub fn begin(rt: &System) -> Tally {
     let nothing = Wanted {
         progress: false,
         rows: false,
@@ -16,7 +16,7 @@ pub fn begin<R: Clock>(rt: &R) -> Tally {
 
 /// Says on standard error how many seconds a command has taken, and how many of CPU time, where it is asked to. What
 /// standard error does with it is of no account.
-pub fn say_seconds<R: Clock + CpuClock + Eprint>(rt: &R, given: &ArgMatches<'_>, tally: &Tally) {
+pub fn say_seconds(rt: &System, given: &ArgMatches<'_>, tally: &Tally) {
     if !given.get_flag("timing") {
         return;
     }
@@ -26,14 +26,14 @@ pub fn say_seconds<R: Clock + CpuClock + Eprint>(rt: &R, given: &ArgMatches<'_>,
 }
 
 /// Says on standard error how many rows and bytes a command reads, where it is asked to.
-pub fn say_read<R: Eprint>(rt: &R, given: &ArgMatches<'_>, rows: u64, bytes: u64) {
+pub fn say_read(rt: &System, given: &ArgMatches<'_>, rows: u64, bytes: u64) {
     if given.get_flag("timing") {
         let _said = eprintln!(rt; "rows read {rows}\nbytes read {bytes}");
     }
 }
 
 /// Says on standard error what a load has read, and how fast.
-pub fn say_summary<R: Clock + Eprint>(rt: &R, tally: &Tally) {
+pub fn say_summary(rt: &System, tally: &Tally) {
     let passed = tally.passed(rt);
     let rows = tally.rows();
     let rate = rate(rows, passed);

@@ -7,28 +7,20 @@ use command_files::exit::{DONE, NO_COMMAND};
 use command_files::files::{Reads, open_named};
 use command_files::output::{cut_short, output};
 use command_files::refusal::Refusal;
+use command_files::system::System;
 use command_files::table_refusals::{broken_hint, refused_tables, rows_over};
 use command_sessions::device::{self, Access, InFile};
 use command_sessions::explaining::explained;
 use command_sessions::job::met_in;
 use command_sessions::unfinished::note_unfinished;
 use cube_model::{DimRows, Fault};
-use file_device::LockFile;
 use sector_device::Sectors;
 use std::alloc::Global;
-use std::os::unix::fs::FileExt;
-use std::rt::{Clock, Files};
 use warehouse::Session;
 use warehouse_root::limits::MOST_ADDITIONS;
 
 /// Adds the rows of the files of the command to the dimensions of its warehouse, and says so.
-pub fn add<R: Files + AllocGlobal + Print + Eprint + Clock>(
-    rt: &R,
-    given: &ArgMatches<'_>,
-) -> Result<u8, Refusal>
-where
-    R::File: FileExt + LockFile,
-{
+pub fn add(rt: &System, given: &ArgMatches<'_>) -> Result<u8, Refusal> {
     let Some(number) = given.get_one::<u32>("number") else {
         return Ok(NO_COMMAND);
     };
@@ -40,7 +32,7 @@ where
 }
 
 // The rows of the tables that the command names. One that it does not name has none.
-fn rows_of<R: Files + AllocGlobal>(rt: &R, given: &ArgMatches<'_>) -> Result<DimRows, Refusal>
+fn rows_of(rt: &System, given: &ArgMatches<'_>) -> Result<DimRows, Refusal>
     ensures short { IfOk result HaveShortTexts }
 {
     let reads = Reads::new(None);
@@ -51,8 +43,8 @@ fn rows_of<R: Files + AllocGlobal>(rt: &R, given: &ArgMatches<'_>) -> Result<Dim
 }
 
 // Adds rows to the dimensions of an open warehouse, and prints that it is done.
-fn print_addition<R: Files + AllocGlobal + Print + Eprint, D: Sectors + InFile>(
-    rt: &R,
+fn print_addition<D: Sectors + InFile>(
+    rt: &System,
     given: &ArgMatches<'_>,
     session: &mut Session<D>,
     number: u32,
@@ -72,8 +64,8 @@ fn print_addition<R: Files + AllocGlobal + Print + Eprint, D: Sectors + InFile>(
 }
 
 // The refusal of an addition with a number, and its cause where that can be found out.
-fn refused<R: Files + AllocGlobal + Eprint, D: Sectors + InFile>(
-    rt: &R,
+fn refused<D: Sectors + InFile>(
+    rt: &System,
     given: &ArgMatches<'_>,
     session: &Session<D>,
     number: u32,

@@ -8,7 +8,7 @@ use std::io::ErrorKind;
 const MOST_BYTES: usize = 4096;
 
 /// The words that the program was started with, the first of them its name. One that is not UTF-8 is refused and named.
-pub fn words<R: AllocGlobal + Env>(rt: &R) -> Result<Vec<String>, Refusal> {
+pub fn words(rt: &HostRuntime) -> Result<Vec<String>, Refusal> {
     match env::args(rt) {
         Ok(arguments) => Ok(arguments.collect(rt.alloc())?),
         Err(error) if error.kind() == ErrorKind::OutOfMemory => Err(Refusal::from(Fault::Memory)),
@@ -20,7 +20,7 @@ pub fn words<R: AllocGlobal + Env>(rt: &R) -> Result<Vec<String>, Refusal> {
 }
 
 // The first word that is not UTF-8.
-fn odd_word<R: AllocGlobal + Env>(rt: &R) -> Option<String> {
+fn odd_word(rt: &HostRuntime) -> Option<String> {
     let mut bytes = [0; MOST_BYTES];
     for i in 0..usize::MAX {
         match rt.arg(i, &mut bytes) {

@@ -4,28 +4,19 @@ use command_files::exit::exit_of;
 use command_files::output::{cut_short, output};
 use command_files::refusal::Refusal;
 use command_files::screens::Screens;
+use command_files::system::System;
 use command_sessions::course::{Cleared, Errand, Watch, begin_errand, course_of, take_back};
 use command_sessions::device::{self, Access, InFile};
 use command_sessions::explaining::explained;
 use command_sessions::job::met_in;
 use command_sessions::unfinished::note_unfinished;
 use cube_model::Fault;
-use file_device::LockFile;
 use sector_device::Sectors;
-use std::os::unix::fs::FileExt;
-use std::rt::{Clock, Files};
 use warehouse::Session;
 
 /// Checks all that is stored of the warehouse of a command, and gives the status of the program: 0 where nothing is
 /// wrong, else 1. It says on a terminal how far it is.
-pub fn check<R: Files + AllocGlobal + Print + Eprint + Clock>(
-    rt: &R,
-    given: &ArgMatches<'_>,
-    screens: Screens,
-) -> Result<u8, Refusal>
-where
-    R::File: FileExt + LockFile,
-{
+pub fn check(rt: &System, given: &ArgMatches<'_>, screens: Screens) -> Result<u8, Refusal> {
     let course = course_of(rt, given, screens);
     match device::open_watched(rt, given, Access::Read, course.as_ref()) {
         Ok(mut session) => print_check(rt, given, &mut session, course.as_ref()),
@@ -34,8 +25,8 @@ where
 }
 
 // Prints whether all that is stored of an open warehouse is right, or what is not.
-fn print_check<R: Files + AllocGlobal + Print + Eprint + Clock, D: Sectors + InFile>(
-    rt: &R,
+fn print_check<D: Sectors + InFile>(
+    rt: &System,
     given: &ArgMatches<'_>,
     session: &mut Session<D>,
     watch: Watch<'_>,

@@ -4,6 +4,7 @@ use clap::ArgMatches;
 use command_files::refusal::Refusal;
 use command_files::screens::Screens;
 use command_files::sizes::sectors_in;
+use command_files::system::System;
 use command_files::texts::print_text;
 use command_sessions::contents::{Contents, contents_of};
 use command_sessions::course::{Errand, Watch, begin_errand, course_of, take_back};
@@ -12,21 +13,11 @@ use command_sessions::device_hints::wanted_hint;
 use command_sessions::explaining::{Met, explained};
 use command_sessions::job::met_in;
 use cube_model::Fault;
-use file_device::LockFile;
 use sector_device::Sectors;
-use std::os::unix::fs::FileExt;
-use std::rt::{Clock, Files};
 use warehouse::Session;
 
 /// Copies the warehouse of a command to another file, and says so. It says on a terminal how far it is.
-pub fn copy<R: Files + AllocGlobal + Print + Eprint + Clock>(
-    rt: &R,
-    given: &ArgMatches<'_>,
-    screens: Screens,
-) -> Result<u8, Refusal>
-where
-    R::File: FileExt + LockFile,
-{
+pub fn copy(rt: &System, given: &ArgMatches<'_>, screens: Screens) -> Result<u8, Refusal> {
     let sectors = match given.get_str("sectors") {
         None => None,
         Some(word) => match sectors_in(word) {
@@ -42,16 +33,13 @@ where
 }
 
 // Copies an open warehouse to a file of so many sectors, or of as many as it has.
-fn copy_to_file<R: Files + AllocGlobal + Print + Eprint + Clock, D: Sectors + InFile>(
-    rt: &R,
+fn copy_to_file<D: Sectors + InFile>(
+    rt: &System,
     given: &ArgMatches<'_>,
     session: &mut Session<D>,
     sectors: Option<u32>,
     watch: Watch<'_>,
-) -> Result<u8, Refusal>
-where
-    R::File: FileExt + LockFile,
-{
+) -> Result<u8, Refusal> {
     let sectors = sectors.unwrap_or(session.device().count());
     let path = given.get_str("new").unwrap_or("");
     begin_errand(rt, watch, session, Errand::Copy);
@@ -70,7 +58,7 @@ where
 }
 
 // The refusal of the file of a copy.
-fn not_copied<R: Files + AllocGlobal>(rt: &R, path: &str, sectors: u32, met: Met) -> Refusal {
+fn not_copied(rt: &System, path: &str, sectors: u32, met: Met) -> Refusal {
     let hint = match copy_hint(rt, path, sectors, met) {
         Ok(hint) => hint,
         Err(_) => None,
@@ -82,12 +70,7 @@ fn not_copied<R: Files + AllocGlobal>(rt: &R, path: &str, sectors: u32, met: Met
 }
 
 // Why a file cannot be the copy of a warehouse.
-fn copy_hint<R: Files + AllocGlobal>(
-    rt: &R,
-    path: &str,
-    sectors: u32,
-    met: Met,
-) -> Result<Option<String>, Fault> {
+fn copy_hint(rt: &System, path: &str, sectors: u32, met: Met) -> Result<Option<String>, Fault> {
     let why = match (met.fault, met.failure) {
         (Fault::DeviceSize, _) => return wanted_hint(rt, path, sectors),
         (Fault::AlreadyFormatted, _) if contents_of(rt, path) == Contents::Warehouse => {

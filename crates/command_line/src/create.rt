@@ -7,18 +7,16 @@ use command_files::files::{Reads, first_error, open_again, open_dimensions};
 use command_files::output::unwritten;
 use command_files::refusal::Refusal;
 use command_files::sizes::sectors_in;
+use command_files::system::System;
 use command_files::table_refusals::{broken_hint, refused_tables, rows_over};
 use command_sessions::device;
 use command_sessions::explaining::{Met, explained};
 use command_sessions::space::{rows_of, sectors_for};
 use cube_model::{DimRows, Fault};
 use dimensions::Dims;
-use file_device::{Existing, LockFile};
+use file_device::Existing;
 use std::alloc::{AllocError, Global};
-use std::fs::OpenFile;
 use std::io::ErrorKind;
-use std::os::unix::fs::FileExt;
-use std::rt::{Clock, Files};
 use warehouse::Layout;
 
 /// How large a warehouse is to be.
@@ -30,13 +28,7 @@ enum Size {
 }
 
 /// Reads the dimension tables, makes the warehouse, and says so.
-pub fn create<R: Files + AllocGlobal + Print + Eprint + Clock>(
-    rt: &R,
-    given: &ArgMatches<'_>,
-) -> Result<u8, Refusal>
-where
-    R::File: FileExt + LockFile,
-{
+pub fn create(rt: &System, given: &ArgMatches<'_>) -> Result<u8, Refusal> {
     let Some(size) = size_of(rt, given)? else {
         return unsized_file(rt, given);
     };
@@ -49,10 +41,7 @@ where
 }
 
 // The size that the command asks for. Nothing where its word for the sectors is none.
-fn size_of<R: Files + AllocGlobal>(
-    rt: &R,
-    given: &ArgMatches<'_>,
-) -> Result<Option<Size>, Refusal> {
+fn size_of(rt: &System, given: &ArgMatches<'_>) -> Result<Option<Size>, Refusal> {
     if let Some(path) = given.get_str("for") {
         return Ok(Some(Size::Rows(rows_in(rt, path)?)));
     }
@@ -66,7 +55,7 @@ fn size_of<R: Files + AllocGlobal>(
 }
 
 // How many rows a fact table has, about.
-fn rows_in<R: Files + AllocGlobal>(rt: &R, path: &str) -> Result<u64, Refusal> {
+fn rows_in(rt: &System, path: &str) -> Result<u64, Refusal> {
     let alloc = rt.alloc();
     let Some(file) = open_again(rt, path) else {
         return Err(match first_error(rt, path) {
@@ -92,7 +81,7 @@ fn unread(hint: Result<String, AllocError>) -> Refusal {
 }
 
 /// Says that the word for the sectors is none.
-pub fn unsized_file<R: Eprint>(rt: &R, given: &ArgMatches<'_>) -> Result<u8, Refusal> {
+pub fn unsized_file(rt: &System, given: &ArgMatches<'_>) -> Result<u8, Refusal> {
     let word = given.get_str("sectors").unwrap_or("");
     let said = eprintln!(rt;
         "error: invalid value '{word}' for '--sectors <N>': 64 to 4294967295, or a size such as 512M or 4G\n\nFor more information, try '--help'."
@@ -104,14 +93,7 @@ pub fn unsized_file<R: Eprint>(rt: &R, given: &ArgMatches<'_>) -> Result<u8, Ref
 }
 
 // Makes a warehouse of a size, and gives how many sectors it has.
-fn make<R: Files + AllocGlobal + Eprint + Clock>(
-    rt: &R,
-    given: &ArgMatches<'_>,
-    size: Size,
-) -> Result<u32, Refusal>
-where
-    R::File: FileExt + LockFile,
-{
+fn make(rt: &System, given: &ArgMatches<'_>, size: Size) -> Result<u32, Refusal> {
     let dims = read(rt, given)?;
     let sectors = sectors_of(rt.alloc(), size, &dims)?;
     let path = device::path_of(given);
@@ -158,7 +140,7 @@ fn existing(given: &ArgMatches<'_>) -> Existing {
 }
 
 // Reads the dimension tables.
-fn read<R: Files + AllocGlobal>(rt: &R, given: &ArgMatches<'_>) -> Result<Dims, Refusal> {
+fn read(rt: &System, given: &ArgMatches<'_>) -> Result<Dims, Refusal> {
     let alloc = rt.alloc();
     let reads = Reads::new(None);
     match open_dimensions(rt, given, &reads) {

@@ -6,6 +6,7 @@ use command_files::output::output;
 use command_files::records::{format_of, view_cells};
 use command_files::refusal::Refusal;
 use command_files::screens::Screens;
+use command_files::system::System;
 use command_files::texts::print_text;
 use command_sessions::course::{Cleared, Errand, Watch, begin_errand, course_of, take_back};
 use command_sessions::device::{self, Access, InFile};
@@ -13,15 +14,12 @@ use command_sessions::explaining::explained;
 use command_sessions::job::{ended, met_in, perform_job};
 use command_sessions::unfinished::note_unfinished;
 use cube_model::Fault;
-use file_device::LockFile;
 use lattice::View;
 use record_formats::{Cell, Records};
 use report_formats::Format;
 use sector_device::Sectors;
 use std::alloc::{AllocError, Global};
 use std::io;
-use std::os::unix::fs::FileExt;
-use std::rt::{Clock, Files};
 use warehouse::{Chosen, MOST_CUBOIDS, Session};
 use warehouse_jobs::{Job, perform};
 
@@ -31,13 +29,7 @@ const FIELDS: [&str; 7] = [
 ];
 
 /// Chooses the cuboids of a warehouse, for the queries of a file if one is named, and prints them.
-pub fn choose<R: Files + AllocGlobal + Print + Eprint + Clock + Input>(
-    rt: &R,
-    given: &ArgMatches<'_>,
-) -> Result<u8, Refusal>
-where
-    R::File: FileExt + LockFile,
-{
+pub fn choose(rt: &System, given: &ArgMatches<'_>) -> Result<u8, Refusal> {
     let Some(views) = given.get_one::<u8>("views") else {
         return Ok(NO_COMMAND);
     };
@@ -64,16 +56,13 @@ fn job_of(k: u8, demanded: Option<Vec<View>>) -> Job {
 }
 
 // Chooses the cuboids of the warehouse of a command, and prints them as records.
-fn choose_as<R: Files + AllocGlobal + Print + Eprint + Clock>(
-    rt: &R,
+fn choose_as(
+    rt: &System,
     given: &ArgMatches<'_>,
     format: Format,
     k: u8,
     demanded: Option<Vec<View>>,
-) -> Result<u8, Refusal>
-where
-    R::File: FileExt + LockFile,
-{
+) -> Result<u8, Refusal> {
     match device::open(rt, given, Access::Commit) {
         Ok(mut session) => choose_in(rt, given, &mut session, format, k, demanded),
         Err(met) => Err(explained(rt, given, met)),
@@ -82,8 +71,8 @@ where
 
 // Chooses the cuboids of an open warehouse, and prints them as records. The room for these is taken after the choice,
 // which stays.
-fn choose_in<R: Files + AllocGlobal + Print + Eprint, D: Sectors + InFile>(
-    rt: &R,
+fn choose_in<D: Sectors + InFile>(
+    rt: &System,
     given: &ArgMatches<'_>,
     session: &mut Session<D>,
     format: Format,
@@ -131,14 +120,7 @@ fn with_limit(alloc: Global, refusal: Refusal, views: u8) -> Refusal {
 }
 
 /// Brings the stored cuboids of the warehouse of a command to all batches. It says on a terminal how far it is.
-pub fn upkeep<R: Files + AllocGlobal + Print + Eprint + Clock>(
-    rt: &R,
-    given: &ArgMatches<'_>,
-    screens: Screens,
-) -> Result<u8, Refusal>
-where
-    R::File: FileExt + LockFile,
-{
+pub fn upkeep(rt: &System, given: &ArgMatches<'_>, screens: Screens) -> Result<u8, Refusal> {
     let course = course_of(rt, given, screens);
     match device::open_watched(rt, given, Access::Commit, course.as_ref()) {
         Ok(mut session) => keep_up(rt, given, &mut session, course.as_ref()),
@@ -147,8 +129,8 @@ where
 }
 
 // Brings the stored cuboids of an open warehouse to all batches, with a note where an upkeep is not finished.
-fn keep_up<R: Files + AllocGlobal + Print + Eprint + Clock, D: Sectors + InFile>(
-    rt: &R,
+fn keep_up<D: Sectors + InFile>(
+    rt: &System,
     given: &ArgMatches<'_>,
     session: &mut Session<D>,
     watch: Watch<'_>,

@@ -2,10 +2,10 @@
 use command_files::listed::{ListedQuery, bad_list, list_name, listed_queries};
 use command_files::query::modes_hint;
 use command_files::refusal::Refusal;
+use command_files::system::System;
 use cube_model::Query;
 use lattice::View;
 use std::alloc::{AllocError, Global};
-use std::rt::Files;
 use warehouse::MOST_DEMANDED;
 
 /// What the queries of a list need.
@@ -42,10 +42,7 @@ impl Demand {
 
 /// The views that the queries of a file need, as often as they count. `-` is standard input. A note on standard error
 /// names each line whose query no cuboid serves.
-pub fn demanded<R: Files + AllocGlobal + Eprint + Input>(
-    rt: &R,
-    path: &str,
-) -> Result<Vec<View>, Refusal> {
+pub fn demanded(rt: &System, path: &str) -> Result<Vec<View>, Refusal> {
     let name = list_name(path);
     let listed = listed_queries(rt, path)?;
     let demand = demand_of(rt.alloc(), name, listed.as_slice())?;

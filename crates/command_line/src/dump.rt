@@ -3,31 +3,23 @@ use clap::ArgMatches;
 use command_files::exit::DONE;
 use command_files::output::{cut_short, output};
 use command_files::refusal::Refusal;
+use command_files::system::System;
 use command_files::table_files::{TableLines, save_tables};
 use command_sessions::device::{self, Access, InFile};
 use command_sessions::explaining::explained;
 use command_sessions::job::met_in;
 use cube_model::{Axis, Fault};
-use file_device::LockFile;
 use sector_device::Sectors;
 use ssb_reports::flush;
 use std::alloc::Global;
 use std::io::Write;
-use std::os::unix::fs::FileExt;
-use std::rt::{Clock, Files};
 use table_hints::Table;
 use table_texts::write_dimension;
 use warehouse::Session;
 use warehouse_dump::{write_batch, write_batches};
 
 /// Prints the fact rows of the warehouse of a command as lines of their table, or writes all five tables into a folder.
-pub fn dump<R: Files + AllocGlobal + Print + Eprint + Clock>(
-    rt: &R,
-    given: &ArgMatches<'_>,
-) -> Result<u8, Refusal>
-where
-    R::File: FileExt + LockFile,
-{
+pub fn dump(rt: &System, given: &ArgMatches<'_>) -> Result<u8, Refusal> {
     match device::open(rt, given, Access::Read) {
         Ok(mut session) => match given.get_str("tables") {
             None => print_facts(rt, given, &mut session),
@@ -38,8 +30,8 @@ where
 }
 
 // Prints the fact rows of an open warehouse.
-fn print_facts<R: Files + AllocGlobal + Print + Eprint, D: Sectors + InFile>(
-    rt: &R,
+fn print_facts<D: Sectors + InFile>(
+    rt: &System,
     given: &ArgMatches<'_>,
     session: &mut Session<D>,
 ) -> Result<u8, Refusal> {
@@ -53,8 +45,8 @@ fn print_facts<R: Files + AllocGlobal + Print + Eprint, D: Sectors + InFile>(
 }
 
 // The refusal of rows that are not written.
-fn undumped<R: Files + AllocGlobal + Eprint, D: Sectors + InFile>(
-    rt: &R,
+fn undumped<D: Sectors + InFile>(
+    rt: &System,
     given: &ArgMatches<'_>,
     session: &Session<D>,
     fault: Fault,
@@ -71,8 +63,8 @@ fn undumped<R: Files + AllocGlobal + Eprint, D: Sectors + InFile>(
 }
 
 // Writes the tables of an open warehouse into a folder.
-fn dump_tables<R: Files + AllocGlobal + Print, D: Sectors>(
-    rt: &R,
+fn dump_tables<D: Sectors>(
+    rt: &System,
     given: &ArgMatches<'_>,
     session: &mut Session<D>,
     folder: &str,

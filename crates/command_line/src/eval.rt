@@ -7,6 +7,7 @@ use command_files::progress::{Progress, Tally, Wanted};
 use command_files::refusal::Refusal;
 use command_files::saving::{begin, cut_off, finish, part_of, remove};
 use command_files::screens::Screens;
+use command_files::system::System;
 use command_files::table_refusals::{Star, refused_tables, star_hint};
 use command_files::timing::{say_read, say_seconds};
 use command_sessions::notes::note_report;
@@ -16,18 +17,12 @@ use dimensions::Dims;
 use ssb_eval::{Tables, eval_formatted, eval_partial};
 use std::alloc::Global;
 use std::cell::Cell;
-use std::fs::OpenFile;
+use std::fs::{File, OpenFile};
 use std::io::{self, Read};
-use std::rt::{Clock, Files};
-use std::time::CpuClock;
 use table_hints::Table;
 
 /// Reads the query's words, opens the files in the order of the command, and writes the report.
-pub fn eval<R: Files + AllocGlobal + Print + Eprint + Clock + CpuClock>(
-    rt: &R,
-    given: &ArgMatches<'_>,
-    screens: Screens,
-) -> Result<u8, Refusal> {
+pub fn eval(rt: &System, given: &ArgMatches<'_>, screens: Screens) -> Result<u8, Refusal> {
     let reads = Reads::new(None);
     match opened(rt, given, &reads) {
         Ok((asked, dimensions, lineorder)) => {
@@ -60,8 +55,8 @@ fn tables_over<F: Read + Drop, L: Read + Drop>(
 }
 
 // What counts the rows of a file of which nothing was read yet.
-fn tally_of<R: Clock, F: OpenFile>(
-    rt: &R,
+fn tally_of<F: OpenFile>(
+    rt: &System,
     given: &ArgMatches<'_>,
     lineorder: &F,
     screens: Screens,
@@ -79,8 +74,8 @@ fn tally_of<R: Clock, F: OpenFile>(
 
 // Writes a report over its tables to where the words have it go, and the notes on its conditions. It gives the status
 // of the program.
-fn answer<R: Files + AllocGlobal + Print + Eprint, F: Read + Drop, L: Read + Drop>(
-    rt: &R,
+fn answer<F: Read + Drop, L: Read + Drop>(
+    rt: &System,
     given: &ArgMatches<'_>,
     asked: &Reports,
     tables: Star<F, L>,
@@ -93,8 +88,8 @@ fn answer<R: Files + AllocGlobal + Print + Eprint, F: Read + Drop, L: Read + Dro
 }
 
 // Prints a report. A line that says how far it is goes with the tables, before a note comes.
-fn print_report<R: Files + AllocGlobal + Print + Eprint, F: Read + Drop, L: Read + Drop>(
-    rt: &R,
+fn print_report<F: Read + Drop, L: Read + Drop>(
+    rt: &System,
     given: &ArgMatches<'_>,
     asked: &Reports,
     tables: Star<F, L>,
@@ -114,8 +109,8 @@ fn print_report<R: Files + AllocGlobal + Print + Eprint, F: Read + Drop, L: Read
 }
 
 // Saves a report in a file.
-fn save_report<R: Files + AllocGlobal + Eprint, F: Read + Drop, L: Read + Drop>(
-    rt: &R,
+fn save_report<F: Read + Drop, L: Read + Drop>(
+    rt: &System,
     given: &ArgMatches<'_>,
     asked: &Reports,
     tables: Star<F, L>,
@@ -158,15 +153,15 @@ fn refused<F: Read + Drop, L: Read + Drop>(
 }
 
 // The report that is asked for, and the files of its tables.
-fn opened<'k, R: Files + AllocGlobal>(
-    rt: &R,
+fn opened<'k>(
+    rt: &System,
     given: &ArgMatches<'_>,
     reads: &'k Reads,
 ) -> Result<
     (
         Reports,
-        DimensionFiles<GivenFile<'k, R::File>>,
-        GivenFile<'k, R::File>,
+        DimensionFiles<GivenFile<'k, File>>,
+        GivenFile<'k, File>,
     ),
     Refusal,
 > {
@@ -178,17 +173,11 @@ fn opened<'k, R: Files + AllocGlobal>(
 }
 
 // The files of the tables, in the order of the command.
-fn tables_of<'k, R: Files + AllocGlobal>(
-    rt: &R,
+fn tables_of<'k>(
+    rt: &System,
     given: &ArgMatches<'_>,
     reads: &'k Reads,
-) -> Result<
-    (
-        DimensionFiles<GivenFile<'k, R::File>>,
-        GivenFile<'k, R::File>,
-    ),
-    Fault,
-> {
+) -> Result<(DimensionFiles<GivenFile<'k, File>>, GivenFile<'k, File>), Fault> {
     let dimensions = open_dimensions(rt, given, reads)?;
     let lineorder = open(rt, given, Table::Lineorder, reads)?;
     Ok((dimensions, lineorder))

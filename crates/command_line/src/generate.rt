@@ -2,10 +2,10 @@
 use clap::ArgMatches;
 use command_files::exit::NO_COMMAND;
 use command_files::refusal::Refusal;
+use command_files::system::System;
 use command_files::table_files::{TableLines, save_tables};
 use cube_model::Fault;
 use std::io::Write;
-use std::rt::Files;
 use table_generator::{
     Random, Scale, write_customers, write_dates, write_lineorders, write_parts, write_suppliers,
 };
@@ -15,10 +15,7 @@ use table_hints::Table;
 const SEED: u64 = 1;
 
 /// Writes the five tables of a scale into a folder, and says so of each.
-pub fn generate<R: Files + AllocGlobal + Print + Eprint>(
-    rt: &R,
-    given: &ArgMatches<'_>,
-) -> Result<u8, Refusal> {
+pub fn generate(rt: &System, given: &ArgMatches<'_>) -> Result<u8, Refusal> {
     let word = given.get_str("scale").unwrap_or("");
     let Some(scale) = Scale::of_text(word) else {
         return no_scale(rt, word);
@@ -32,7 +29,7 @@ pub fn generate<R: Files + AllocGlobal + Print + Eprint>(
 }
 
 // Says that a word is no scale.
-fn no_scale<R: Eprint>(rt: &R, word: &str) -> Result<u8, Refusal> {
+fn no_scale(rt: &System, word: &str) -> Result<u8, Refusal> {
     let said = eprintln!(rt;
         "error: invalid value '{word}' for '--scale <S>': 0.01 to 100, with at most two digits after the point\n\nFor more information, try '--help'."
     );

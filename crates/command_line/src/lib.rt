@@ -1,4 +1,4 @@
-//! The commands of the program, over any system of files and streams.
+//! The commands of the program.
 #![tactic(auto)]
 
 mod add;
@@ -24,5 +24,5 @@ mod views;
 pub use arguments::words;
 pub use command_files::refusal::Refusal;
 pub use command_files::screens::Screens;
-pub use file_device::LockFile;
+pub use command_files::system::System;
 pub use running::{refuse, run};

@@ -8,6 +8,7 @@ use command_files::output::{is_closed, output, unwritten};
 use command_files::progress::{Progress, Tally, Wanted};
 use command_files::refusal::Refusal;
 use command_files::screens::Screens;
+use command_files::system::{Stdin, System};
 use command_files::table_paths::{count_inputs, is_standard_input, loaded_paths};
 use command_files::timing::say_summary;
 use command_sessions::device::{self, Access, InFile};
@@ -16,13 +17,11 @@ use command_sessions::space::{note_room, rows_in_all};
 use command_sessions::unfinished::note_unfinished;
 use cube_model::Fault;
 use cube_model::limits::MOST_BATCH_ROWS;
-use file_device::LockFile;
 use sector_device::Sectors;
 use std::alloc::{AllocError, Global};
 use std::cell::Cell;
+use std::fs::File;
 use std::io::{self, Read};
-use std::os::unix::fs::FileExt;
-use std::rt::{Clock, Files};
 use table_hints::Cut;
 use warehouse::Session;
 use warehouse_jobs::{BatchNumber, BatchRows, LoadText};
@@ -48,14 +47,7 @@ pub struct LoadPlan {
 }
 
 /// Loads the files of the command. Where the batches are printed to a terminal, they say themselves how far it is.
-pub fn load<R: Files + AllocGlobal + Print + Eprint + Clock + Input>(
-    rt: &R,
-    given: &ArgMatches<'_>,
-    screens: Screens,
-) -> Result<u8, Refusal>
-where
-    R::File: FileExt + LockFile,
-{
+pub fn load(rt: &System, given: &ArgMatches<'_>, screens: Screens) -> Result<u8, Refusal> {
     let paths = loaded_paths(given).unwrap_or(&[]);
     if count_inputs(paths) > 1 {
         return several_inputs(rt);
@@ -66,8 +58,8 @@ where
     }
 }
 
-fn plan_of<R: Files + AllocGlobal>(
-    rt: &R,
+fn plan_of(
+    rt: &System,
     given: &ArgMatches<'_>,
     paths: &[&str],
 ) -> Result<Option<LoadPlan>, AllocError> {
@@ -101,16 +93,13 @@ fn line_counts(alloc: Global, files: usize) -> Result<Vec<Cell<u64>>, AllocError
 }
 
 // Opens files, and loads them. Where one cannot be opened or read, the refusal says what the system said of it.
-fn load_files<R: Files + AllocGlobal + Print + Eprint + Clock + Input>(
-    rt: &R,
+fn load_files(
+    rt: &System,
     given: &ArgMatches<'_>,
     paths: &[&str],
     plan: &LoadPlan,
     screens: Screens,
-) -> Result<u8, Refusal>
-where
-    R::File: FileExt + LockFile,
-{
+) -> Result<u8, Refusal> {
     let reads = Reads::new(None);
     let done = match open_each(rt, paths, &reads) {
         Ok(sources) => load_sources(rt, given, plan, sources, screens),
@@ -126,16 +115,13 @@ where
 }
 
 // Loads files that were opened, and says how long it took where a person reads that.
-fn load_sources<R: Files + AllocGlobal + Print + Eprint + Clock, F: Read + Drop>(
-    rt: &R,
+fn load_sources<F: Read + Drop>(
+    rt: &System,
     given: &ArgMatches<'_>,
     plan: &LoadPlan,
     sources: Vec<F>,
     screens: Screens,
-) -> Result<u8, Refusal>
-where
-    R::File: FileExt + LockFile,
-{
+) -> Result<u8, Refusal> {
     let shows = screens.errors && !given.get_flag("quiet");
     let wanted = Wanted {
         progress: shows && !screens.output,
@@ -152,15 +138,12 @@ where
 }
 
 // Loads a text into the warehouse of a command.
-fn load_text<R: Files + AllocGlobal + Print + Eprint + Clock, L: Read + Drop>(
-    rt: &R,
+fn load_text<L: Read + Drop>(
+    rt: &System,
     given: &ArgMatches<'_>,
     plan: &LoadPlan,
     text: L,
-) -> Result<u8, Refusal>
-where
-    R::File: FileExt + LockFile,
-{
+) -> Result<u8, Refusal> {
     match device::open(rt, given, Access::Commit) {
         Ok(mut session) => load_into(rt, given, plan, &mut session, text),
         Err(met) => Err(explained(rt, given, met)),
@@ -168,8 +151,8 @@ where
 }
 
 // Loads a text into an open warehouse, with a note where it has no room, and one where an upkeep is not finished.
-fn load_into<R: Files + AllocGlobal + Print + Eprint, L: Read + Drop, D: Sectors + InFile>(
-    rt: &R,
+fn load_into<L: Read + Drop, D: Sectors + InFile>(
+    rt: &System,
     given: &ArgMatches<'_>,
     plan: &LoadPlan,
     session: &mut Session<D>,
@@ -184,8 +167,8 @@ fn load_into<R: Files + AllocGlobal + Print + Eprint, L: Read + Drop, D: Sectors
 }
 
 // Loads a text into an open warehouse. A line that says how far it is goes with the text, before a note comes.
-fn load_batches<R: Files + AllocGlobal + Print + Eprint, L: Read + Drop, D: Sectors + InFile>(
-    rt: &R,
+fn load_batches<L: Read + Drop, D: Sectors + InFile>(
+    rt: &System,
     given: &ArgMatches<'_>,
     plan: &LoadPlan,
     session: &mut Session<D>,
@@ -218,7 +201,7 @@ fn not_written(alloc: Global, failure: Option<io::Error>) -> Result<u8, Refusal>
 }
 
 /// Says that standard input is given more than once.
-pub fn several_inputs<R: Eprint>(rt: &R) -> Result<u8, Refusal> {
+pub fn several_inputs(rt: &System) -> Result<u8, Refusal> {
     let said = eprintln!(rt;
         "error: invalid value '-' for '<FILE>...': standard input can be read once, so give - once\n\nFor more information, try '--help'."
     );
@@ -229,11 +212,11 @@ pub fn several_inputs<R: Eprint>(rt: &R) -> Result<u8, Refusal> {
 }
 
 /// Opens files in order.
-pub fn open_each<'k, R: Files + AllocGlobal + Input>(
-    rt: &R,
+pub fn open_each<'k>(
+    rt: &System,
     paths: &[&str],
     reads: &'k Reads,
-) -> Result<Vec<GivenFile<'k, Source<R::File, R::Reader>>>, Fault> {
+) -> Result<Vec<GivenFile<'k, Source<File, Stdin>>>, Fault> {
     let mut sources = Vec::new(rt.alloc());
     for (place, path) in paths.iter().enumerate() {
         let source = if is_standard_input(path) {

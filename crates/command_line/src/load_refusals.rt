@@ -4,6 +4,7 @@ use clap::ArgMatches;
 use command_files::locating::{LineAt, in_line, line_of, located};
 use command_files::refusal::Refusal;
 use command_files::repeated::{StoredBatch, repeated_hint};
+use command_files::system::System;
 use command_files::table_paths::table_name;
 use command_files::table_refusals::key_for;
 use command_sessions::device::InFile;
@@ -14,7 +15,6 @@ use sector_device::Sectors;
 use ssb_eval::UnknownKey;
 use std::alloc::Global;
 use std::io::Read;
-use std::rt::Files;
 use table_hints::{
     KeyAt, Needs, Table, limit_hint, line_hint, loaded_key_hint, number_hint, refused_mode,
 };
@@ -23,8 +23,8 @@ use warehouse_jobs::LoadText;
 
 /// The refusal of a load after so many batches that were done, with what its text kept of it, or else with what the
 /// warehouse shows.
-pub fn refused<R: Files + AllocGlobal + Eprint, L: Read + Drop, D: Sectors + InFile>(
-    rt: &R,
+pub fn refused<L: Read + Drop, D: Sectors + InFile>(
+    rt: &System,
     given: &ArgMatches<'_>,
     plan: &LoadPlan,
     session: &Session<D>,

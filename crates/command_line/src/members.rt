@@ -4,28 +4,20 @@ use command_files::exit::DONE;
 use command_files::output::{cut_short, output};
 use command_files::query::{plain_query, refusal_of};
 use command_files::refusal::{Refusal, bad_query};
+use command_files::system::System;
 use command_sessions::device::{self, Access, InFile};
 use command_sessions::explaining::explained;
 use command_sessions::job::met_in;
 use cube_model::{Attr, Fault};
-use file_device::LockFile;
 use member_lists::write_members;
 use query_words::{QueryWords, read_query};
 use sector_device::Sectors;
 use std::alloc::Global;
 use std::io::Write;
-use std::os::unix::fs::FileExt;
-use std::rt::{Clock, Files};
 use warehouse::Session;
 
 /// Lists the members of an attribute of the warehouse of a command.
-pub fn members<R: Files + AllocGlobal + Print + Eprint + Clock>(
-    rt: &R,
-    given: &ArgMatches<'_>,
-) -> Result<u8, Refusal>
-where
-    R::File: FileExt + LockFile,
-{
+pub fn members(rt: &System, given: &ArgMatches<'_>) -> Result<u8, Refusal> {
     let name = given.get_str("attribute").unwrap_or("");
     let attr = attribute(rt.alloc(), name)?;
     match device::open(rt, given, Access::Read) {
@@ -52,8 +44,8 @@ fn attribute(alloc: Global, name: &str) -> Result<Attr, Refusal> {
 }
 
 // Prints the members of an attribute of an open warehouse.
-fn print_members<R: Files + AllocGlobal + Print + Eprint, D: Sectors + InFile>(
-    rt: &R,
+fn print_members<D: Sectors + InFile>(
+    rt: &System,
     given: &ArgMatches<'_>,
     session: &Session<D>,
     attr: Attr,

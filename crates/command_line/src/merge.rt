@@ -7,6 +7,7 @@ use command_files::layout::{arrangement_of, bad_order, layout_of};
 use command_files::output::{cut_short, output};
 use command_files::refusal::Refusal;
 use command_files::saving::{begin, cut_off, finish, part_of, remove};
+use command_files::system::System;
 use command_files::table_paths::count_inputs;
 use command_files::unmerged::unmerged_hint;
 use cube_model::{Answer, Fault, Items, Query};
@@ -15,7 +16,6 @@ use report_formats::{Asked, write_formatted};
 use report_merge::{Merge, Unmerged, merge_readers};
 use std::alloc::{AllocError, Global};
 use std::io::{self, Write};
-use std::rt::Files;
 
 /// What is written of partial reports.
 #[derive(Drop)]
@@ -27,10 +27,7 @@ enum Merged {
 }
 
 /// Merges the partial reports in the files of a command, and writes what it asks for.
-pub fn merge<R: Files + AllocGlobal + Print + Eprint + Input>(
-    rt: &R,
-    given: &ArgMatches<'_>,
-) -> Result<u8, Refusal> {
+pub fn merge(rt: &System, given: &ArgMatches<'_>) -> Result<u8, Refusal> {
     let paths = given.get_strs("file").unwrap_or(&[]);
     if count_inputs(paths) > 1 {
         return several_inputs(rt);
@@ -43,11 +40,7 @@ pub fn merge<R: Files + AllocGlobal + Print + Eprint + Input>(
 }
 
 // What a command asks for of the partial reports in files.
-fn merged_of<R: Files + AllocGlobal + Input>(
-    rt: &R,
-    given: &ArgMatches<'_>,
-    paths: &[&str],
-) -> Result<Merged, Refusal> {
+fn merged_of(rt: &System, given: &ArgMatches<'_>, paths: &[&str]) -> Result<Merged, Refusal> {
     let alloc = rt.alloc();
     let reads = Reads::new(None);
     let merge = match open_each(rt, paths, &reads) {
@@ -106,7 +99,7 @@ fn write_merged<W: Write>(alloc: Global, merged: &Merged, out: &mut W) -> Result
     }
 }
 
-fn print_merged<R: AllocGlobal + Print>(rt: &R, merged: &Merged) -> Result<u8, Refusal> {
+fn print_merged(rt: &System, merged: &Merged) -> Result<u8, Refusal> {
     let mut out = output(rt)?;
     match write_merged(rt.alloc(), merged, &mut out) {
         Ok(()) => Ok(DONE),
@@ -115,8 +108,8 @@ fn print_merged<R: AllocGlobal + Print>(rt: &R, merged: &Merged) -> Result<u8, R
     }
 }
 
-fn save_merged<R: Files + AllocGlobal>(
-    rt: &R,
+fn save_merged(
+    rt: &System,
     given: &ArgMatches<'_>,
     merged: &Merged,
     path: &str,

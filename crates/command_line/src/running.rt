@@ -9,16 +9,13 @@ use command_files::exit::{DONE, NO_COMMAND, exit_of};
 use command_files::refusal::Refusal;
 use command_files::screens::Screens;
 use command_files::streams::hold_streams;
+use command_files::system::System;
 use command_files::texts;
 use command_sessions::device::Access;
 use command_sessions::{job, plans};
 use command_words::command;
 use cube_model::Fault;
-use file_device::LockFile;
 use std::io;
-use std::os::unix::fs::FileExt;
-use std::rt::{Clock, Files};
-use std::time::CpuClock;
 use warehouse_jobs::Job;
 
 /// Does what words say, of which the first is the program's name, and gives the status to end with: 0 done, 1 refused,
@@ -26,14 +23,7 @@ use warehouse_jobs::Job;
 /// known of it.
 ///
 /// It fails where standard error cannot be written.
-pub fn run<R: Files + AllocGlobal + Print + Eprint + Clock + CpuClock + Input>(
-    rt: &R,
-    words: &[String],
-    screens: Screens,
-) -> io::Result<u8>
-where
-    R::File: FileExt + LockFile,
-{
+pub fn run(rt: &System, words: &[String], screens: Screens) -> io::Result<u8> {
     let _held = hold_streams(rt);
     match matched(rt, words, screens) {
         Ok(status) => Ok(status),
@@ -42,7 +32,7 @@ where
 }
 
 /// Prints a refusal, and gives the status to end with.
-pub fn refuse<R: Eprint>(rt: &R, refusal: Refusal) -> io::Result<u8> {
+pub fn refuse(rt: &System, refusal: Refusal) -> io::Result<u8> {
     let Refusal { fault, hint } = refusal;
     eprintln!(rt; "{fault}")?;
     if let Some(hint) = &hint {
@@ -51,14 +41,7 @@ pub fn refuse<R: Eprint>(rt: &R, refusal: Refusal) -> io::Result<u8> {
     Ok(exit_of(&Err(fault)))
 }
 
-fn matched<R: Files + AllocGlobal + Print + Eprint + Clock + CpuClock + Input>(
-    rt: &R,
-    words: &[String],
-    screens: Screens,
-) -> Result<u8, Refusal>
-where
-    R::File: FileExt + LockFile,
-{
+fn matched(rt: &System, words: &[String], screens: Screens) -> Result<u8, Refusal> {
     let command = command(rt.alloc())?;
     match command.try_get_matches_from(words) {
         Ok(matches) => perform(rt, &matches, screens),
@@ -67,14 +50,7 @@ where
 }
 
 // The status of the command that the words name.
-fn perform<R: Files + AllocGlobal + Print + Eprint + Clock + CpuClock + Input>(
-    rt: &R,
-    matches: &ArgMatches<'_>,
-    screens: Screens,
-) -> Result<u8, Refusal>
-where
-    R::File: FileExt + LockFile,
-{
+fn perform(rt: &System, matches: &ArgMatches<'_>, screens: Screens) -> Result<u8, Refusal> {
     match matches.subcommand() {
         Some(("eval", given)) => eval::eval(rt, given, screens),
         Some(("create", given)) => create::create(rt, given),
@@ -92,15 +68,12 @@ where
 }
 
 // The status of a command that asks a warehouse.
-fn consult<R: Files + AllocGlobal + Print + Eprint + Clock + CpuClock + Input>(
-    rt: &R,
+fn consult(
+    rt: &System,
     name: &str,
     given: &ArgMatches<'_>,
     screens: Screens,
-) -> Result<u8, Refusal>
-where
-    R::File: FileExt + LockFile,
-{
+) -> Result<u8, Refusal> {
     match name {
         "report" => job::ask(rt, given),
         "cube" => job::ask(rt, given),
@@ -120,7 +93,7 @@ where
 }
 
 // Prints what is wrong with the words, or the help that they ask for. A reader that closes early has read enough.
-fn explain<R: Print + Eprint>(rt: &R, error: &Error) -> Result<u8, Fault> {
+fn explain(rt: &System, error: &Error) -> Result<u8, Fault> {
     if error.kind() == ErrorKind::OutOfMemory {
         return Err(Fault::Memory);
     }

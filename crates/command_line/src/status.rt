@@ -4,6 +4,7 @@ use command_files::exit::DONE;
 use command_files::output::cut_short;
 use command_files::records::format_of;
 use command_files::refusal::Refusal;
+use command_files::system::System;
 use command_files::texts::print_text;
 use command_sessions::device::{self, Access, InFile};
 use command_sessions::explaining::explained;
@@ -11,13 +12,10 @@ use command_sessions::job::done_in;
 use command_sessions::space::Room;
 use command_sessions::unfinished::note_unfinished;
 use cube_model::Fault;
-use file_device::LockFile;
 use record_formats::{Cell, Records};
 use report_formats::Format;
 use sector_device::Sectors;
 use std::alloc::{AllocError, Global};
-use std::os::unix::fs::FileExt;
-use std::rt::{Clock, Files};
 use warehouse::{Layout, Session, Status};
 use warehouse_jobs::Job;
 
@@ -25,13 +23,7 @@ use warehouse_jobs::Job;
 const FIELDS: [&str; 6] = ["name", "value", "view", "mark", "runs", "cells"];
 
 /// Prints the numbers of the warehouse of a command, with `--all` those of its sectors too.
-pub fn status<R: Files + AllocGlobal + Print + Eprint + Clock>(
-    rt: &R,
-    given: &ArgMatches<'_>,
-) -> Result<u8, Refusal>
-where
-    R::File: FileExt + LockFile,
-{
+pub fn status(rt: &System, given: &ArgMatches<'_>) -> Result<u8, Refusal> {
     match device::open(rt, given, Access::Read) {
         Ok(mut session) => match format_of(given) {
             None => print_lines(rt, given, &mut session),
@@ -42,8 +34,8 @@ where
 }
 
 // Prints the numbers of an open warehouse, a line each.
-fn print_lines<R: Files + AllocGlobal + Print + Eprint, D: Sectors + InFile>(
-    rt: &R,
+fn print_lines<D: Sectors + InFile>(
+    rt: &System,
     given: &ArgMatches<'_>,
     session: &mut Session<D>,
 ) -> Result<u8, Refusal> {
@@ -63,7 +55,7 @@ fn print_lines<R: Files + AllocGlobal + Print + Eprint, D: Sectors + InFile>(
 }
 
 // Prints the layout of a warehouse, where it is not the first.
-fn print_layout<R: AllocGlobal + Print>(rt: &R, layout: Layout) -> Result<u8, Refusal> {
+fn print_layout(rt: &System, layout: Layout) -> Result<u8, Refusal> {
     match layout {
         Layout::First => Ok(DONE),
         Layout::Second => print_text(rt, "layout 2\n"),
@@ -90,7 +82,7 @@ impl Space {
 }
 
 // Prints the numbers of the sectors. A reader that closes early has read what it wants.
-fn print_space<R: AllocGlobal + Print>(rt: &R, space: Space) -> Result<u8, Refusal> {
+fn print_space(rt: &System, space: Space) -> Result<u8, Refusal> {
     let Space { room, batches } = space;
     let printed = println!(rt;
         "sectors {}\ntaken {}\nfree {}\nroom {batches} batches",
@@ -105,8 +97,8 @@ fn print_space<R: AllocGlobal + Print>(rt: &R, space: Space) -> Result<u8, Refus
 }
 
 // Prints the numbers of an open warehouse as records.
-fn print_records<R: Files + AllocGlobal + Print + Eprint, D: Sectors + InFile>(
-    rt: &R,
+fn print_records<D: Sectors + InFile>(
+    rt: &System,
     given: &ArgMatches<'_>,
     session: &Session<D>,
     format: Format,

@@ -6,19 +6,17 @@ use clap::ArgMatches;
 use command_files::exit::DONE;
 use command_files::output::{cut_short, output};
 use command_files::refusal::{Refusal, bad_query};
+use command_files::system::System;
 use command_sessions::device::{self, Access, InFile};
 use command_sessions::explaining::explained;
 use command_sessions::job::met_in;
 use command_sessions::unfinished::note_unfinished;
 use cube_model::{Axis, Fault};
 use dimensions::Dims;
-use file_device::LockFile;
 use lattice::{View, ViewName};
 use sector_device::Sectors;
 use std::alloc::Global;
 use std::io::Write;
-use std::os::unix::fs::FileExt;
-use std::rt::{Clock, Files};
 use view_words::{Refused, hint_of_view, read_views};
 use warehouse::{Layout, MOST_CUBOIDS, Session, StoredCuboid};
 
@@ -26,13 +24,7 @@ use warehouse::{Layout, MOST_CUBOIDS, Session, StoredCuboid};
 static AXES: [Axis; 4] = [Axis::Customer, Axis::Supplier, Axis::Part, Axis::Date];
 
 /// Lists the stored cuboids of a warehouse. Where views are named it stores theirs before, and no others.
-pub fn views<R: Files + AllocGlobal + Print + Eprint + Clock>(
-    rt: &R,
-    given: &ArgMatches<'_>,
-) -> Result<u8, Refusal>
-where
-    R::File: FileExt + LockFile,
-{
+pub fn views(rt: &System, given: &ArgMatches<'_>) -> Result<u8, Refusal> {
     let words = given.get_strs("view").unwrap_or(&[]);
     if words.is_empty() {
         return match device::open(rt, given, Access::Read) {
@@ -47,13 +39,7 @@ where
 }
 
 // Stores the cuboids of some views, and lists them. Nothing is stored where the warehouse's layout lacks one.
-fn store_views<R: Files + AllocGlobal + Print + Eprint + Clock>(
-    rt: &R,
-    given: &ArgMatches<'_>,
-    views: Vec<View>,
-) -> Result<u8, Refusal>
-where
-    R::File: FileExt + LockFile,
+fn store_views(rt: &System, given: &ArgMatches<'_>, views: Vec<View>) -> Result<u8, Refusal>
     requires few { length views.items ≤ most_cuboids }
 {
     let mut session = match device::open(rt, given, Access::Commit) {
@@ -116,8 +102,8 @@ fn word_at<'w>(words: &[&'w str], place: usize) -> &'w str {
 }
 
 // Prints the stored cuboids of a warehouse.
-fn list<R: Files + AllocGlobal + Print + Eprint, D: Sectors + InFile>(
-    rt: &R,
+fn list<D: Sectors + InFile>(
+    rt: &System,
     given: &ArgMatches<'_>,
     session: &Session<D>,
 ) -> Result<u8, Refusal> {

@@ -1,7 +1,7 @@
 //! What the beginning of a file shows.
 use command_files::files::open_again;
+use command_files::system::System;
 use std::io::Read;
-use std::rt::Files;
 use superblock::decode;
 
 /// What the first two sectors of a file hold, in which the superblocks of a warehouse are.
@@ -16,7 +16,7 @@ pub enum Contents {
 }
 
 /// What the first two sectors of a file hold. What is no regular file is not opened.
-pub fn contents_of<R: Files>(rt: &R, path: &str) -> Contents {
+pub fn contents_of(rt: &System, path: &str) -> Contents {
     let Some(mut file) = open_again(rt, path) else {
         return Contents::Other;
     };

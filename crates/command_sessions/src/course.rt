@@ -2,6 +2,7 @@
 use clap::ArgMatches;
 use command_files::progress::{MEGABYTE, rate};
 use command_files::screens::Screens;
+use command_files::system::System;
 use sector_device::Sectors;
 use std::cell::Cell;
 use std::io::{self, Write};
@@ -49,7 +50,7 @@ impl Course {
     }
 
     // Says how far it is. What standard error does with it is of no account.
-    fn say<R: Eprint>(&self, rt: &R, now: Duration) {
+    fn say(&self, rt: &System, now: Duration) {
         let passed = now.saturating_sub(self.began);
         let read = megabytes(self.read);
         let speed = rate(read, passed);
@@ -78,11 +79,7 @@ fn seconds_left(read: u64, whole: u64, passed: Duration) -> u128 {
 }
 
 /// The course of a command, where standard error is a terminal and there is a clock.
-pub fn course_of<R: Clock>(
-    rt: &R,
-    given: &ArgMatches<'_>,
-    screens: Screens,
-) -> Option<Cell<Course>> {
+pub fn course_of(rt: &System, given: &ArgMatches<'_>, screens: Screens) -> Option<Cell<Course>> {
     if !screens.errors || given.get_flag("quiet") {
         return None;
     }
@@ -143,8 +140,8 @@ fn stored_cells(status: &Status) -> u64 {
 }
 
 /// Begins the course of an errand, for which the batches of a warehouse are read.
-pub fn begin_errand<R: Clock, D: Sectors>(
-    rt: &R,
+pub fn begin_errand<D: Sectors>(
+    rt: &System,
     watch: Watch<'_>,
     session: &Session<D>,
     errand: Errand,
@@ -171,7 +168,7 @@ fn sectors_read<D: Sectors>(session: &Session<D>, status: &Status, errand: Erran
 }
 
 /// Takes the line of a course back, where one is shown.
-pub fn take_back<R: Eprint>(rt: &R, watch: Watch<'_>) {
+pub fn take_back(rt: &System, watch: Watch<'_>) {
     let Some(cell) = watch else {
         return;
     };
@@ -187,19 +184,19 @@ pub fn take_back<R: Eprint>(rt: &R, watch: Watch<'_>) {
 
 /// What sees how much of a file is read, and says it on standard error, where a person watches.
 #[derive(Drop)]
-pub struct Meter<'r, R: Clock + Eprint> {
-    rt: &'r R,
+pub struct Meter<'r> {
+    rt: &'r System,
     watch: Watch<'r>,
 }
 
-impl<'r, R: Clock + Eprint> Meter<'r, R> {
+impl<'r> Meter<'r> {
     /// What keeps a course, where one is watched.
-    pub fn new(rt: &'r R, watch: Watch<'r>) -> Meter<'r, R> {
+    pub fn new(rt: &'r System, watch: Watch<'r>) -> Meter<'r> {
         Meter { rt, watch }
     }
 }
 
-impl<R: Clock + Eprint> Observer for Meter<'_, R> {
+impl Observer for Meter<'_> {
     ghost reads = { λ _ _ _. Unit {0} };
 
     ghost writes = { λ _ _ _. Unit {0} };
@@ -214,7 +211,7 @@ impl<R: Clock + Eprint> Observer for Meter<'_, R> {
 }
 
 // Counts sectors that were read, and says how far the command is where it is time.
-fn advance<R: Clock + Eprint>(rt: &R, cell: &Cell<Course>, sectors: usize) {
+fn advance(rt: &System, cell: &Cell<Course>, sectors: usize) {
     let mut course = cell.get();
     course.read = course.read.saturating_add(sectors as u64);
     if let Ok(now) = rt.monotonic() {
@@ -229,15 +226,15 @@ fn advance<R: Clock + Eprint>(rt: &R, cell: &Cell<Course>, sectors: usize) {
 
 /// A writer before whose words the line of a course is taken back.
 #[derive(Drop)]
-pub struct Cleared<'c, R: Eprint, W: Write> {
-    rt: &'c R,
+pub struct Cleared<'c, W: Write> {
+    rt: &'c System,
     watch: Watch<'c>,
     writer: W,
 }
 
-impl<'c, R: Eprint, W: Write> Cleared<'c, R, W> {
+impl<'c, W: Write> Cleared<'c, W> {
     /// A writer, and the course whose line is taken back.
-    pub fn new(rt: &'c R, watch: Watch<'c>, writer: W) -> Cleared<'c, R, W> {
+    pub fn new(rt: &'c System, watch: Watch<'c>, writer: W) -> Cleared<'c, W> {
         Cleared { rt, watch, writer }
     }
 
@@ -247,7 +244,7 @@ impl<'c, R: Eprint, W: Write> Cleared<'c, R, W> {
     }
 }
 
-impl<R: Eprint, W: Write> Write for Cleared<'_, R, W> {
+impl<W: Write> Write for Cleared<'_, W> {
     ghost contents = { λ cleared. W.contents cleared.writer };
 
     fn write(&mut self, buf: &[u8]) -> io::Result<usize> {

@@ -4,20 +4,19 @@ use crate::course::{Meter, Watch, take_back};
 use crate::explaining::Met;
 use crate::unfinished::is_unfinished;
 use clap::ArgMatches;
+use command_files::system::System;
 use cube_model::Fault;
 use dimensions::Dims;
-use file_device::{Existing, FileDisk, Host, LockFile, Made, OpenError, Unread};
+use file_device::{Existing, FileDisk, Host, Made, OpenError, Unread};
 use sector_cache::Cached;
 use sector_device::Sectors;
-use std::fs::{self, OpenFile};
+use std::fs::{self, File};
 use std::io::{self, ErrorKind};
-use std::os::unix::fs::FileExt;
-use std::rt::{Clock, Files};
 use warehouse::{Layout, Session};
 use watched_device::Watched;
 
 /// The device of a warehouse: a file of which a meter sees the calls, with a cache.
-pub type Device<'r, R, F> = Cached<Watched<FileDisk<Host<F>, Unread>, Meter<'r, R>>>;
+pub type Device<'r> = Cached<Watched<FileDisk<Host<File>, Unread>, Meter<'r>>>;
 
 /// The sectors that the cache has room for, 512 KiB.
 const CACHED_SECTORS: u32 = 1024;
@@ -34,17 +33,14 @@ pub enum Access {
 
 /// Makes a warehouse of a layout without batches in a file, which is made where it is absent. At a refusal such a file
 /// is removed again, if nothing was committed in it.
-pub fn create<R: Files + AllocGlobal + Eprint + Clock>(
-    rt: &R,
+pub fn create(
+    rt: &System,
     path: &str,
     sectors: u32,
     existing: Existing,
     dims: Dims,
     layout: Layout,
-) -> Result<(), Met>
-where
-    R::File: FileExt + LockFile,
-{
+) -> Result<(), Met> {
     let (device, is_new) = made(rt, path, sectors, existing, None)?;
     match warehouse::create_as(rt.alloc(), device, dims, layout) {
         Ok(_session) => {
@@ -60,16 +56,13 @@ where
 
 /// Makes a copy of a warehouse in a file, which is made where it is absent, and gives how many batches it has. At a
 /// refusal a file that was made is removed again. Where the command is watched, so is what is read of the copy.
-pub fn copy<R: Files + AllocGlobal + Eprint + Clock, D: Sectors + InFile>(
-    rt: &R,
+pub fn copy<D: Sectors + InFile>(
+    rt: &System,
     from: &mut Session<D>,
     path: &str,
     sectors: u32,
     watch: Watch<'_>,
-) -> Result<u32, Met>
-where
-    R::File: FileExt + LockFile,
-{
+) -> Result<u32, Met> {
     let (device, is_new) = made(rt, path, sectors, Existing::Blank, watch)?;
     match warehouse_copy::copy(rt.alloc(), from, device) {
         Ok(copy) => {
@@ -87,16 +80,13 @@ where
 
 // The device of a file that is made where it is absent, and whether it was. Where there is no memory for it the file is
 // removed again.
-fn made<'r, R: Files + AllocGlobal + Eprint + Clock>(
-    rt: &'r R,
+fn made<'r>(
+    rt: &'r System,
     path: &str,
     sectors: u32,
     existing: Existing,
     watch: Watch<'r>,
-) -> Result<(Device<'r, R, R::File>, bool), Met>
-where
-    R::File: FileExt + LockFile,
-{
+) -> Result<(Device<'r>, bool), Met> {
     let Made { disk, is_new } = FileDisk::make(rt, path, sectors, existing)?;
     let disk = Watched::new(disk, Meter::new(rt, watch));
     match Cached::new(rt.alloc(), disk, CACHED_SECTORS) {
@@ -109,14 +99,14 @@ where
 }
 
 // Removes a file that is new and in which nothing was committed. Its lock is still held.
-fn remove_new<R: Files>(rt: &R, path: &str, is_new: bool) {
+fn remove_new(rt: &System, path: &str, is_new: bool) {
     if is_new && contents_of(rt, path) == Contents::Nothing {
         let _removed = fs::remove_file(rt, path);
     }
 }
 
 // Has the folder of a file keep its name on the disk, where the system can: a sync of a file need not keep its name.
-fn keep_name<R: Files>(rt: &R, path: &str) {
+fn keep_name(rt: &System, path: &str) {
     let folder = match path.rsplit_once('/') {
         None => ".",
         Some((folder, _)) if folder.is_empty() => "/",
@@ -128,27 +118,21 @@ fn keep_name<R: Files>(rt: &R, path: &str) {
 }
 
 /// Opens the warehouse in the file of a command.
-pub fn open<'r, R: Files + AllocGlobal + Eprint + Clock>(
-    rt: &'r R,
+pub fn open<'r>(
+    rt: &'r System,
     given: &ArgMatches<'_>,
     access: Access,
-) -> Result<Session<Device<'r, R, R::File>>, Met>
-where
-    R::File: FileExt + LockFile,
-{
+) -> Result<Session<Device<'r>>, Met> {
     open_watched(rt, given, access, None)
 }
 
 /// Opens the warehouse in the file of a command that may be watched.
-pub fn open_watched<'r, R: Files + AllocGlobal + Eprint + Clock>(
-    rt: &'r R,
+pub fn open_watched<'r>(
+    rt: &'r System,
     given: &ArgMatches<'_>,
     access: Access,
     watch: Watch<'r>,
-) -> Result<Session<Device<'r, R, R::File>>, Met>
-where
-    R::File: FileExt + LockFile,
-{
+) -> Result<Session<Device<'r>>, Met> {
     let opened = match access {
         Access::Commit => open_to_commit(rt, path_of(given), watch),
         Access::Read => open_finished(rt, path_of(given), watch),
@@ -159,14 +143,11 @@ where
 
 // Opens the warehouse in a file for reading. Where an upkeep was cut off, it is finished first, if the file can be
 // written and no other program has it open. Otherwise the warehouse is opened as it is.
-fn open_finished<'r, R: Files + AllocGlobal + Eprint + Clock>(
-    rt: &'r R,
+fn open_finished<'r>(
+    rt: &'r System,
     path: &str,
     watch: Watch<'r>,
-) -> Result<Session<Device<'r, R, R::File>>, Met>
-where
-    R::File: FileExt + LockFile,
-{
+) -> Result<Session<Device<'r>>, Met> {
     let session = open_to_read(rt, path, watch)?;
     if !is_unfinished(&session) {
         return Ok(session);
@@ -180,38 +161,32 @@ where
 }
 
 // Opens the warehouse in a file for reading and writing. No other program may have it open.
-fn open_to_commit<'r, R: Files + AllocGlobal + Eprint + Clock>(
-    rt: &'r R,
+fn open_to_commit<'r>(
+    rt: &'r System,
     path: &str,
     watch: Watch<'r>,
-) -> Result<Session<Device<'r, R, R::File>>, Met>
-where
-    R::File: FileExt + LockFile,
-{
+) -> Result<Session<Device<'r>>, Met> {
     let disk = FileDisk::open(rt, path)?;
     session_on(rt, disk, Access::Commit, watch)
 }
 
 // Opens the warehouse in a file for reading alone. No other program may have it open for writing.
-fn open_to_read<'r, R: Files + AllocGlobal + Eprint + Clock>(
-    rt: &'r R,
+fn open_to_read<'r>(
+    rt: &'r System,
     path: &str,
     watch: Watch<'r>,
-) -> Result<Session<Device<'r, R, R::File>>, Met>
-where
-    R::File: FileExt + LockFile,
-{
+) -> Result<Session<Device<'r>>, Met> {
     let disk = FileDisk::open_to_read(rt, path)?;
     session_on(rt, disk, Access::Read, watch)
 }
 
 // Opens the warehouse on a disk, with a cache. Where it is only read, an upkeep that was cut off stays so.
-fn session_on<'r, R: AllocGlobal + Eprint + Clock, F: FileExt + OpenFile + Drop>(
-    rt: &'r R,
-    disk: FileDisk<Host<F>, Unread>,
+fn session_on<'r>(
+    rt: &'r System,
+    disk: FileDisk<Host<File>, Unread>,
     access: Access,
     watch: Watch<'r>,
-) -> Result<Session<Device<'r, R, F>>, Met> {
+) -> Result<Session<Device<'r>>, Met> {
     let disk = Watched::new(disk, Meter::new(rt, watch));
     let device = match Cached::new(rt.alloc(), disk, CACHED_SECTORS) {
         Ok(device) => device,
@@ -233,7 +208,7 @@ pub trait InFile {
     fn failure(&self) -> Option<io::Error>;
 }
 
-impl<R: Eprint + Clock, F: FileExt + OpenFile + Drop> InFile for Device<'_, R, F> {
+impl InFile for Device<'_> {
     fn failure(&self) -> Option<io::Error> {
         self.device().device().file().failure()
     }

@@ -2,9 +2,9 @@
 use crate::contents::{Contents, contents_of};
 use crate::device::path_of;
 use clap::ArgMatches;
+use command_files::system::System;
 use cube_model::Fault;
 use std::alloc::Global;
-use std::rt::Files;
 use std::{fs, io};
 
 /// The bytes of a sector.
@@ -12,8 +12,8 @@ const SECTOR: u64 = 512;
 
 /// What is known of a refusal of the file of a warehouse, as one line without its end. The file may have been to be
 /// made with so many sectors.
-pub fn device_hint<R: Files + AllocGlobal>(
-    rt: &R,
+pub fn device_hint(
+    rt: &System,
     given: &ArgMatches<'_>,
     fault: Fault,
     sectors: Option<u32>,
@@ -45,11 +45,7 @@ fn said(alloc: Global, given: &ArgMatches<'_>, what: &str) -> Result<Option<Stri
 }
 
 // The table file of a load, where that is a warehouse and its device is none.
-fn swapped_file<'w, R: Files + AllocGlobal>(
-    rt: &R,
-    given: &ArgMatches<'w>,
-    fault: Fault,
-) -> Option<&'w str> {
+fn swapped_file<'w>(rt: &System, given: &ArgMatches<'w>, fault: Fault) -> Option<&'w str> {
     let file = given.get_str("lineorder")?;
     let is_none = fault == Fault::DeviceSize || fault == Fault::NotFormatted;
     if is_none && contents_of(rt, file) == Contents::Warehouse {
@@ -60,7 +56,7 @@ fn swapped_file<'w, R: Files + AllocGlobal>(
 }
 
 // What is said of a file without a valid superblock.
-fn missing<R: Files>(rt: &R, given: &ArgMatches<'_>) -> &'static str {
+fn missing(rt: &System, given: &ArgMatches<'_>) -> &'static str {
     if contents_of(rt, path_of(given)) == Contents::Nothing {
         "no warehouse is there; ssbcube create makes one"
     } else {
@@ -69,10 +65,7 @@ fn missing<R: Files>(rt: &R, given: &ArgMatches<'_>) -> &'static str {
 }
 
 // What is said of a file in which `create` makes no warehouse.
-fn present_hint<R: Files + AllocGlobal>(
-    rt: &R,
-    given: &ArgMatches<'_>,
-) -> Result<Option<String>, Fault> {
+fn present_hint(rt: &System, given: &ArgMatches<'_>) -> Result<Option<String>, Fault> {
     let path = path_of(given);
     if contents_of(rt, path) == Contents::Warehouse {
         return said(
@@ -88,8 +81,8 @@ fn present_hint<R: Files + AllocGlobal>(
 }
 
 /// Why a call of the file failed, where the system said so.
-pub fn failure_hint<R: AllocGlobal>(
-    rt: &R,
+pub fn failure_hint(
+    rt: &System,
     given: &ArgMatches<'_>,
     failure: Option<io::Error>,
 ) -> Result<Option<String>, Fault> {
@@ -101,8 +94,8 @@ pub fn failure_hint<R: AllocGlobal>(
     Ok(Some(said))
 }
 
-fn size_hint<R: Files + AllocGlobal>(
-    rt: &R,
+fn size_hint(
+    rt: &System,
     given: &ArgMatches<'_>,
     sectors: Option<u32>,
 ) -> Result<Option<String>, Fault> {
@@ -113,7 +106,7 @@ fn size_hint<R: Files + AllocGlobal>(
     }
 }
 
-fn length_of<R: Files>(rt: &R, path: &str) -> u64 {
+fn length_of(rt: &System, path: &str) -> u64 {
     match fs::metadata(rt, path) {
         Ok(metadata) => metadata.len(),
         Err(_) => 0,
@@ -121,11 +114,7 @@ fn length_of<R: Files>(rt: &R, path: &str) -> u64 {
 }
 
 /// Why a file cannot be a warehouse of so many sectors.
-pub fn wanted_hint<R: Files + AllocGlobal>(
-    rt: &R,
-    path: &str,
-    sectors: u32,
-) -> Result<Option<String>, Fault> {
+pub fn wanted_hint(rt: &System, path: &str, sectors: u32) -> Result<Option<String>, Fault> {
     let alloc = rt.alloc();
     let bytes = length_of(rt, path);
     let wanted = u64::from(sectors) * SECTOR;

@@ -3,10 +3,10 @@ use crate::device_hints::{device_hint, failure_hint};
 use crate::space::{Room, room_hint};
 use clap::ArgMatches;
 use command_files::refusal::Refusal;
+use command_files::system::System;
 use cube_model::{Fault, MemberPlace};
 use std::alloc::Global;
 use std::io;
-use std::rt::Files;
 use table_hints::Needs;
 
 /// A fault, and what is known where it comes.
@@ -39,7 +39,7 @@ impl From<Fault> for Met {
 }
 
 /// A fault of a command with what can be found out of it. Where nothing can be found out nothing is said.
-pub fn explained<R: Files + AllocGlobal>(rt: &R, given: &ArgMatches<'_>, met: Met) -> Refusal {
+pub fn explained(rt: &System, given: &ArgMatches<'_>, met: Met) -> Refusal {
     let hint = match hint_of(rt, given, met) {
         Ok(hint) => hint,
         Err(_) => None,
@@ -50,11 +50,7 @@ pub fn explained<R: Files + AllocGlobal>(rt: &R, given: &ArgMatches<'_>, met: Me
     }
 }
 
-fn hint_of<R: Files + AllocGlobal>(
-    rt: &R,
-    given: &ArgMatches<'_>,
-    met: Met,
-) -> Result<Option<String>, Fault> {
+fn hint_of(rt: &System, given: &ArgMatches<'_>, met: Met) -> Result<Option<String>, Fault> {
     match met.fault {
         Fault::NoSuchPrefix => prefix_hint(rt.alloc(), given, met.batches),
         Fault::Device => failure_hint(rt, given, met.failure),

@@ -11,27 +11,18 @@ use command_files::exit::{DONE, NO_COMMAND, exit_of};
 use command_files::output::{Output, cut_short, output};
 use command_files::refusal::Refusal;
 use command_files::saving::{begin, cut_off, finish, part_of, remove};
+use command_files::system::System;
 use command_files::timing::{begin as begin_time, say_seconds};
 use cube_model::Fault;
-use file_device::LockFile;
 use sector_device::Sectors;
 use std::alloc::Global;
 use std::io;
-use std::os::unix::fs::FileExt;
-use std::rt::{Clock, Files};
-use std::time::CpuClock;
 use warehouse::Session;
 use warehouse_jobs::{Job, perform};
 
 /// Asks the query of a command, over the batches that it names, and writes the notes on its conditions and how long it
 /// took.
-pub fn ask<R: Files + AllocGlobal + Print + Eprint + Clock + CpuClock + Input>(
-    rt: &R,
-    given: &ArgMatches<'_>,
-) -> Result<u8, Refusal>
-where
-    R::File: FileExt + LockFile,
-{
+pub fn ask(rt: &System, given: &ArgMatches<'_>) -> Result<u8, Refusal> {
     if let Some(name) = odd_format(given) {
         return unformatted(rt, name);
     }
@@ -43,7 +34,7 @@ where
 }
 
 // Says that several queries are not reported in a format.
-fn unformatted<R: Eprint>(rt: &R, name: &str) -> Result<u8, Refusal> {
+fn unformatted(rt: &System, name: &str) -> Result<u8, Refusal> {
     let said = eprintln!(rt;
         "error: invalid value '{name}' for '--format <FORMAT>': the reports of several queries are written with bars; ask for one query\n\nFor more information, try '--help'."
     );
@@ -54,14 +45,7 @@ fn unformatted<R: Eprint>(rt: &R, name: &str) -> Result<u8, Refusal> {
 }
 
 // Opens the warehouse of a command, and reports the answers to where the words have them go.
-fn answer<R: Files + AllocGlobal + Print + Eprint + Clock>(
-    rt: &R,
-    given: &ArgMatches<'_>,
-    reports: &Reports,
-) -> Result<u8, Refusal>
-where
-    R::File: FileExt + LockFile,
-{
+fn answer(rt: &System, given: &ArgMatches<'_>, reports: &Reports) -> Result<u8, Refusal> {
     match device::open(rt, given, Access::Read) {
         Ok(mut session) => answer_in(rt, given, &mut session, reports),
         Err(met) => Err(explained(rt, given, met)),
@@ -69,8 +53,8 @@ where
 }
 
 // Reports the answers of an open warehouse to where the words have them go, and writes the notes on the conditions.
-fn answer_in<R: Files + AllocGlobal + Print + Eprint, D: Sectors + InFile>(
-    rt: &R,
+fn answer_in<D: Sectors + InFile>(
+    rt: &System,
     given: &ArgMatches<'_>,
     session: &mut Session<D>,
     reports: &Reports,
@@ -88,8 +72,8 @@ fn answer_in<R: Files + AllocGlobal + Print + Eprint, D: Sectors + InFile>(
 }
 
 // Prints reports of an open warehouse.
-fn print_reports<R: Files + AllocGlobal + Print + Eprint, D: Sectors + InFile>(
-    rt: &R,
+fn print_reports<D: Sectors + InFile>(
+    rt: &System,
     given: &ArgMatches<'_>,
     session: &mut Session<D>,
     reports: &Reports,
@@ -104,8 +88,8 @@ fn print_reports<R: Files + AllocGlobal + Print + Eprint, D: Sectors + InFile>(
 }
 
 // Saves reports of an open warehouse in a file.
-fn save_reports<R: Files + AllocGlobal + Eprint, D: Sectors + InFile>(
-    rt: &R,
+fn save_reports<D: Sectors + InFile>(
+    rt: &System,
     given: &ArgMatches<'_>,
     session: &mut Session<D>,
     reports: &Reports,
@@ -127,8 +111,8 @@ fn save_reports<R: Files + AllocGlobal + Eprint, D: Sectors + InFile>(
 }
 
 // The refusal of a report that was not saved.
-fn unsaved<R: Files + AllocGlobal + Eprint, D: Sectors + InFile>(
-    rt: &R,
+fn unsaved<D: Sectors + InFile>(
+    rt: &System,
     given: &ArgMatches<'_>,
     session: &Session<D>,
     part: &str,
@@ -142,15 +126,12 @@ fn unsaved<R: Files + AllocGlobal + Eprint, D: Sectors + InFile>(
 }
 
 /// Opens the warehouse of a command, does a job to it, and gives the status of the program.
-pub fn perform_job<R: Files + AllocGlobal + Print + Eprint + Clock>(
-    rt: &R,
+pub fn perform_job(
+    rt: &System,
     given: &ArgMatches<'_>,
     access: Access,
     job: Job,
-) -> Result<u8, Refusal>
-where
-    R::File: FileExt + LockFile,
-{
+) -> Result<u8, Refusal> {
     match device::open(rt, given, access) {
         Ok(mut session) => done_with_notes(rt, given, &mut session, job),
         Err(met) => Err(explained(rt, given, met)),
@@ -158,8 +139,8 @@ where
 }
 
 // Does a job to an open warehouse, with a note where an upkeep is not finished.
-fn done_with_notes<R: Files + AllocGlobal + Print + Eprint, D: Sectors + InFile>(
-    rt: &R,
+fn done_with_notes<D: Sectors + InFile>(
+    rt: &System,
     given: &ArgMatches<'_>,
     session: &mut Session<D>,
     job: Job,
@@ -170,8 +151,8 @@ fn done_with_notes<R: Files + AllocGlobal + Print + Eprint, D: Sectors + InFile>
 }
 
 /// Does a job to an open warehouse, and gives the status of the program.
-pub fn done_in<R: Files + AllocGlobal + Print + Eprint, D: Sectors + InFile>(
-    rt: &R,
+pub fn done_in<D: Sectors + InFile>(
+    rt: &System,
     given: &ArgMatches<'_>,
     session: &mut Session<D>,
     job: Job,
@@ -183,12 +164,12 @@ pub fn done_in<R: Files + AllocGlobal + Print + Eprint, D: Sectors + InFile>(
 
 /// The status of a job that was done, or its refusal. Standard output may have failed; a reader of it that closes early
 /// has read what it wants.
-pub fn ended<R: Files + AllocGlobal + Print + Eprint, D: Sectors + InFile>(
-    rt: &R,
+pub fn ended<D: Sectors + InFile>(
+    rt: &System,
     given: &ArgMatches<'_>,
     session: &Session<D>,
     done: Result<bool, Fault>,
-    out: &Output<'_, R>,
+    out: &Output<'_>,
 ) -> Result<u8, Refusal> {
     match done {
         Ok(_) => Ok(exit_of(&done)),

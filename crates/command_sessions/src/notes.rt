@@ -2,6 +2,7 @@
 use crate::reports::Reports;
 use clap::ArgMatches;
 use command_files::query::benchmark_word;
+use command_files::system::System;
 use dimensions::Dims;
 use mode_queries::{ModeCond, QueryRef, SHIP_MODE};
 use query_words::{End, Note, write_notes};
@@ -11,12 +12,7 @@ use query_words::{End, Note, write_notes};
 /// as they are, also where standard error takes nothing.
 ///
 /// Of a query of the benchmark nothing is said: its conditions are not the user's.
-pub fn note_conditions<R: AllocGlobal + Eprint>(
-    rt: &R,
-    given: &ArgMatches<'_>,
-    asked: QueryRef<'_>,
-    dims: &Dims,
-) {
+pub fn note_conditions(rt: &System, given: &ArgMatches<'_>, asked: QueryRef<'_>, dims: &Dims) {
     if benchmark_word(given).is_some() {
         return;
     }
@@ -27,19 +23,14 @@ pub fn note_conditions<R: AllocGlobal + Eprint>(
 }
 
 /// The same of the one report that a command asks for. Of several reports nothing is said.
-pub fn note_report<R: AllocGlobal + Eprint>(
-    rt: &R,
-    given: &ArgMatches<'_>,
-    reports: &Reports,
-    dims: &Dims,
-) {
+pub fn note_report(rt: &System, given: &ArgMatches<'_>, reports: &Reports, dims: &Dims) {
     if let Some(asked) = reports.query() {
         note_conditions(rt, given, asked, dims);
     }
 }
 
 // Says it of a condition on ship modes, which are no members of the dimensions: only a range may be empty.
-fn note_modes<R: Eprint>(rt: &R, condition: &ModeCond) {
+fn note_modes(rt: &System, condition: &ModeCond) {
     let ModeCond::Between(low, high) = condition else {
         return;
     };

@@ -12,17 +12,15 @@ use command_files::query::{NOTHING_ASKED, asks_nothing, query_of};
 use command_files::records::{format_of, view_cells};
 use command_files::refusal::{Refusal, bad_query};
 use command_files::report::unasked;
+use command_files::system::System;
 use command_files::texts::print_text;
 use command_files::timing::say_read;
 use cube_model::Fault;
-use file_device::LockFile;
 use mode_queries::{ModeQuery, QueryRef};
 use record_formats::{Cell, Records};
 use report_formats::Format;
 use sector_device::Sectors;
 use std::alloc::{AllocError, Global};
-use std::os::unix::fs::FileExt;
-use std::rt::{Clock, Files};
 use warehouse::{Plan, Priced, Session};
 
 /// The fields of a record of a plan.
@@ -32,13 +30,7 @@ const FIELDS: [&str; 10] = [
 
 /// Prints how the query of a command is answered over the batches that it names, and writes the notes on its
 /// conditions.
-pub fn explain<R: Files + AllocGlobal + Print + Eprint + Clock>(
-    rt: &R,
-    given: &ArgMatches<'_>,
-) -> Result<u8, Refusal>
-where
-    R::File: FileExt + LockFile,
-{
+pub fn explain(rt: &System, given: &ArgMatches<'_>) -> Result<u8, Refusal> {
     match query_of(rt.alloc(), given) {
         Ok(asked) => explain_query(rt, given, &asked),
         Err(refusal) => Err(unspelled(rt.alloc(), given, refusal)),
@@ -55,14 +47,7 @@ fn unspelled(alloc: Global, given: &ArgMatches<'_>, refusal: Refusal) -> Refusal
 }
 
 // Prints how a query of the warehouse of a command is answered.
-fn explain_query<R: Files + AllocGlobal + Print + Eprint + Clock>(
-    rt: &R,
-    given: &ArgMatches<'_>,
-    asked: &ModeQuery,
-) -> Result<u8, Refusal>
-where
-    R::File: FileExt + LockFile,
-{
+fn explain_query(rt: &System, given: &ArgMatches<'_>, asked: &ModeQuery) -> Result<u8, Refusal> {
     match device::open(rt, given, Access::Read) {
         Ok(session) => explain_in(rt, given, asked, &session),
         Err(met) => Err(explained(rt, given, met)),
@@ -70,8 +55,8 @@ where
 }
 
 // Prints how a query of an open warehouse is answered, as lines or as records, and writes the notes on its conditions.
-fn explain_in<R: Files + AllocGlobal + Print + Eprint, D: Sectors + InFile>(
-    rt: &R,
+fn explain_in<D: Sectors + InFile>(
+    rt: &System,
     given: &ArgMatches<'_>,
     asked: &ModeQuery,
     session: &Session<D>,
@@ -86,8 +71,8 @@ fn explain_in<R: Files + AllocGlobal + Print + Eprint, D: Sectors + InFile>(
 }
 
 // Prints how a query of an open warehouse is answered.
-fn print_plans<R: Files + AllocGlobal + Print + Eprint, D: Sectors + InFile>(
-    rt: &R,
+fn print_plans<D: Sectors + InFile>(
+    rt: &System,
     given: &ArgMatches<'_>,
     asked: &ModeQuery,
     session: &Session<D>,
@@ -128,8 +113,8 @@ fn rows_between<D: Sectors>(session: &Session<D>, mark: u32, count: u32) -> u64 
 }
 
 // Prints what the plan that is taken reads, and how many groups there are at most.
-fn print_reads<R: Files + AllocGlobal + Print + Eprint, D: Sectors + InFile>(
-    rt: &R,
+fn print_reads<D: Sectors + InFile>(
+    rt: &System,
     given: &ArgMatches<'_>,
     asked: &ModeQuery,
     session: &Session<D>,
@@ -154,8 +139,8 @@ fn print_reads<R: Files + AllocGlobal + Print + Eprint, D: Sectors + InFile>(
 
 /// Says on standard error how many cells and fact rows the query of a report reads, and how many bytes at most, where
 /// it is asked to. Of a query by ship mode the texts of each batch are not counted.
-pub fn say_reads<R: Files + AllocGlobal + Eprint, D: Sectors + InFile>(
-    rt: &R,
+pub fn say_reads<D: Sectors + InFile>(
+    rt: &System,
     given: &ArgMatches<'_>,
     asked: QueryRef<'_>,
     session: &Session<D>,
@@ -190,8 +175,8 @@ fn read_by<D: Sectors>(
 }
 
 // Prints the plans of a query of an open warehouse as records.
-fn print_records<R: Files + AllocGlobal + Print + Eprint, D: Sectors + InFile>(
-    rt: &R,
+fn print_records<D: Sectors + InFile>(
+    rt: &System,
     given: &ArgMatches<'_>,
     asked: &ModeQuery,
     session: &Session<D>,

@@ -5,6 +5,7 @@ use command_files::listed::{ListedQuery, listed_queries};
 use command_files::query::{benchmark_word, plain_query, query_of, words_of};
 use command_files::refusal::{Refusal, bad_query};
 use command_files::report::unasked;
+use command_files::system::System;
 use cube_model::{Fault, Query};
 use mode_queries::{ModeQuery, QueryRef};
 use partial_reports::{Head, PartAsked};
@@ -14,7 +15,6 @@ use sector_device::Sectors;
 use ssb_reports::{QNumber, query_of as benchmark_query};
 use std::alloc::Global;
 use std::io::Write;
-use std::rt::Files;
 use warehouse::Session;
 use warehouse_jobs::{report_formatted, report_partial};
 
@@ -58,10 +58,7 @@ impl NamedReport {
 }
 
 /// The reports that the words of a command ask for.
-pub fn reports_of<R: Files + AllocGlobal + Input>(
-    rt: &R,
-    given: &ArgMatches<'_>,
-) -> Result<Reports, Refusal> {
+pub fn reports_of(rt: &System, given: &ArgMatches<'_>) -> Result<Reports, Refusal> {
     let layout = layout_of(given);
     if let Some(path) = given.get_str("queries") {
         let listed = listed_queries(rt, path)?;

@@ -2,6 +2,7 @@
 use crate::device::{InFile, path_of};
 use clap::ArgMatches;
 use command_files::files::{byte_count, open_again};
+use command_files::system::System;
 use command_files::table_paths::{loaded_paths, table_name};
 use cube_model::limits::{MOST_BATCH_ROWS, MOST_BATCHES};
 use cube_model::{Attr, Axis, Fault};
@@ -9,7 +10,6 @@ use dimensions::Dims;
 use sector_device::Sectors;
 use std::alloc::Global;
 use std::io::Read;
-use std::rt::Files;
 use table_hints::{Cut, Needs, Table, row_count};
 use warehouse::Session;
 use warehouse_root::limits::MOST_CELLS;
@@ -106,8 +106,8 @@ impl Room {
 /// Says on standard error where the free sectors are too few for the batches of a load of so many rows, about, that are
 /// not stored yet. The load goes on; standard output and the status stay as they are, also where standard error takes
 /// nothing.
-pub fn note_room<R: Files + AllocGlobal + Eprint, D: Sectors + InFile>(
-    rt: &R,
+pub fn note_room<D: Sectors + InFile>(
+    rt: &System,
     given: &ArgMatches<'_>,
     session: &Session<D>,
     cut: Cut,
@@ -126,7 +126,7 @@ pub fn note_room<R: Files + AllocGlobal + Eprint, D: Sectors + InFile>(
 }
 
 // Says that a load needs more sectors than are free.
-fn say_lack<R: AllocGlobal + Eprint>(rt: &R, given: &ArgMatches<'_>, needs: Needs, room: Room) {
+fn say_lack(rt: &System, given: &ArgMatches<'_>, needs: Needs, room: Room) {
     let Ok(files) = table_name(rt.alloc(), given, Table::Lineorder) else {
         return;
     };
@@ -144,7 +144,7 @@ fn say_lack<R: AllocGlobal + Eprint>(rt: &R, given: &ArgMatches<'_>, needs: Need
 }
 
 /// How many rows the files of a load have together, about, if each is a regular file.
-pub fn rows_in_all<R: Files>(rt: &R, paths: &[&str]) -> Option<u64> {
+pub fn rows_in_all(rt: &System, paths: &[&str]) -> Option<u64> {
     let bytes = byte_count(rt, paths)?;
     let mut beginning = [0; BEGINNING];
     for path in paths {

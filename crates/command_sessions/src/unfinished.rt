@@ -1,6 +1,7 @@
 //! A note on an upkeep that is not finished.
 use crate::device::path_of;
 use clap::ArgMatches;
+use command_files::system::System;
 use sector_device::Sectors;
 use std::alloc::{AllocError, Global};
 use warehouse::{Session, Status};
@@ -21,11 +22,7 @@ pub fn is_unfinished<D: Sectors>(session: &Session<D>) -> bool {
 /// Says on standard error which stored cuboids hold fewer batches than the last upkeep was to bring them to, where
 /// there are some: there was no room for them, they would have too many cells, or the file could not be written.
 /// Standard output and the status stay as they are, also where standard error takes nothing.
-pub fn note_unfinished<R: AllocGlobal + Eprint, D: Sectors>(
-    rt: &R,
-    given: &ArgMatches<'_>,
-    session: &Session<D>,
-) {
+pub fn note_unfinished<D: Sectors>(rt: &System, given: &ArgMatches<'_>, session: &Session<D>) {
     let Ok(status) = session.status() else {
         return;
     };

@@ -1,7 +1,7 @@
 //! The star schema warehouse at the command line.
 #![tactic(auto)]
 
-use command_line::{Screens, refuse, run, words};
+use command_line::{Screens, System, refuse, run, words};
 use std::io::{self, IsTerminal};
 use std::process::ExitCode;
 
@@ -10,9 +10,11 @@ fn main(rt: HostRuntime) -> io::Result<ExitCode> {
         output: rt.stdout().is_terminal(),
         errors: rt.stderr().is_terminal(),
     };
-    let status = match words(&rt) {
-        Ok(words) => run(&rt, words.as_slice(), screens)?,
-        Err(refusal) => refuse(&rt, refusal)?,
+    let words = words(&rt);
+    let system = System::new(rt);
+    let status = match words {
+        Ok(words) => run(&system, words.as_slice(), screens)?,
+        Err(refusal) => refuse(&system, refusal)?,
     };
     Ok(ExitCode::from(status))
 }

@@ -2,29 +2,26 @@
 //! page. After a page the files that it made are removed.
 #![tactic(auto)]
 
-mod kept;
 mod making;
 mod page;
 mod quoting;
 mod shell;
 
-use command_line::LockFile;
+use command_line::System;
 use page::{Step, steps};
 use shell::Shell;
 use std::alloc::Global;
-use std::os::unix::fs::FileExt;
 use std::process::ExitCode;
-use std::rt::{Clock, Files};
-use std::time::CpuClock;
 use std::{fs, io};
 
 fn main(rt: HostRuntime) -> io::Result<ExitCode> {
-    let files = files(&rt)?;
+    let system = System::kept(rt);
+    let files = files(system.host())?;
     let mut all_alike = true;
     for name in files.as_slice() {
         if name.ends_with(".md") {
-            all_alike &= is_alike(&rt, name.as_str())?;
-            remove_others(&rt, files.as_slice())?;
+            all_alike &= is_alike(&system, name.as_str())?;
+            remove_others(system.host(), files.as_slice())?;
         }
     }
     Ok(if all_alike {
@@ -65,17 +62,11 @@ fn remove_others(rt: &HostRuntime, names: &[String]) -> io::Result<()> {
 
 // Runs the commands of a page, and prints how many there are and how many of them print other than the page. It says
 // whether there are some, and each prints what the page says.
-fn is_alike<R: Files + AllocGlobal + Print + Clock + CpuClock + Input>(
-    rt: &R,
-    page: &str,
-) -> io::Result<bool>
-where
-    R::File: FileExt + LockFile,
-{
-    let text = fs::read_to_string(rt, page)?;
-    let steps = steps(rt.alloc(), text.as_str())?;
-    let others = count_others(rt, steps.as_slice())?;
-    println!(rt;
+fn is_alike(system: &System, page: &str) -> io::Result<bool> {
+    let text = fs::read_to_string(system, page)?;
+    let steps = steps(system.alloc(), text.as_str())?;
+    let others = count_others(system, steps.as_slice())?;
+    println!(system.host();
         "{page}: {} commands, {others} that print other than the page",
         steps.len()
     )?;
@@ -83,17 +74,11 @@ where
 }
 
 // Runs commands in one shell, and says how many print other than their page.
-fn count_others<R: Files + AllocGlobal + Print + Clock + CpuClock + Input>(
-    rt: &R,
-    steps: &[Step<'_>],
-) -> io::Result<u64>
-where
-    R::File: FileExt + LockFile,
-{
+fn count_others(system: &System, steps: &[Step<'_>]) -> io::Result<u64> {
     let mut shell = Shell::new();
     let mut others = 0u64;
     for step in steps {
-        if !is_as_printed(rt, &mut shell, step)? {
+        if !is_as_printed(system, &mut shell, step)? {
             others = others.saturating_add(1);
         }
     }
@@ -101,24 +86,17 @@ where
 }
 
 // Whether a command prints what its page says. Where not, it prints both.
-fn is_as_printed<R: Files + AllocGlobal + Print + Clock + CpuClock + Input>(
-    rt: &R,
-    shell: &mut Shell,
-    step: &Step<'_>,
-) -> io::Result<bool>
-where
-    R::File: FileExt + LockFile,
-{
-    let found = shell.run(rt, step.command)?;
+fn is_as_printed(system: &System, shell: &mut Shell, step: &Step<'_>) -> io::Result<bool> {
+    let found = shell.run(system, step.command)?;
     let is_same = found.as_slice() == step.printed.as_bytes();
     if !is_same {
-        print_both(rt, step, found.as_slice())?;
+        print_both(system.host(), step, found.as_slice())?;
     }
     Ok(is_same)
 }
 
 // Prints a command, what its page says that it prints, and what it prints.
-fn print_both<R: Print>(rt: &R, step: &Step<'_>, found: &[u8]) -> io::Result<()> {
+fn print_both(rt: &HostRuntime, step: &Step<'_>, found: &[u8]) -> io::Result<()> {
     println!(rt; "$ {}", step.command)?;
     print!(rt; "{}instead of this it prints\n", step.printed)?;
     rt.write_all(found)
