@@ -103,7 +103,7 @@ fn columns_read(alloc: Global, dims: &Dims, asked: QueryRef<'_>) -> Result<Vec<C
         columns.extend_from_slice(&WHOLE_ROW)?;
         return Ok(columns);
     }
-    let fold = Fold::new(alloc, dims, asked.query())?;
+    let fold = Fold::new(alloc, dims, &asked.query().check()?)?;
     for column in fold.asked_columns()?.as_slice() {
         columns.push(Column::Figures(*column))?;
     }

@@ -24,7 +24,7 @@ pub use laws::{
     valid_rows_keep_the_rules,
 };
 pub use measure::{Agg, Measure};
-pub use query::{Cond, Kind, Order, Query};
+pub use query::{Cond, Kind, Order, ProperQuery, Query};
 pub use row_text::RowText;
 pub use rows::{CustomerRow, DateRow, DimRows, LineOrder, PartRow, SupplierRow};
 pub use totals::Totals;

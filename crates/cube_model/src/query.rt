@@ -1,5 +1,5 @@
 //! Queries, and which of them are proper.
-ghost use Rattle.std.specs.Prelude.{◌≡◌, ◌↔◌, IsTrue, OnOk, OnErr, IfErr};
+ghost use Rattle.std.specs.Prelude.{◌≡◌, ◌↔◌, IsTrue, OnOk, OnErr, IfErr, IfOk};
 ghost use Rattle.std.specs.List.{AllByRecursion};
 ghost use Rattle.cube_model.specs.Proper.{IsProper, IsFreeOfRepeats, IsFitCondition, IsFitOrder};
 
@@ -8,6 +8,7 @@ use crate::fault::Fault;
 use crate::items::{Items, Text};
 use crate::limits::{MOST_AGGREGATES, MOST_COLUMNS, MOST_CONDITIONS, MOST_LISTED_TEXTS};
 use crate::measure::Agg;
+use std::marker::Model;
 
 /// A condition on a fact row.
 #[derive(Debug, PartialEq, Eq, Drop)]
@@ -95,8 +96,9 @@ fn is_fit_order(query: &Query, order: Order) -> bool
 }
 
 impl Query {
-    /// Says whether the query may be asked. It takes no memory.
-    pub fn check(&self) -> Result<(), Fault>
+    /// The query as one that may be asked, or `BadQuery`. It takes no memory.
+    pub fn check(&self) -> Result<ProperQuery<'_>, Fault>
+        ensures ok { IfOk result (λ query. query ≡ self.now) }
         ensures proper { OnOk result (IsProper self.now) }
         ensures improper { OnErr result (IsProper self.now → ⊥) }
         ensures only { IfErr result (λ fault. fault ≡ Fault.BadQuery) }
@@ -118,6 +120,35 @@ impl Query {
                 return Err(Fault::BadQuery);
             }
         }
-        Ok(())
+        Ok(ProperQuery { query: self })
+    }
+}
+
+/// A query that may be asked. [`Query::check`] makes it.
+///
+/// Contracts see the query.
+#[derive(Drop)]
+pub struct ProperQuery<'a> {
+    query: &'a Query,
+}
+
+impl<'a> Model for ProperQuery<'a> {
+    ghost use Rattle.cube_model.specs.Proper.{IsProper};
+    ghost use Rattle.cube_model.specs.declared.query.Query.{Query};
+
+    ghost Value = { Query };
+
+    ghost view = { λ proper. proper.query.now };
+
+    ghost invariant = { λ proper. IsProper proper.query.now };
+}
+
+impl<'a> ProperQuery<'a> {
+    /// The query.
+    pub fn get(&self) -> &'a Query
+        ensures query { result.now ≡ self.now }
+        ensures proper { IsProper result.now }
+    {
+        self.query
     }
 }

@@ -21,7 +21,8 @@ pub fn fold(alloc: Global, dims: &Dims, rows: &[LineOrder], query: &Query) -> Re
     ensures unfolded { result ≡ Err Fault.BadLayout → AreFoldable dims.now rows.now → ⊥ }
     ensures only { IfErr result (λ fault. fault ≢ Fault.BadQuery → (fault ≡ Fault.Memory) ⊎ (fault ≡ Fault.BadLayout)) }
 {
-    let mut state = Fold::new(alloc, dims, query)?;
+    let query = query.check()?;
+    let mut state = Fold::new(alloc, dims, &query)?;
     state.add_rows(dims, rows)?;
     state.finish(dims)
 }

@@ -1,12 +1,10 @@
 //! A fold over fact rows that come in any number of calls.
-ghost use Rattle.std.specs.Prelude.{◌≡◌, ◌≢◌, ◌⊎◌, ◌≤◌, ◌<◌, ℕ, List, [], false, true, length, map, Some, Err, IfOk};
+ghost use Rattle.std.specs.Prelude.{◌≡◌, ◌⊎◌, ◌≤◌, ◌<◌, ℕ, List, true, length, map, Some, Err, IfOk};
 ghost use Rattle.std.specs.Prelude.{IfErr, IsErrOf, MatchResult, OnOk, OnErr};
 ghost use Rattle.std.specs.List.{All, AllByRecursion};
 ghost use Rattle.std.specs.Option.{option_map};
 ghost use Rattle.cube_model.specs.Answers.{answer};
-ghost use Rattle.cube_model.specs.Proper.{IsProper};
 ghost use Rattle.cube_model.specs.Selection.{is_selected};
-ghost use Rattle.cube_model.specs.declared.rows.DimRows.{DimRows};
 ghost use Rattle.cube_model.specs.declared.rows.LineOrder.{LineOrder};
 ghost use Rattle.wire.specs.Runs.{HasRead, IsRefused};
 ghost use Rattle.column_segment.specs.Projected.{AgreeOn};
@@ -39,7 +37,7 @@ use crate::group_slots::group_slots_of;
 use crate::whole_batch::{has_one_group, selected_rows, with_batch};
 use column_kernels::Mask;
 use column_segment::{FactColumn, FactColumns, Segment};
-use cube_model::{Answer, Fault, LineOrder, Query};
+use cube_model::{Answer, Fault, LineOrder, ProperQuery};
 use cuboid_cells::{Cells, RunReader};
 use cuboid_upkeep::{CellNumbers, one_key_one_group};
 use dictionary::Dictionary;
@@ -96,15 +94,18 @@ impl Model for Fold {
 
 impl Fold {
     /// A fold of a query, with no row yet.
-    pub fn new(alloc: Global, dims: &Dims, query: &Query) -> Result<Self, Fault>
-        ensures ok { IfOk result (Begins dims.now query.now) }
-        ensures proper { OnOk result (IsProper query.now) }
-        ensures improper { (IsProper query.now → ⊥) → result ≡ Err Fault.BadQuery }
-        ensures refused { result ≡ Err Fault.BadQuery → IsProper query.now → ⊥ }
-        ensures only { IfErr result (λ fault. fault ≢ Fault.BadQuery → fault ≡ Fault.Memory) }
+    pub fn new(alloc: Global, dims: &Dims, query: &ProperQuery<'_>) -> Result<Self, AllocError>
+        ensures { IfOk result (Begins dims.now query.now) }
     {
-        query.check()?;
-        Ok(begin(alloc, dims, query)?)
+        let plan = GroupPlan::new(alloc, dims, query)?;
+        let slots = Slots::new(alloc, plan.group_count())?;
+        let columns = no_columns(alloc, query.get().aggregates.as_slice())?;
+        Ok(Fold {
+            alloc,
+            plan,
+            slots,
+            columns,
+        })
     }
 
     /// The columns of fact rows at which its query looks, in the order of their places.
@@ -377,31 +378,6 @@ impl Fold {
         } = self;
         Groups::of(alloc, dims, plan, slots, columns)
     }
-}
-
-// A fold of a proper query, with no row yet.
-fn begin(alloc: Global, dims: &Dims, query: &Query) -> Result<Fold, AllocError>
-    requires { IsProper query.now }
-    ensures { IfOk result (Begins dims.now query.now) }
-{
-    let plan = GroupPlan::new(alloc, dims, query)?;
-    begin_by(alloc, plan)
-}
-
-// The same by the plan of its query.
-fn begin_by(alloc: Global, plan: GroupPlan) -> Result<Fold, AllocError>
-    requires { IsProper (query_of plan) }
-    ensures { IfOk result (λ fold. (dimensions : DimRows) → IsGroupPlanOver dimensions plan
-        → Begins dimensions (query_of plan) fold) }
-{
-    let slots = Slots::new(alloc, plan.group_count())?;
-    let columns = no_columns(alloc, plan.query().aggregates.as_slice())?;
-    Ok(Fold {
-        alloc,
-        plan,
-        slots,
-        columns,
-    })
 }
 
 // Makes all ready for rows to be counted in: the slots of their groups, and a place for each slot. Nothing is counted

@@ -1,6 +1,5 @@
 //! A plan of a query.
 ghost use Rattle.std.specs.Prelude.{◌≡◌, ◌≤◌, length, IfOk};
-ghost use Rattle.cube_model.specs.Proper.{IsProper};
 ghost use Rattle.group_plan.specs.Columns.{AreColumns};
 ghost use Rattle.group_plan.specs.Filters.{AreFilters};
 ghost use Rattle.group_plan.specs.Numbers.{group_count};
@@ -14,7 +13,7 @@ use crate::filters::Filters;
 use crate::over::GroupPlanOver;
 use crate::side::Side;
 use crate::sides::Sides;
-use cube_model::{Axis, Query};
+use cube_model::{Axis, ProperQuery, Query};
 use dimensions::Dims;
 use std::alloc::{AllocError, Global};
 
@@ -47,11 +46,11 @@ impl Drop for GroupPlan {
 
 impl GroupPlan {
     /// Makes a proper query ready. It can only fail when out of memory.
-    pub fn new(alloc: Global, dims: &Dims, query: &Query) -> Result<GroupPlan, AllocError>
-        requires { IsProper query.now }
+    pub fn new(alloc: Global, dims: &Dims, query: &ProperQuery<'_>) -> Result<GroupPlan, AllocError>
         ensures over { IfOk result (IsGroupPlanOver dims.now) }
         ensures query { IfOk result (λ plan. query_of plan ≡ query.now) }
     {
+        let query = query.get();
         let count = group_count(dims, query.columns.as_slice());
         let (sides, filters) = sides_and_filters(alloc, dims, query, count)?;
         let (copy, columns) = copy_and_columns(alloc, dims, query)?;

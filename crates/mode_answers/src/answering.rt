@@ -3,7 +3,6 @@ ghost use Rattle.std.specs.Prelude.{◌≡◌, ◌⊎◌, ◌≤◌, false, true
 ghost use Rattle.cube_model.specs.declared.fault.Fault.TheVariants.{BadLayout, Device, Memory};
 ghost use Rattle.cube_model.specs.Admission.{all_rows};
 ghost use Rattle.mode_folds.specs.States.{BeginsByModes, IsOverByModes, RepresentsModeRows};
-ghost use Rattle.mode_queries.specs.Proper.{IsProperByModes};
 ghost use Rattle.object_store.specs.Store.{content_of, device_of, has_failed};
 ghost use Rattle.warehouse_objects.specs.Warehouse.{Warehouse};
 ghost use Rattle.warehouse_objects.specs.Reads.{ReadsOnly};
@@ -18,7 +17,7 @@ use crate::planning::mode_plan_of;
 use cube_model::Fault;
 use dimensions::Dims;
 use mode_folds::ModeFold;
-use mode_queries::{ModeQuery, QueryRef};
+use mode_queries::{ModeQuery, ProperModeQuery};
 use object_store::Store;
 use sector_device::Sectors;
 use std::alloc::Global;
@@ -38,18 +37,17 @@ pub fn answer_by_plan<D: Sectors>(
     dims: &Rc<Dims>,
     modes: &ShipModes,
     as_of: u32,
-    asked: &ModeQuery,
+    asked: ProperModeQuery<'_>,
 ) -> Result<FoundByModes, Fault>
     requires fine { has_failed store.old ≡ false }
-    requires proper { IsProperByModes asked.now }
-    requires looks { looks_at_modes asked.now ≡ true }
+    requires looks { looks_at_modes asked ≡ true }
     requires few { as_of ≤ length root.now.batches }
 
     // The answer is the definition's over the rows of these batches.
     ensures answer { IfOk result (λ found. D.keeps_word (device_of store.new) → (w : Warehouse)
         → Represents (content_of D.Sectors store.old) w
         → root.now ≡ root_of w → AreItsMembers w dims.now.value modes.now
-        → found ≡ moded_answer_as_of asked.now as_of dims.now.value w.batches) }
+        → found ≡ moded_answer_as_of asked.entry as_of dims.now.value w.batches) }
     ensures refused { IsErrOf result BadLayout → D.keeps_word (device_of store.new) → (w : Warehouse)
         → Represents (content_of D.Sectors store.old) w
         → root.now ≡ root_of w → AreItsMembers w dims.now.value modes.now → ⊥ }
@@ -60,15 +58,12 @@ pub fn answer_by_plan<D: Sectors>(
 {
     let _usable = store.is_broken();
     let rows: &Dims = dims;
-    match ModeFold::new(alloc, rows, QueryRef::ByModes(asked)) {
-        Ok(mut fold) => {
-            fold_by_plan(alloc, store, root, rows, modes, &mut fold, as_of, asked)?;
-            let answered = fold.into_answered(rows)?;
-            let dims = dims.clone()?;
-            Ok(FoundByModes::of(dims, answered))
-        }
-        Err(_) => Err(Fault::Memory), // the query is proper
-    }
+    let query = asked.get();
+    let mut fold = ModeFold::new(alloc, rows, asked.into_ref())?;
+    fold_by_plan(alloc, store, root, rows, modes, &mut fold, as_of, query)?;
+    let answered = fold.into_answered(rows)?;
+    let dims = dims.clone()?;
+    Ok(FoundByModes::of(dims, answered))
 }
 
 // Counts the first batches of a store into a fold of a query that represents no row yet, by the plan that reads least.

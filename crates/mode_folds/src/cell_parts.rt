@@ -1,7 +1,6 @@
 //! The cells of a view in the folds of ship modes.
 ghost use Rattle.std.specs.Prelude.{◌≡◌, ◌⊎◌, ◌++◌, true, Err, List, IfErr, OnOk};
 ghost use Rattle.std.specs.List.{AllByRecursion};
-ghost use Rattle.cube_model.specs.Proper.{IsProper};
 ghost use Rattle.cube_model.specs.declared.rows.LineOrder.{LineOrder};
 ghost use Rattle.cube_query.specs.Groups.{IsOver};
 ghost use Rattle.group_tallies.specs.Limits.{AreFoldable};
@@ -12,7 +11,7 @@ ghost use Rattle.mode_queries.specs.Joining.{of_mode};
 
 use crate::celling::divided_cells;
 use crate::parts::grow;
-use cube_model::{Fault, Query};
+use cube_model::{Fault, ProperQuery};
 use cube_query::Fold;
 use cuboid_cells::Cells;
 use dictionary::Dictionary;
@@ -26,13 +25,12 @@ use std::alloc::Global;
 pub(crate) fn add_cells_by_mode(
     alloc: Global,
     dims: &Dims,
-    query: &Query,
+    query: &ProperQuery<'_>,
     own: &mut Dictionary,
     folds: &mut Vec<Fold>,
     cells: &Cells,
     modes: &Dictionary,
 ) -> Result<(), Fault>
-    requires proper { IsProper query.now }
     requires over { AllByRecursion (IsOver dims.now) folds.old.items }
     requires queries { HaveQuery query.now folds.old.items }
     requires serves { Serves cells.now.view query.now }
@@ -65,14 +63,13 @@ pub(crate) fn add_cells_by_mode(
 fn add_cells_of_mode(
     alloc: Global,
     dims: &Dims,
-    query: &Query,
+    query: &ProperQuery<'_>,
     own: &mut Dictionary,
     folds: &mut Vec<Fold>,
     mode: &[u8],
     cells: &Cells,
     modes: &Dictionary,
 ) -> Result<(), Fault>
-    requires proper { IsProper query.now }
     requires over { AllByRecursion (IsOver dims.now) folds.old.items }
     requires queries { HaveQuery query.now folds.old.items }
     requires serves { Serves cells.now.view query.now }

@@ -1,5 +1,5 @@
 //! A fold of a query that may look at ship modes, over fact rows that come in any number of calls.
-ghost use Rattle.std.specs.Prelude.{◌≡◌, ◌≢◌, ◌⊎◌, Err, List, IfErr, IfOk, IsTrue, ◌↔◌, OnOk, true};
+ghost use Rattle.std.specs.Prelude.{◌≡◌, ◌⊎◌, Err, List, IfErr, IfOk, OnOk, true};
 ghost use Rattle.cube_model.specs.declared.rows.LineOrder.{LineOrder};
 ghost use Rattle.cuboid_upkeep.specs.Grouping.{RepresentRows};
 ghost use Rattle.lattice.specs.Determined.{Serves};
@@ -7,8 +7,6 @@ ghost use Rattle.mode_folds.specs.Answered.{IsAnsweredOver, answered_over};
 ghost use Rattle.mode_folds.specs.States.{BeginsByModes, CanTakeByModes, IsFoldableByModes, IsOverByModes};
 ghost use Rattle.mode_folds.specs.States.{RepresentsModeRows, TakesByModes};
 ghost use Rattle.mode_queries.specs.Answers.{moded_answer};
-ghost use Rattle.mode_queries.specs.Proper.{IsProperByModes};
-ghost use Rattle.mode_queries.specs.References.{asked_by};
 
 use crate::answered::Answered;
 use crate::cell_parts::add_cells_by_mode;
@@ -17,13 +15,13 @@ use crate::dividing::passing;
 use crate::joining::joined;
 use crate::parts::add_by_mode;
 use crate::together::{add_cells_together, add_together};
-use cube_model::{Fault, LineOrder};
+use cube_model::{Fault, LineOrder, ProperQuery};
 use cube_query::Fold;
 use cuboid_cells::Cells;
 use dictionary::Dictionary;
 use dimensions::Dims;
-use mode_queries::QueryRef;
-use std::alloc::Global;
+use mode_queries::{ProperRef, QueryRef};
+use std::alloc::{AllocError, Global};
 use std::marker::Model;
 
 /// The groups of a query that may look at ship modes, over the fact rows that were added so far.
@@ -36,6 +34,7 @@ use std::marker::Model;
 pub struct ModeFold<'a> {
     alloc: Global,
     asked: QueryRef<'a>,
+    query: ProperQuery<'a>,
     together: Fold,
     modes: Dictionary,
     folds: Vec<Fold>,
@@ -47,6 +46,7 @@ impl<'a> Drop for ModeFold<'a> {
         let ModeFold {
             alloc: _,
             asked: _,
+            query: _,
             together: _,
             modes: _,
             folds: _,
@@ -72,26 +72,22 @@ impl<'a> Model for ModeFold<'a> {
 
     ghost invariant = { λ fold. IsProperByModes (asked_by fold.asked)
         × (fold.together.query ≡ (asked_by fold.asked).query)
-        × HaveQuery (asked_by fold.asked).query fold.folds.items };
+        × HaveQuery (asked_by fold.asked).query fold.folds.items
+        × (fold.query ≡ (asked_by fold.asked).query) };
 }
 
 impl<'a> ModeFold<'a> {
     /// A fold of a query, with no row yet.
-    pub fn new(alloc: Global, dims: &Dims, asked: QueryRef<'a>) -> Result<ModeFold<'a>, Fault>
-        ensures ok { IfOk result (BeginsByModes dims.now (asked_by asked.entry)) }
+    pub fn new(alloc: Global, dims: &Dims, asked: ProperRef<'a>) -> Result<ModeFold<'a>, AllocError>
+        ensures ok { IfOk result (BeginsByModes dims.now asked.entry) }
         ensures over { IfOk result (IsOverByModes dims.now) }
-        ensures proper { OnOk result (IsProperByModes (asked_by asked.entry)) }
-        ensures improper { (IsProperByModes (asked_by asked.entry) → ⊥) → result ≡ Err Fault.BadQuery }
-        ensures refused { result ≡ Err Fault.BadQuery → IsProperByModes (asked_by asked.entry) → ⊥ }
-        ensures only { IfErr result (λ fault. fault ≢ Fault.BadQuery → fault ≡ Fault.Memory) }
     {
-        asked.check()?;
-        let Ok(together) = Fold::new(alloc, dims, asked.query()) else {
-            return Err(Fault::Memory); // the query is proper
-        };
+        let (asked, query) = asked.into_parts();
+        let together = Fold::new(alloc, dims, &query)?;
         Ok(ModeFold {
             alloc,
             asked,
+            query,
             together,
             modes: Dictionary::new(alloc, u32::MAX),
             folds: Vec::new(alloc),
@@ -115,11 +111,10 @@ impl<'a> ModeFold<'a> {
         if self.asked.place().is_none() {
             return Ok(rows);
         }
-        let query = self.asked.query();
         add_by_mode(
             self.alloc,
             dims,
-            query,
+            &self.query,
             &mut self.modes,
             &mut self.folds,
             rows,
@@ -151,11 +146,10 @@ impl<'a> ModeFold<'a> {
         if self.asked.place().is_none() {
             return Ok(());
         }
-        let query = self.asked.query();
         add_cells_by_mode(
             self.alloc,
             dims,
-            query,
+            &self.query,
             &mut self.modes,
             &mut self.folds,
             &cells,
@@ -175,6 +169,7 @@ impl<'a> ModeFold<'a> {
         let ModeFold {
             alloc,
             asked,
+            query: _,
             together,
             modes,
             folds,

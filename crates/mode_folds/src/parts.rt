@@ -3,14 +3,14 @@ ghost use Rattle.std.specs.Prelude.{◌≡◌, ◌⊎◌, ◌≤◌, ◌++◌, E
 ghost use Rattle.std.specs.List.{AllByRecursion};
 ghost use Rattle.std.specs.declared.alloc.Global.{Global};
 ghost use Rattle.std.specs.declared.vec.Vec.{Vec};
-ghost use Rattle.cube_model.specs.Proper.{IsProper};
+ghost use Rattle.cube_model.specs.declared.query.Query.{Query};
 ghost use Rattle.cube_model.specs.declared.rows.LineOrder.{LineOrder};
 ghost use Rattle.cube_query.specs.Groups.{Begins, CanTake, FoldState, IsOver, Takes};
 ghost use Rattle.group_tallies.specs.Limits.{AreFoldable};
 ghost use Rattle.mode_folds.specs.Parts.{AreGrown, CanTakeEach, HaveQuery, RepresentByMode, TakeByMode, TakeEach};
 
 use crate::dividing::divided;
-use cube_model::{Fault, LineOrder, Query};
+use cube_model::{Fault, LineOrder, ProperQuery};
 use cube_query::Fold;
 use dictionary::Dictionary;
 use dimensions::Dims;
@@ -21,12 +21,11 @@ use std::alloc::Global;
 pub(crate) fn add_by_mode(
     alloc: Global,
     dims: &Dims,
-    query: &Query,
+    query: &ProperQuery<'_>,
     modes: &mut Dictionary,
     folds: &mut Vec<Fold>,
     rows: Vec<LineOrder>,
 ) -> Result<(), Fault>
-    requires proper { IsProper query.now }
     requires over { AllByRecursion (IsOver dims.now) folds.old.items }
     requires queries { HaveQuery query.now folds.old.items }
     ensures ok { OnOk result (TakeByMode dims.now query.now modes.old.texts folds.old.items rows.items modes.new.texts
@@ -47,11 +46,10 @@ pub(crate) fn add_by_mode(
 pub(crate) fn grow(
     alloc: Global,
     dims: &Dims,
-    query: &Query,
+    query: &ProperQuery<'_>,
     folds: &mut Vec<Fold>,
     count: usize,
 ) -> Result<(), Fault>
-    requires proper { IsProper query.now }
     requires over { AllByRecursion (IsOver dims.now) folds.old.items }
     requires queries { HaveQuery query.now folds.old.items }
     ensures ok { OnOk result (AreGrown dims.now query.now count folds.old.items folds.new.items) }
@@ -61,10 +59,7 @@ pub(crate) fn grow(
     ensures memory { IfErr result (λ fault. fault ≡ Fault.Memory) }
 {
     for _ in folds.len()..count {
-        match Fold::new(alloc, dims, query) {
-            Ok(fold) => folds.push(fold)?,
-            Err(_) => return Err(Fault::Memory), // the query is proper
-        }
+        folds.push(Fold::new(alloc, dims, query)?)?;
     }
     Ok(())
 }

@@ -9,5 +9,5 @@ mod reference;
 
 pub use laws::{answers_join, answers_without_ship_modes};
 pub use passing::passes;
-pub use query::{ModeCond, ModeQuery, SHIP_MODE};
-pub use reference::QueryRef;
+pub use query::{ModeCond, ModeQuery, ProperModeQuery, SHIP_MODE};
+pub use reference::{ProperRef, QueryRef};

@@ -1,14 +1,16 @@
 //! Queries that look at ship modes, and which of them are proper.
-ghost use Rattle.std.specs.Prelude.{◌≡◌, ◌↔◌, ◌+◌, ◌≤◌, None, IfErr, IfNone, IfSome, IsTrue, OnErr, OnOk, length};
+ghost use Rattle.std.specs.Prelude.{◌≡◌, ◌↔◌, ◌+◌, ◌≤◌, None, IfErr, IfNone, IfOk, IfSome, IsTrue, OnErr, OnOk, length};
 ghost use Rattle.std.specs.List.{AllByRecursion};
 ghost use Rattle.cube_model.specs.Limits.{most_columns};
 ghost use Rattle.cube_model.specs.declared.query.Query.{Query};
 ghost use Rattle.mode_queries.specs.Lawful.{without_modes};
 ghost use Rattle.mode_queries.specs.Proper.{IsFitModeCondition, IsProperByModes};
 
+use crate::reference::{ProperRef, QueryRef};
 use cube_model::limits::{MOST_COLUMNS, MOST_CONDITIONS, MOST_LISTED_TEXTS};
-use cube_model::{Fault, Items, Query, Text};
+use cube_model::{Fault, Items, ProperQuery, Query, Text};
 use std::alloc::Global;
+use std::marker::Model;
 
 /// The name of the ship mode of a fact row in queries and reports.
 pub const SHIP_MODE: &str = "lo_shipmode";
@@ -74,13 +76,14 @@ impl ModeQuery {
         }
     }
 
-    /// Says whether the query may be asked. It takes no memory.
-    pub fn check(&self) -> Result<(), Fault>
+    /// The query as one that may be asked, or `BadQuery`. It takes no memory.
+    pub fn check(&self) -> Result<ProperModeQuery<'_>, Fault>
+        ensures ok { IfOk result (λ proper. proper ≡ self.now) }
         ensures proper { OnOk result (IsProperByModes self.now) }
         ensures improper { OnErr result (IsProperByModes self.now → ⊥) }
         ensures only { IfErr result (λ fault. fault ≡ Fault.BadQuery) }
     {
-        self.query.check()?;
+        let query = self.query.check()?;
         if !is_fit_place(&self.query, self.place) {
             return Err(Fault::BadQuery);
         }
@@ -94,7 +97,47 @@ impl ModeQuery {
         {
             return Err(Fault::BadQuery);
         }
-        Ok(())
+        Ok(ProperModeQuery { asked: self, query })
+    }
+}
+
+/// A query that may look at ship modes, and that may be asked. [`ModeQuery::check`] makes it.
+///
+/// Contracts see the query.
+#[derive(Drop)]
+pub struct ProperModeQuery<'a> {
+    asked: &'a ModeQuery,
+    query: ProperQuery<'a>,
+}
+
+impl<'a> Model for ProperModeQuery<'a> {
+    ghost use Rattle.std.specs.Prelude.{◌≡◌};
+    ghost use Rattle.mode_queries.specs.Proper.{IsProperByModes};
+    ghost use Rattle.mode_queries.specs.declared.query.ModeQuery.{ModeQuery};
+
+    ghost Value = { ModeQuery };
+
+    ghost view = { λ proper. proper.asked.now };
+
+    ghost invariant = { λ proper. IsProperByModes proper.asked.now
+        × (proper.query ≡ proper.asked.now.query) };
+}
+
+impl<'a> ProperModeQuery<'a> {
+    /// The query.
+    pub fn get(&self) -> &'a ModeQuery
+        ensures query { result.now ≡ self.now }
+        ensures proper { IsProperByModes result.now }
+    {
+        self.asked
+    }
+
+    /// The query as one of those that may be given in either way.
+    pub fn into_ref(self) -> ProperRef<'a>
+        ensures { result ≡ self.entry }
+    {
+        let ProperModeQuery { asked, query } = self;
+        ProperRef::of(QueryRef::ByModes(asked), query)
     }
 }
 

@@ -3,7 +3,6 @@ ghost use Rattle.std.specs.Prelude.{◌≡◌, ◌⊎◌, ◌≤◌, false, leng
 ghost use Rattle.cube_model.specs.declared.fault.Fault.TheVariants.{BadLayout, Device, Memory};
 ghost use Rattle.cube_model.specs.Admission.{all_rows};
 ghost use Rattle.cube_model.specs.Answers.{answer};
-ghost use Rattle.cube_model.specs.Proper.{IsProper};
 ghost use Rattle.cube_query.specs.Groups.{Begins, IsOver, RepresentsRows};
 ghost use Rattle.object_store.specs.Store.{content_of, device_of, has_failed};
 ghost use Rattle.warehouse_objects.specs.Warehouse.{Warehouse};
@@ -15,7 +14,7 @@ ghost use Rattle.planned_queries.specs.Planned.{IsPlanOf, mark_of};
 use crate::following::begin_by_plan;
 use crate::found::Found;
 use crate::planning::plan_of;
-use cube_model::{Fault, Query};
+use cube_model::{Fault, ProperQuery, Query};
 use cube_query::Fold;
 use dimensions::Dims;
 use object_store::Store;
@@ -36,10 +35,9 @@ pub fn groups_by_plan<D: Sectors>(
     dims: &Rc<Dims>,
     modes: &ShipModes,
     as_of: u32,
-    query: &Query,
+    query: &ProperQuery<'_>,
 ) -> Result<Found, Fault>
     requires fine { has_failed store.old ≡ false }
-    requires proper { IsProper query.now }
     requires few { as_of ≤ length root.now.batches }
 
     // The answer is the definition's over the rows of these batches.
@@ -57,13 +55,10 @@ pub fn groups_by_plan<D: Sectors>(
 {
     let _usable = store.is_broken();
     let rows: &Dims = dims;
-    match Fold::new(alloc, rows, query) {
-        Ok(mut fold) => {
-            fold_by_plan(alloc, store, root, rows, modes, &mut fold, as_of, query)?;
-            Found::of(dims, fold)
-        }
-        Err(_) => Err(Fault::Memory), // the query is proper
-    }
+    let mut fold = Fold::new(alloc, rows, query)?;
+    let query = query.get();
+    fold_by_plan(alloc, store, root, rows, modes, &mut fold, as_of, query)?;
+    Found::of(dims, fold)
 }
 
 // Counts the first batches of a store into a fold of a query that represents no row yet, by the plan that reads least.

@@ -1,14 +1,13 @@
 //! A query that runs batch by batch.
 ghost use Rattle.std.specs.Prelude.{◌≡◌, ◌⊎◌, ◌≤◌, false, length, IfErr, IfOk, IsErrOf, OnErr};
 ghost use Rattle.cube_model.specs.declared.fault.Fault.TheVariants.{BadLayout, Device, Memory};
-ghost use Rattle.cube_model.specs.Proper.{IsProper};
 ghost use Rattle.object_store.specs.Store.{content_of, device_of, has_failed};
 ghost use Rattle.warehouse_objects.specs.Warehouse.{Warehouse};
 ghost use Rattle.warehouse_objects.specs.Reads.{ReadsOnly};
 ghost use Rattle.warehouse_objects.specs.Represents.{AreItsMembers, Represents, root_of};
 
 use crate::answering::begin_fold;
-use cube_model::{Answer, Fault, Query};
+use cube_model::{Answer, Fault, ProperQuery};
 use cube_query::Fold;
 use dimensions::Dims;
 use object_store::Store;
@@ -72,10 +71,9 @@ impl Running {
         dims: &Rc<Dims>,
         modes: &ShipModes,
         as_of: u32,
-        query: &Query,
+        query: &ProperQuery<'_>,
     ) -> Result<Running, Fault>
         requires fine { has_failed store.old ≡ false }
-        requires proper { IsProper query.now }
         requires few { as_of ≤ length root.now.batches }
         ensures begun { IfOk result (λ running. D.keeps_word (device_of store.new) → (w : Warehouse)
             → Represents (content_of D.Sectors store.old) w
@@ -91,19 +89,16 @@ impl Running {
     {
         let _usable = store.is_broken();
         let rows: &Dims = dims;
-        match Fold::new(alloc, rows, query) {
-            Ok(mut fold) => {
-                let done = begin_fold(alloc, store, root, rows, modes, &mut fold, as_of, query)?;
-                let dims = dims.clone()?;
-                Ok(Running {
-                    dims,
-                    fold,
-                    done,
-                    as_of,
-                })
-            }
-            Err(_) => Err(Fault::Memory), // the query is proper
-        }
+        let mut fold = Fold::new(alloc, rows, query)?;
+        let query = query.get();
+        let done = begin_fold(alloc, store, root, rows, modes, &mut fold, as_of, query)?;
+        let dims = dims.clone()?;
+        Ok(Running {
+            dims,
+            fold,
+            done,
+            as_of,
+        })
     }
 
     /// Counts the next batch in, or answers after the last one. A refusal leaves the running query as it was.

@@ -15,6 +15,7 @@ use Rattle.dimension_tables.proofs.CallerLemmas.{gives-on, gives-stop}
 use Rattle.report_formats.specs.Arranged.{WritesOrLacksMemory}
 use Rattle.mode_queries.specs.Answers.{moded_answer}
 use Rattle.mode_queries.specs.Lawful.{without_modes}
+use Rattle.mode_queries.specs.declared.query.ModeQuery.{ModeQuery}
 use Rattle.mode_queries.proofs.CallerLemmas.{answers_without_ship_modes}
 use Rattle.ssb_eval.specs.declared.star.Evaluated.{Evaluated}
 use Rattle.ssb_eval.specs.Evaluation.{Evaluates, EndsEvaluation, answer_of, eval_as, facts_of, moded_answer_of}
@@ -109,6 +110,10 @@ answer-is query dimensions text =
         ≡ and_then facts (λ rows. Ok (answer query dimensions rows))
     by (Ok rows) = ap (λ a. Ok a) (answers_without_ship_modes query dimensions rows)
     by (Err fault) = refl
+
+pub evaluates-same : {asked other : ModeQuery} (texts : TableTexts) (result : Result Evaluated Fault) → asked ≡ other
+    → Evaluates (moded_answer_of asked) texts result → Evaluates (moded_answer_of other) texts result
+evaluates-same texts result same = subst (λ q. Evaluates (moded_answer_of q) texts result) same
 
 pub evaluates-plain : (query : Query) (texts : TableTexts) (result : Result Evaluated Fault)
     → Evaluates (moded_answer_of (without_modes query)) texts result → Evaluates (answer_of query) texts result

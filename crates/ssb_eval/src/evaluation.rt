@@ -44,8 +44,8 @@ pub fn eval_texts<
     ensures improper { (IsProper query.now → ⊥) → (result ≡ Err Fault.BadQuery)
         × Keeps (W.contents out.old) (W.contents out.new) }
 {
-    query.check()?;
+    let proper = QueryRef::Plain(query).check()?;
     let mut tables = Tables::new(alloc, customer, supplier, part, date, lineorder)?;
-    let found = tables.evaluate(alloc, QueryRef::Plain(query))?;
+    let found = tables.evaluate(alloc, proper)?;
     write_report(query, &found.answered.over(&found.dims), out)
 }

@@ -13,8 +13,6 @@ ghost use Rattle.dimension_tables.specs.Tables.{IsUnread, KeepsLine};
 ghost use Rattle.dimension_tables.specs.Texts.{GivesUnlessFailed};
 ghost use Rattle.mode_folds.specs.Answered.{IsAnsweredOver};
 ghost use Rattle.mode_folds.specs.States.{BeginsByModes, CanTakeByModes, TakesByModes};
-ghost use Rattle.mode_queries.specs.Proper.{IsProperByModes};
-ghost use Rattle.mode_queries.specs.References.{asked_by};
 ghost use Rattle.ssb_eval.specs.Evaluation.{answer_in, moded_answer_of};
 ghost use Rattle.ssb_eval.specs.BatchLoop.{AreTaken, CanGoOn, FoldsFacts, TookAllRows, LooksAtNext, TakesNextBatch};
 ghost use Rattle.ssb_eval.specs.ShipModes.{HasMet, HasMetRows};
@@ -28,7 +26,7 @@ use cube_model::limits::MOST_BATCH_ROWS;
 use cube_model::{Fault, Items, LineOrder};
 use dimensions::Dims;
 use mode_folds::{Answered, ModeFold};
-use mode_queries::QueryRef;
+use mode_queries::ProperRef;
 use std::alloc::Global;
 use std::io::Read;
 
@@ -44,14 +42,13 @@ const BATCH_PIECES: usize = MOST_BATCH_ROWS / PIECE_ROWS;
 pub fn group_facts<R: Read>(
     alloc: Global,
     dims: &Dims,
-    asked: QueryRef<'_>,
+    asked: ProperRef<'_>,
     lines: &mut Lines<R>,
     unknown: &mut Option<UnknownKey>,
 ) -> Result<Answered, Fault>
-    requires proper { IsProperByModes (asked_by asked) }
     ensures over { IfOk result (IsAnsweredOver dims.now) }
     ensures answer { (text : List ℕ) → IsUnread lines.old text
-        → GivesUnlessFailed (moded_answer_of (asked_by asked.entry) dims.now text) (answer_in dims.now result) }
+        → GivesUnlessFailed (moded_answer_of asked.entry dims.now text) (answer_in dims.now result) }
     ensures unknown { IfSome unknown.old (IsInNoRow dims.now) → IfSome unknown.new (IsInNoRow dims.now) }
     ensures line { lines.old.fault ≡ None → KeepsLine lineorder_row lines.new }
 {

@@ -9,7 +9,6 @@ ghost use Rattle.ssb_eval.specs.Tables.{IsFresh, IsUnreadStar, KeepsCause, Keeps
 use crate::star::Tables;
 use cube_model::Fault;
 use dimensions::Dims;
-use mode_queries::QueryRef;
 use report_formats::{Asked, write_formatted};
 use std::alloc::Global;
 use std::io::{Read, Write};
@@ -48,8 +47,8 @@ pub fn eval_formatted<
     ensures cause { IsFresh tables.old → KeepsCause tables.new result }
     ensures unknown { (texts : TableTexts) → IsUnreadStar tables.old texts → KeepsUnknown texts tables.new }
 {
-    asked.query.check()?;
-    let found = tables.evaluate(alloc, QueryRef::ByModes(&asked.query))?;
+    let proper = asked.query.check()?;
+    let found = tables.evaluate(alloc, proper.into_ref())?;
     write_formatted(alloc, asked, &found.answered.over(&found.dims), out)?;
     Ok(found.dims)
 }

@@ -46,8 +46,8 @@ pub fn eval_partial<
     ensures cause { IsFresh tables.old → KeepsCause tables.new result }
     ensures unknown { (texts : TableTexts) → IsUnreadStar tables.old texts → KeepsUnknown texts tables.new }
 {
-    asked.query.check()?;
-    let found = tables.evaluate(alloc, QueryRef::Plain(&asked.query))?;
+    let proper = QueryRef::Plain(&asked.query).check()?;
+    let found = tables.evaluate(alloc, proper)?;
     let head = begin_partial(alloc, asked, &found.dims, &found.answered.over(&found.dims))?;
     write_partial(
         asked,

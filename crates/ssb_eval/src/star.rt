@@ -3,8 +3,6 @@ ghost use Rattle.std.specs.Prelude.{◌≡◌, None, Some, IfErr, IfNone, IfOk, 
 ghost use Rattle.dimension_tables.specs.Tables.{AreFresh, AreUnread, IsRefusedFor, KeepLines};
 ghost use Rattle.dimension_tables.specs.Texts.{GivesUnlessFailed, TableTexts, dimensions_of};
 ghost use Rattle.mode_folds.specs.Answered.{IsAnsweredOver};
-ghost use Rattle.mode_queries.specs.Proper.{IsProperByModes};
-ghost use Rattle.mode_queries.specs.References.{asked_by};
 ghost use Rattle.ssb_eval.specs.Evaluation.{Evaluates, ReadersHave, moded_answer_of};
 ghost use Rattle.ssb_eval.specs.Tables.{IsFresh, IsUnreadStar, KeepsBroken, KeepsCause, KeepsUnknown};
 
@@ -15,7 +13,7 @@ use cube_model::{DimRows, Fault};
 use dimension_tables::{DimensionTables, RefusedLine};
 use dimensions::Dims;
 use mode_folds::Answered;
-use mode_queries::QueryRef;
+use mode_queries::ProperRef;
 use std::alloc::Global;
 use std::io::Read;
 use std::marker::Model;
@@ -86,12 +84,11 @@ impl<C: Read + Drop, S: Read + Drop, P: Read + Drop, D: Read + Drop, L: Read + D
     pub(crate) fn evaluate(
         &mut self,
         alloc: Global,
-        asked: QueryRef<'_>,
+        asked: ProperRef<'_>,
     ) -> Result<Evaluated, Fault>
-        requires proper { IsProperByModes (asked_by asked) }
         ensures over { IfOk result (λ found. IsAnsweredOver found.dims found.answered) }
         ensures evaluates { (texts : TableTexts) → IsUnreadStar self.old texts
-            → Evaluates (moded_answer_of (asked_by asked.entry)) texts result }
+            → Evaluates (moded_answer_of asked.entry) texts result }
         ensures cause { IsFresh self.old → KeepsCause self.new result }
         ensures whole { IsFresh self.old → OnOk result (self.new.broken ≡ None) }
         ensures unknown { (texts : TableTexts) → IsUnreadStar self.old texts → KeepsUnknown texts self.new }

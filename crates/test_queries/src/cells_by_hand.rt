@@ -403,7 +403,7 @@ fn report_in(
     case: &Case,
 ) -> Result<Option<Vec<u8>>, Fault> {
     let query = query(alloc, &case.asked)?;
-    let mut fold = Fold::new(alloc, dims, &query)?;
+    let mut fold = Fold::new(alloc, dims, &query.check()?)?;
     report_after(alloc, dims, sample, &query, &mut fold, case)
 }
 

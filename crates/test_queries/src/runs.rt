@@ -103,7 +103,7 @@ fn report_of_run(
     query: &Query,
     bytes: &[u8],
 ) -> Result<Vec<u8>, Fault> {
-    let mut fold = Fold::new(alloc, dims, query)?;
+    let mut fold = Fold::new(alloc, dims, &query.check()?)?;
     let mut source = SliceSource::new(bytes);
     count_run(alloc, dims, query, &mut fold, &mut source)?;
     let answer = fold.finish(dims)?;

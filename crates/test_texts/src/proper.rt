@@ -167,7 +167,10 @@ static ORDERS: [(Asked<'static>, Result<(), Fault>); 6] = [
 /// Whether a query is answered so.
 fn is_answered(alloc: Global, asked: &Asked<'_>, want: Result<(), Fault>) -> Result<bool, Fault> {
     let query = query(alloc, asked)?;
-    Ok(query.check() == want)
+    match query.check() {
+        Ok(proper) => Ok(want == Ok(()) && proper.get() == &query),
+        Err(fault) => Ok(want == Err(fault)),
+    }
 }
 
 fn are_answered(rt: &impl Abort, alloc: Global, cases: &[(Asked<'_>, Result<(), Fault>)]) {

@@ -14,7 +14,7 @@ use crate::querying::are_there;
 use crate::session::Session;
 use cube_model::Fault;
 use mode_answers::{FoundByModes, answer_by_plan, mode_plans_of};
-use mode_queries::ModeQuery;
+use mode_queries::{ModeQuery, ProperModeQuery};
 use planner::Priced;
 use sector_device::Sectors;
 use std::alloc::Global;
@@ -47,9 +47,10 @@ impl<D: Sectors> Session<D> {
             return Err(Fault::Failed);
         }
         kept_is_represented(&self.dims, &self.root);
-        if let Err(fault) = check_by_modes(asked, as_of, self.root.batches().len() as u32) {
-            return Err(fault);
-        }
+        let proper = match check_by_modes(asked, as_of, self.root.batches().len() as u32) {
+            Ok(proper) => proper,
+            Err(fault) => return Err(fault),
+        };
         match answer_by_plan(
             alloc,
             &mut self.store,
@@ -57,7 +58,7 @@ impl<D: Sectors> Session<D> {
             &self.dims,
             &self.modes,
             as_of,
-            asked,
+            proper,
         ) {
             Ok(found) => Ok(found),
             Err(fault) => Err(fault),
@@ -95,14 +96,20 @@ impl<D: Sectors> Session<D> {
     }
 }
 
-// Says whether a query may be asked over the first of so many batches.
-fn check_by_modes(asked: &ModeQuery, as_of: u32, batches: u32) -> Result<(), Fault>
+// A query as one that may be asked over the first of so many batches.
+fn check_by_modes<'a>(
+    asked: &'a ModeQuery,
+    as_of: u32,
+    batches: u32,
+) -> Result<ProperModeQuery<'a>, Fault>
+    ensures query { IfOk result (λ proper. proper ≡ asked.now) }
     ensures ok { OnOk result (IsProperByModes asked.now × (as_of ≤ batches)) }
     ensures improper { (IsProperByModes asked.now → ⊥) → result ≡ Err BadQuery }
     ensures beyond { IsProperByModes asked.now → batches < as_of → result ≡ Err NoSuchPrefix }
     ensures causes { IfErr result (λ fault. ((fault ≡ BadQuery) × (IsProperByModes asked.now → ⊥))
         ⊎ ((fault ≡ NoSuchPrefix) × IsProperByModes asked.now × (batches < as_of))) }
 {
-    asked.check()?;
-    are_there(as_of, batches)
+    let proper = asked.check()?;
+    are_there(as_of, batches)?;
+    Ok(proper)
 }

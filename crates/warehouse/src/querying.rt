@@ -9,7 +9,7 @@ ghost use Rattle.warehouse.specs.Session.{device_of, IsAt, IsAsked};
 
 use crate::prepared::kept_is_represented;
 use crate::session::Session;
-use cube_model::{Answer, Fault, Query};
+use cube_model::{Answer, Fault, ProperQuery, Query};
 use planned_queries::{Found, groups_by_plan};
 use sector_device::Sectors;
 use std::alloc::Global;
@@ -59,9 +59,10 @@ impl<D: Sectors> Session<D> {
             return Err(Fault::Failed);
         }
         kept_is_represented(&self.dims, &self.root);
-        if let Err(fault) = check(query, as_of, self.root.batches().len() as u32) {
-            return Err(fault);
-        }
+        let proper = match check(query, as_of, self.root.batches().len() as u32) {
+            Ok(proper) => proper,
+            Err(fault) => return Err(fault),
+        };
         match groups_by_plan(
             alloc,
             &mut self.store,
@@ -69,7 +70,7 @@ impl<D: Sectors> Session<D> {
             &self.dims,
             &self.modes,
             as_of,
-            query,
+            &proper,
         ) {
             Ok(found) => Ok(found),
             Err(fault) => Err(fault),
@@ -77,16 +78,22 @@ impl<D: Sectors> Session<D> {
     }
 }
 
-/// Says whether a query may be asked over the first of so many batches.
-pub(crate) fn check(query: &Query, as_of: u32, batches: u32) -> Result<(), Fault>
+/// A query as one that may be asked over the first of so many batches.
+pub(crate) fn check<'a>(
+    query: &'a Query,
+    as_of: u32,
+    batches: u32,
+) -> Result<ProperQuery<'a>, Fault>
+    ensures query { IfOk result (λ proper. proper ≡ query.now) }
     ensures ok { OnOk result (IsProper query.now × (as_of ≤ batches)) }
     ensures improper { (IsProper query.now → ⊥) → result ≡ Err BadQuery }
     ensures beyond { IsProper query.now → batches < as_of → result ≡ Err NoSuchPrefix }
     ensures causes { IfErr result (λ fault. ((fault ≡ BadQuery) × (IsProper query.now → ⊥))
         ⊎ ((fault ≡ NoSuchPrefix) × IsProper query.now × (batches < as_of))) }
 {
-    query.check()?;
-    are_there(as_of, batches)
+    let proper = query.check()?;
+    are_there(as_of, batches)?;
+    Ok(proper)
 }
 
 // Says whether so many batches are there.

@@ -48,9 +48,10 @@ impl<D: Sectors> Session<D> {
             return Err(Fault::Failed);
         }
         kept_is_represented(&self.dims, &self.root);
-        if let Err(fault) = check(query, as_of, self.root.batches().len() as u32) {
-            return Err(fault);
-        }
+        let proper = match check(query, as_of, self.root.batches().len() as u32) {
+            Ok(proper) => proper,
+            Err(fault) => return Err(fault),
+        };
         match Running::begin(
             alloc,
             &mut self.store,
@@ -58,7 +59,7 @@ impl<D: Sectors> Session<D> {
             &self.dims,
             &self.modes,
             as_of,
-            query,
+            &proper,
         ) {
             Ok(running) => Ok(running),
             Err(fault) => Err(fault),

@@ -3,7 +3,6 @@ use Rattle.std.proofs.lemmas.Result.{err_from_is_err_and}
 use Rattle.cube_query.proofs.CallerLemmas.{memory_alone}
 use Rattle.dimension_tables.specs.Texts.{GivesUnlessFailed}
 use Rattle.mode_folds.specs.States.{IsFoldableByModes}
-use Rattle.mode_queries.specs.References.{asked_by}
 use Rattle.ssb_eval.specs.Evaluation.{moded_answer_of}
 use Rattle.ssb_eval.proofs.Batches.{gives-answered, gives-nothing}
 use Rattle.ssb_eval.proofs.Pieces.{over_rows}
@@ -13,7 +12,7 @@ pub returns-in_err-fold_lines-clause-answer : goal.returns-in_err-fold_lines-cla
 returns-in_err-fold_lines-clause-answer g c = λ text known.
     let dims = c.args.dims.now in
     let fault = c.in_err-fold_lines.field-0.0 in
-    gives-nothing (asked_by c.args.asked) dims text fault _
+    gives-nothing c.args.asked dims text fault _
     (err_from_is_err_and _ c.from_residual-in_err-fold_lines.ensures.1)
     (subst (λ q. GivesUnlessFailed (moded_answer_of q dims text) (Err fault)) c.in_ok-fold.ensures.ok.query_is
     (c.in_err-fold_lines.ensures.facts text known))
@@ -28,7 +27,7 @@ returns-clause-answer g c = λ text known.
     let dims = c.args.dims.now in
     let fold = c.fold_lines.new.fold in
     let done = c.in_ok-fold_lines.ensures.folded in
-    gives-answered (asked_by c.args.asked) dims text fold c.into_answered.result
+    gives-answered c.args.asked dims text fold c.into_answered.result
     (done.query_is ∙ c.in_ok-fold.ensures.ok.query_is)
     (c.in_ok-fold_lines.ensures.facts text known)
     c.into_answered.ensures.answer

@@ -9,7 +9,7 @@ use Rattle.group_plan.proofs.plan.GroupPlan.new.Goals as goal
 pub returns-clause-over : goal.returns-clause-over
 returns-clause-over c =
     let dims = c.args.dims.now in
-    let query = c.args.query.now in
+    let query = c.get-query.result.now in
     let fits : c.group_count-count.result < 2 ^ 128 = search rules in
     plan_over dims _ (subst (λ (copy : Query). IsGroupPlanOf dims (record {
       query = copy;
@@ -19,7 +19,7 @@ returns-clause-over c =
       filters = c.in_ok-sides.filters;
       count = c.group_count-count.result;
     })) (sym c.in_ok-copy.ensures.copy) (record {
-      few = c.requires.few_columns;
+      few = c.get-query.ensures.proper.few_columns;
       within = subst (λ conditions. AreBounds conditions c.of.result) c.as_slice-2.ensures c.of.ensures;
       sides = c.in_ok-sides.ensures.sides;
       filters = c.in_ok-sides.ensures.filters;
@@ -28,3 +28,6 @@ returns-clause-over c =
       counted = c.group_count-count.ensures.count ∙ ap (group_count dims) c.as_slice.ensures;
       fits = fits;
     }))
+
+pub returns-clause-query : goal.returns-clause-query
+returns-clause-query c = c.in_ok-copy.ensures.copy ∙ c.get-query.ensures.query

@@ -46,8 +46,8 @@ returns-then-is_none-clause-ok c = λ rows represent.
 
 pub add_cells_by_mode-requires-clause-serves : goal.add_cells_by_mode-requires-clause-serves
 add_cells_by_mode-requires-clause-serves c =
-    subst (λ view. Serves view c.query-query.result.now) (sym c.in_ok-cells.ensures.view)
-    (subst (Serves c.args.cells.now.view) (ap (λ s. s.asked.query) (sym c.self.view_is) ∙ sym c.query-query.ensures)
+    subst (λ view. Serves view c.self.inside.query) (sym c.in_ok-cells.ensures.view)
+    (subst (Serves c.args.cells.now.view) (ap (λ s. s.asked.query) (sym c.self.view_is) ∙ sym c.self.invariant.3)
     c.requires.serves)
 
 pub returns-clause-ok : goal.returns-clause-ok
@@ -67,7 +67,7 @@ returns-clause-ok c =
     c.add_cells_by_mode.new.own.texts c.self.inside.folds.items c.add_cells_by_mode.new.folds.items rows some
     c.self.invariant.2 (c.in_ok-add_cells_together.ensures.ok rows (passing_represent rows represent))
     (subst (λ q. TakeByMode dims q c.self.inside.modes.texts c.self.inside.folds.items (passing asked.conditions rows)
-    c.add_cells_by_mode.new.own.texts c.add_cells_by_mode.new.folds.items) c.query-query.ensures
+    c.add_cells_by_mode.new.own.texts c.add_cells_by_mode.new.folds.items) c.self.invariant.3
     (take (passing asked.conditions rows) (passing_represent rows represent))))) c.add_cells_by_mode.ensures.ok
 
 pub returns-clause-refused : goal.returns-clause-refused
@@ -83,6 +83,6 @@ returns-clause-refused c = λ is rows represent given.
     c.add_cells_by_mode.ensures.refused is (passing asked.conditions rows) (passing asked.conditions can.0)
     (passing_represent rows represent)
     (subst (λ q. RepresentByMode dims q (passing asked.conditions can.0) c.self.inside.modes.texts
-    c.self.inside.folds.items) (sym c.query-query.ensures)
+    c.self.inside.folds.items) (sym c.self.invariant.3)
     (represent_by_mode dims asked c.self.inside.together c.self.inside.modes.texts c.self.inside.folds.items can.0 some
     c.self.invariant.2 can.1.0)) (passing_after dims asked can.0 rows (passing asked.conditions rows) refl can.1.1)

@@ -38,7 +38,7 @@ returns-in_err-add_by_mode-clause-refused c =
     c.in_err-add_by_mode.ensures.refused (same_error c.in_err-add_by_mode.field-0.0 BadLayout is)
     (passing asked.conditions can.0)
     (subst (λ q. RepresentByMode c.args.dims.now q (passing asked.conditions can.0) c.self.inside.modes.texts
-    c.self.inside.folds.items) (sym c.query-query.ensures)
+    c.self.inside.folds.items) (sym c.self.invariant.3)
     (represent_by_mode c.args.dims.now asked c.self.inside.together c.self.inside.modes.texts
     c.self.inside.folds.items can.0 some c.self.invariant.2 can.1.0))
     (passing_after c.args.dims.now asked can.0 c.args.rows.items c.passing-rows.result.items rows_are can.1.1))
@@ -58,7 +58,7 @@ returns-clause-ok c =
     (c.in_ok-add_together.ensures.ok c.args.rows.items (c.as_slice.ensures.value ∙ rows_are))
     (subst (λ q. TakeByMode c.args.dims.now q c.self.inside.modes.texts c.self.inside.folds.items
     (passing asked.conditions c.args.rows.items) c.add_by_mode.new.modes.texts c.add_by_mode.new.folds.items)
-    c.query-query.ensures
-    (subst (λ l. TakeByMode c.args.dims.now c.query-query.result.now c.self.inside.modes.texts
+    c.self.invariant.3
+    (subst (λ l. TakeByMode c.args.dims.now c.self.inside.query c.self.inside.modes.texts
     c.self.inside.folds.items l c.add_by_mode.new.modes.texts c.add_by_mode.new.folds.items) rows_are
     c.in_ok-add_by_mode.ensures.ok)))

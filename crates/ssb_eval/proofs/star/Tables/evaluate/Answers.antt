@@ -2,7 +2,6 @@ use Rattle.std.proofs.Common.{◌∙◌, ap, subst, sym}
 use Rattle.std.proofs.lemmas.Result.{err_from_is_err_and}
 use Rattle.batch_loader.specs.Unread.{Unread}
 use Rattle.dimension_tables.specs.Tables.{KeepLines}
-use Rattle.mode_queries.specs.References.{asked_by}
 use Rattle.ssb_eval.specs.Evaluation.{moded_answer_of}
 use Rattle.ssb_eval.specs.Tables.{StarLines}
 use Rattle.ssb_eval.proofs.KeptLines.{evaluates-no_answer, keeps-cause, keeps-unknown, no_key, unread-rest}
@@ -10,7 +9,7 @@ use Rattle.ssb_eval.proofs.star.Tables.evaluate.Goals as goal
 
 pub returns-in_err-answered-clause-evaluates : goal.returns-in_err-answered-clause-evaluates
 returns-in_err-answered-clause-evaluates g c = λ texts unread.
-    evaluates-no_answer (moded_answer_of (asked_by c.args.asked)) texts c.in_ok-dims.dims _ _
+    evaluates-no_answer (moded_answer_of c.args.asked) texts c.in_ok-dims.dims _ _
     (err_from_is_err_and _ c.from_residual-in_err-answered.ensures.1)
     (c.in_ok-dims.ensures.dims texts unread.dimensions)
     (c.in_err-answered.ensures.answer texts.lineorder

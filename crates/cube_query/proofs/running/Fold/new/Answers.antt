@@ -1,22 +1,25 @@
-use Rattle.std.proofs.Common.{◌≡◌, ◌∙◌, ℕ, [], ap, refl, subst}
+use Rattle.std.proofs.Common.{◌≡◌, ◌∙◌, ℕ, [], ap, subst, sym}
+use Rattle.cube_model.specs.Proper.{IsProper}
+use Rattle.cube_model.specs.declared.query.Query.{Query}
 use Rattle.group_tallies.specs.Columns.{tallies_at}
 use Rattle.group_tallies.specs.Slots.{entries_of, AreSlots, Cover}
 use Rattle.group_tallies.specs.Tallies.{tallies_of}
 use Rattle.group_plan.specs.Plans.{query_of}
 use Rattle.group_plan.proofs.Extending.{plan_of_over}
 use Rattle.cube_query.proofs.Folds.{begun}
-use Rattle.cube_query.proofs.running.begin_by.Goals as goal
+use Rattle.cube_query.proofs.running.Fold.new.Goals as goal
 
 pub invariant_of-result : goal.invariant_of-result
 invariant_of-result c =
-    let plan = c.args.plan in
+    let plan = c.in_ok-plan.plan in
     let slots = c.in_ok-slots.slots in
     let columns = c.in_ok-columns.columns.items in
+    let same : c.get.result.now ≡ query_of plan = c.get.ensures.query ∙ sym c.in_ok-plan.ensures.query in
     let none = λ (slot : ℕ).
     (let here : tallies_at columns slot ≡ tallies_of (query_of plan).aggregates [] = c.in_ok-columns.ensures slot
-    ∙ ap (λ aggs. tallies_of aggs []) (c.as_slice.ensures ∙ ap (λ q. q.aggregates) c.query.ensures) in here) in
+    ∙ ap (λ aggs. tallies_of aggs []) (c.as_slice.ensures ∙ ap (λ (q : Query). q.aggregates) same) in here) in
     record {
-      proper = c.requires;
+      proper = subst IsProper same c.get.ensures.proper;
       numbers = subst (λ n. AreSlots n (entries_of slots)) c.group_count.ensures c.in_ok-slots.ensures.numbers;
       cover = subst (λ n. Cover n slots) c.group_count.ensures c.in_ok-slots.ensures.cover;
       fresh = λ slot h. none slot;
@@ -24,18 +27,19 @@ invariant_of-result c =
 
 pub returns : goal.returns
 returns c =
-    let plan = c.args.plan in
+    let dims = c.args.dims.now in
+    let plan = c.in_ok-plan.plan in
     let slots = c.in_ok-slots.slots in
     let columns = c.in_ok-columns.columns.items in
+    let same : c.get.result.now ≡ query_of plan = c.get.ensures.query ∙ sym c.in_ok-plan.ensures.query in
     let none = λ (slot : ℕ).
     (let here : tallies_at columns slot ≡ tallies_of (query_of plan).aggregates [] = c.in_ok-columns.ensures slot
-    ∙ ap (λ aggs. tallies_of aggs []) (c.as_slice.ensures ∙ ap (λ q. q.aggregates) c.query.ensures) in here) in
-    λ dims over.
-    let made = plan_of_over dims plan over in
+    ∙ ap (λ aggs. tallies_of aggs []) (c.as_slice.ensures ∙ ap (λ (q : Query). q.aggregates) same) in here) in
+    let made = plan_of_over dims plan c.in_ok-plan.ensures.over in
     record {
-      query_is = refl;
+      query_is = c.in_ok-plan.ensures.query;
       represents =
-          begun dims plan over slots columns
+          begun dims plan c.in_ok-plan.ensures.over slots columns
           (subst (λ n. AreSlots n (entries_of slots)) (c.group_count.ensures ∙ made.counted)
           c.in_ok-slots.ensures.numbers) none;
     }
