@@ -8,7 +8,7 @@ use cube_model::{Fault, Items, Line, Member, Value};
 use std::alloc::Global;
 
 /// A line of a partial answer, whose numbers have 128 bits, so that those of many parts can be added in any order.
-#[derive(Debug, PartialEq, Eq, Drop)]
+#[derive(PartialEq, Eq, Drop)]
 pub struct WideLine {
     pub key: Items<Member>,
     pub numbers: Items<i128>,

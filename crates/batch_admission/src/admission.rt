@@ -15,7 +15,7 @@ use dimensions::Dims;
 use std::marker::Model;
 
 /// The number of the batches that were accepted, and the totals of their rows.
-#[derive(Debug, Drop)]
+#[derive(Drop)]
 pub struct Admission {
     count: u32,
     totals: Totals,

@@ -17,7 +17,7 @@ use std::marker::Model;
 
 /// What was found in the first rows of a batch: how many they are, the first text that is too long, the first unknown
 /// key, and the sums of these rows and of all that were accepted before. A batch may be handed over in pieces.
-#[derive(Clone, Copy, Debug)]
+#[derive(Clone, Copy)]
 pub struct Findings {
     row_count: u32,
     long_text: Option<Fault>,

@@ -10,7 +10,7 @@ use std::marker::Model;
 const SUM_LIMIT: u128 = 1 << 63;
 
 /// The sum of the absolute values of each measure, over some fact rows.
-#[derive(Clone, Copy, Debug)]
+#[derive(Clone, Copy)]
 pub struct Sums {
     quantity: u128,
     extendedprice: u128,

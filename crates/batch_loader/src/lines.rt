@@ -19,7 +19,6 @@ use std::marker::Model;
 ///
 /// The line that was taken last lies in front of the window still, with its LF, if any byte is taken there, and else in
 /// the buffer.
-#[derive(Drop)]
 pub struct Lines<R: Read> {
     reader: R,
     window: Window,
@@ -27,6 +26,20 @@ pub struct Lines<R: Read> {
     buffer: Vec<u8>,
     number: u64,
     fault: Option<Fault>,
+}
+
+// Written out, so that a proof has one call to follow where one is let go.
+impl<R: Read + Drop> Drop for Lines<R> {
+    fn drop(self) {
+        let Lines {
+            reader: _,
+            window: _,
+            taken: _,
+            buffer: _,
+            number: _,
+            fault: _,
+        } = self;
+    }
 }
 
 impl<R: Read> Model for Lines<R> {

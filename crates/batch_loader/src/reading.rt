@@ -13,7 +13,7 @@ use std::io::Read;
 pub const LINE_LIMIT: usize = LONGEST_LINE;
 
 /// Why no line was read.
-#[derive(Clone, Copy, Debug, PartialEq, Eq)]
+#[derive(Clone, Copy, PartialEq, Eq)]
 pub enum LineFault {
     Long,
     Input,

@@ -20,10 +20,16 @@ use wire::Cursor;
 /// lowest first.
 ///
 /// Contracts see the list of the rows' ship modes.
-#[derive(Drop)]
 pub(crate) struct ModeColumn {
     texts: Dictionary,
     codes: Vec<[u8; 2]>,
+}
+
+// Written out, so that a proof has one call to follow where one is let go.
+impl Drop for ModeColumn {
+    fn drop(self) {
+        let ModeColumn { texts: _, codes: _ } = self;
+    }
 }
 
 impl Model for ModeColumn {

@@ -16,7 +16,7 @@ use std::alloc::Global;
 use std::marker::Model;
 
 /// One truth value for each row of a batch: whether the row is selected.
-#[derive(Debug, Drop)]
+#[derive(Drop)]
 pub struct Mask {
     // a bit a row of each whole block of 32 rows, the first row's the lowest
     words: Vec<u32>,

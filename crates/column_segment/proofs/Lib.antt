@@ -14,7 +14,6 @@ mod OneColumn
 mod MoreReads
 mod Shared
 mod Short
-mod Sourced
 mod Tests
 mod Totals
 mod Values

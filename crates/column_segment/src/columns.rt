@@ -1,10 +1,37 @@
 //! The columns of a batch.
-ghost use Rattle.std.specs.Prelude.{◌≡◌};
+#![tactic(auto, unfolding(wire::specs::Spelling::spelling))]
+
+ghost use Rattle.std.specs.Prelude.{◌≡◌, ◌+◌, ◌≤◌, ◌<◌, ℕ};
+ghost use Rattle.std.proofs.Common.{arith};
+ghost use Rattle.wire.specs.Spelling.{spelling};
+ghost use Rattle.column_segment.specs.Columns.{Column, amounts, bytes, numbers};
+ghost use Rattle.column_segment.specs.Decoded.{amount_place, byte_place, number_place};
 
 use cube_model::LineOrder;
 
+/// Columns of numbers of so many bytes each, the lowest first.
+pub(crate) trait OfWidth<const WIDTH: usize>: Copy {
+    /// Its width, its limit, and which number of a row it has.
+    ghost column: { Self → Column };
+
+    /// How many bytes of a row are in the columns before it.
+    ghost place: { Self → ℕ };
+
+    // The bytes of what a row has in the column.
+    fn bytes_of(self, row: &LineOrder) -> [u8; WIDTH]
+        ensures { result ≡ spelling (column self).width ((column self).value row.now) };
+
+    // How many bytes of a row are in the columns before it.
+    fn place(self) -> usize
+        ensures value { result ≡ place self }
+        ensures within { result + WIDTH ≤ 63 };
+
+    /// Each number has a byte, and at most eight.
+    ghost width: { (0 < WIDTH) × (WIDTH ≤ 8) };
+}
+
 /// A column of amounts, eight bytes each.
-#[derive(Clone, Copy, Debug, PartialEq, Eq)]
+#[derive(Clone, Copy, PartialEq, Eq)]
 pub enum AmountColumn {
     OrderKey,
     ExtendedPrice,
@@ -13,25 +40,37 @@ pub enum AmountColumn {
     SupplyCost,
 }
 
-impl AmountColumn {
-    ghost use Rattle.column_segment.specs.Columns.{amount_of};
+impl OfWidth<8> for AmountColumn {
+    ghost column = { amounts };
 
-    // What a row has in the column.
-    pub(crate) fn of(self, row: &LineOrder) -> u64
-        ensures { result ≡ amount_of self row.now }
-    {
-        match self {
+    ghost place = { amount_place };
+
+    fn bytes_of(self, row: &LineOrder) -> [u8; 8] {
+        let number = match self {
             AmountColumn::OrderKey => row.orderkey.get(),
             AmountColumn::ExtendedPrice => row.extendedprice.get(),
             AmountColumn::OrdTotalPrice => row.ordtotalprice.get(),
             AmountColumn::Revenue => row.revenue.get(),
             AmountColumn::SupplyCost => row.supplycost.get(),
+        };
+        u64::to_le_bytes(number)
+    }
+
+    fn place(self) -> usize {
+        match self {
+            AmountColumn::OrderKey => 0,
+            AmountColumn::ExtendedPrice => 29,
+            AmountColumn::OrdTotalPrice => 37,
+            AmountColumn::Revenue => 46,
+            AmountColumn::SupplyCost => 54,
         }
     }
+
+    ghost width = { (omega arith, omega arith) };
 }
 
 /// A column of numbers, four bytes each: the line number and the keys of the dimensions.
-#[derive(Clone, Copy, Debug, PartialEq, Eq)]
+#[derive(Clone, Copy, PartialEq, Eq)]
 pub enum NumberColumn {
     LineNumber,
     CustKey,
@@ -40,48 +79,70 @@ pub enum NumberColumn {
     OrderDate,
 }
 
-impl NumberColumn {
-    ghost use Rattle.column_segment.specs.Columns.{column_number};
+impl OfWidth<4> for NumberColumn {
+    ghost column = { numbers };
 
-    // What a row has in the column.
-    pub(crate) fn of(self, row: &LineOrder) -> u32
-        ensures { result ≡ column_number self row.now }
-    {
-        match self {
+    ghost place = { number_place };
+
+    fn bytes_of(self, row: &LineOrder) -> [u8; 4] {
+        let number = match self {
             NumberColumn::LineNumber => row.linenumber,
             NumberColumn::CustKey => row.custkey,
             NumberColumn::PartKey => row.partkey,
             NumberColumn::SuppKey => row.suppkey,
             NumberColumn::OrderDate => row.orderdate,
+        };
+        u32::to_le_bytes(number)
+    }
+
+    fn place(self) -> usize {
+        match self {
+            NumberColumn::LineNumber => 8,
+            NumberColumn::CustKey => 12,
+            NumberColumn::PartKey => 16,
+            NumberColumn::SuppKey => 20,
+            NumberColumn::OrderDate => 24,
         }
     }
+
+    ghost width = { (omega arith, omega arith) };
 }
 
 /// A column of small numbers, a byte each.
-#[derive(Clone, Copy, Debug, PartialEq, Eq)]
+#[derive(Clone, Copy, PartialEq, Eq)]
 pub enum ByteColumn {
     Quantity,
     Discount,
     Tax,
 }
 
-impl ByteColumn {
-    ghost use Rattle.column_segment.specs.Columns.{byte_of};
+impl OfWidth<1> for ByteColumn {
+    ghost column = { bytes };
 
-    // What a row has in the column.
-    pub(crate) fn of(self, row: &LineOrder) -> u8
-        ensures { result ≡ byte_of self row.now }
-    {
-        match self {
+    ghost place = { byte_place };
+
+    fn bytes_of(self, row: &LineOrder) -> [u8; 1] {
+        let number = match self {
             ByteColumn::Quantity => row.quantity,
             ByteColumn::Discount => row.discount,
             ByteColumn::Tax => row.tax,
+        };
+        u8::to_le_bytes(number)
+    }
+
+    fn place(self) -> usize {
+        match self {
+            ByteColumn::Quantity => 28,
+            ByteColumn::Discount => 45,
+            ByteColumn::Tax => 62,
         }
     }
+
+    ghost width = { (omega arith, omega arith) };
 }
 
 /// A column of texts: a dictionary, and two bytes each.
-#[derive(Clone, Copy, Debug, PartialEq, Eq)]
+#[derive(Clone, Copy, PartialEq, Eq)]
 pub enum TextColumn {
     OrderPriority,
     ShipPriority,
@@ -106,7 +167,7 @@ impl TextColumn {
 }
 
 /// A column of numbers, of any width.
-#[derive(Clone, Copy, Debug, PartialEq, Eq)]
+#[derive(Clone, Copy, PartialEq, Eq)]
 pub enum FactColumn {
     Amount(AmountColumn),
     Number(NumberColumn),

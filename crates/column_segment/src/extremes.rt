@@ -7,7 +7,7 @@ ghost use Rattle.column_segment.specs.Columns.{amount_of, byte_of};
 ghost use Rattle.column_segment.specs.Decoded.{HoldsColumns, decoded_rows};
 
 use crate::columns::{AmountColumn, ByteColumn};
-use crate::layout::{Layout, amount_chunks, byte_part};
+use crate::layout::{Layout, byte_part, chunks};
 use column_kernels::Mask;
 use cube_model::Measure;
 
@@ -64,7 +64,7 @@ fn extremes_of_amounts(
         ≡ extremes_of
         (map (λ row. pos (amount_of column row)) (selected_by mask.now (decoded_rows bytes.now layout.now))) }
 {
-    mask.extremes_of_numbers(amount_chunks(bytes, layout.rows, column))
+    mask.extremes_of_numbers(chunks(bytes, layout.rows, column))
 }
 
 // The same of the extended prices, each times its discount.
@@ -76,7 +76,7 @@ fn extremes_of_discounted(bytes: &[u8], layout: &Layout, mask: &Mask) -> Option<
         (map (λ row. pos (row.extendedprice * row.discount))
         (selected_by mask.now (decoded_rows bytes.now layout.now))) }
 {
-    let prices = amount_chunks(bytes, layout.rows, AmountColumn::ExtendedPrice);
+    let prices = chunks(bytes, layout.rows, AmountColumn::ExtendedPrice);
     let discounts = byte_part(bytes, layout.rows, ByteColumn::Discount);
     mask.extremes_of_products(prices, discounts)
 }
@@ -90,7 +90,7 @@ fn extremes_of_profit(bytes: &[u8], layout: &Layout, mask: &Mask) -> Option<(i12
         (map (λ row. pos row.revenue -ℤ pos row.supplycost)
         (selected_by mask.now (decoded_rows bytes.now layout.now))) }
 {
-    let revenues = amount_chunks(bytes, layout.rows, AmountColumn::Revenue);
-    let costs = amount_chunks(bytes, layout.rows, AmountColumn::SupplyCost);
+    let revenues = chunks(bytes, layout.rows, AmountColumn::Revenue);
+    let costs = chunks(bytes, layout.rows, AmountColumn::SupplyCost);
     mask.extremes_of_differences(revenues, costs)
 }

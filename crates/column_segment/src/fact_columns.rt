@@ -15,7 +15,7 @@ ghost use Rattle.column_segment.specs.Projected.{BytesHaveFigures};
 
 use crate::columns::{AmountColumn, ByteColumn, NumberColumn};
 use crate::extremes::selected_extremes;
-use crate::layout::{Layout, amount_chunks, byte_part, number_chunks};
+use crate::layout::{Layout, byte_part, chunks};
 use crate::sums::selected_sum;
 use column_kernels::Mask;
 use cube_model::{Fault, Measure};
@@ -64,14 +64,14 @@ impl<'a> FactColumns<'a> {
     pub fn amounts(&self, column: AmountColumn) -> &'a [[u8; 8]]
         ensures { numbers_of result.now ≡ map (amount_of column) self.now }
     {
-        amount_chunks(self.bytes, self.layout.rows, column)
+        chunks(self.bytes, self.layout.rows, column)
     }
 
     /// A column of numbers, four bytes a row, the lowest byte first.
     pub fn numbers(&self, column: NumberColumn) -> &'a [[u8; 4]]
         ensures { map (from_le_bytes w32) result.now ≡ map (column_number column) self.now }
     {
-        number_chunks(self.bytes, self.layout.rows, column)
+        chunks(self.bytes, self.layout.rows, column)
     }
 
     /// A column of small numbers, a byte a row.

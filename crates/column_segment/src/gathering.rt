@@ -1,15 +1,13 @@
 //! The columns of numbers of a batch while its rows are added, a piece at a time: the bytes of each row's number, a
 //! vector a column.
-#![tactic(auto, unfolding(wire::specs::Spelling::spelling))]
-
 ghost use Rattle.std.specs.Prelude.{◌≡◌, ◌≤◌, ◌++◌, [], List, length, IfErr, IfOk, IsOkUnless, OnOk};
 ghost use Rattle.std.specs.List.{flat_map};
 ghost use Rattle.cube_model.specs.declared.rows.LineOrder.{LineOrder};
-ghost use Rattle.column_segment.specs.Columns.{amounts, bytes, figure_columns, key_columns, numbers};
+ghost use Rattle.column_segment.specs.Columns.{figure_columns, key_columns};
 ghost use Rattle.column_segment.specs.Encoding.{number_chunks};
 ghost use Rattle.column_segment.specs.Segment.{number_column};
 
-use crate::columns::{AmountColumn, ByteColumn, NumberColumn};
+use crate::columns::{AmountColumn, ByteColumn, NumberColumn, OfWidth};
 use cube_model::{Fault, LineOrder};
 use std::alloc::Global;
 use wire::push_bytes;
@@ -60,12 +58,12 @@ impl Keys {
             → HaveKeys (before ++ rows.now) self.new) }
         ensures memory { IsOkUnless result Fault.Memory }
     {
-        put_amounts(&mut self.orderkey, rows, AmountColumn::OrderKey)?;
-        put_numbers(&mut self.linenumber, rows, NumberColumn::LineNumber)?;
-        put_numbers(&mut self.custkey, rows, NumberColumn::CustKey)?;
-        put_numbers(&mut self.partkey, rows, NumberColumn::PartKey)?;
-        put_numbers(&mut self.suppkey, rows, NumberColumn::SuppKey)?;
-        put_numbers(&mut self.orderdate, rows, NumberColumn::OrderDate)
+        put(&mut self.orderkey, rows, AmountColumn::OrderKey)?;
+        put(&mut self.linenumber, rows, NumberColumn::LineNumber)?;
+        put(&mut self.custkey, rows, NumberColumn::CustKey)?;
+        put(&mut self.partkey, rows, NumberColumn::PartKey)?;
+        put(&mut self.suppkey, rows, NumberColumn::SuppKey)?;
+        put(&mut self.orderdate, rows, NumberColumn::OrderDate)
     }
 
     // Adds the columns to bytes.
@@ -121,13 +119,13 @@ impl Figures {
             → HaveFigures (before ++ rows.now) self.new) }
         ensures memory { IsOkUnless result Fault.Memory }
     {
-        put_bytes(&mut self.quantity, rows, ByteColumn::Quantity)?;
-        put_amounts(&mut self.extendedprice, rows, AmountColumn::ExtendedPrice)?;
-        put_amounts(&mut self.ordtotalprice, rows, AmountColumn::OrdTotalPrice)?;
-        put_bytes(&mut self.discount, rows, ByteColumn::Discount)?;
-        put_amounts(&mut self.revenue, rows, AmountColumn::Revenue)?;
-        put_amounts(&mut self.supplycost, rows, AmountColumn::SupplyCost)?;
-        put_bytes(&mut self.tax, rows, ByteColumn::Tax)
+        put(&mut self.quantity, rows, ByteColumn::Quantity)?;
+        put(&mut self.extendedprice, rows, AmountColumn::ExtendedPrice)?;
+        put(&mut self.ordtotalprice, rows, AmountColumn::OrdTotalPrice)?;
+        put(&mut self.discount, rows, ByteColumn::Discount)?;
+        put(&mut self.revenue, rows, AmountColumn::Revenue)?;
+        put(&mut self.supplycost, rows, AmountColumn::SupplyCost)?;
+        put(&mut self.tax, rows, ByteColumn::Tax)
     }
 
     // Adds the columns to bytes.
@@ -146,46 +144,20 @@ impl Figures {
     }
 }
 
-// Adds what the rows of a piece have in a column of amounts.
+// Adds what the rows of a piece have in a column.
 #[inline(always)]
-fn put_amounts(to: &mut Vec<[u8; 8]>, rows: &[LineOrder], column: AmountColumn) -> Result<(), Fault>
+fn put<const WIDTH: usize, C: OfWidth<WIDTH>>(
+    to: &mut Vec<[u8; WIDTH]>,
+    rows: &[LineOrder],
+    column: C,
+) -> Result<(), Fault>
     requires piece { length rows.now ≤ PIECE }
-    ensures ok { OnOk result (to.new.items ≡ to.old.items ++ number_chunks (amounts column) rows.now) }
+    ensures ok { OnOk result (to.new.items ≡ to.old.items ++ number_chunks (C.column column) rows.now) }
     ensures memory { IsOkUnless result Fault.Memory }
 {
-    let mut chunks = [[0u8; 8]; PIECE];
+    let mut chunks = [[0u8; WIDTH]; PIECE];
     for (place, row) in rows.iter().enumerate() {
-        chunks[place] = u64::to_le_bytes(column.of(row));
-    }
-    to.extend_from_slice(&chunks[..rows.len()])?;
-    Ok(())
-}
-
-// Adds what the rows of a piece have in a column of numbers.
-#[inline(always)]
-fn put_numbers(to: &mut Vec<[u8; 4]>, rows: &[LineOrder], column: NumberColumn) -> Result<(), Fault>
-    requires piece { length rows.now ≤ PIECE }
-    ensures ok { OnOk result (to.new.items ≡ to.old.items ++ number_chunks (numbers column) rows.now) }
-    ensures memory { IsOkUnless result Fault.Memory }
-{
-    let mut chunks = [[0u8; 4]; PIECE];
-    for (place, row) in rows.iter().enumerate() {
-        chunks[place] = u32::to_le_bytes(column.of(row));
-    }
-    to.extend_from_slice(&chunks[..rows.len()])?;
-    Ok(())
-}
-
-// Adds what the rows of a piece have in a column of small numbers.
-#[inline(always)]
-fn put_bytes(to: &mut Vec<[u8; 1]>, rows: &[LineOrder], column: ByteColumn) -> Result<(), Fault>
-    requires piece { length rows.now ≤ PIECE }
-    ensures ok { OnOk result (to.new.items ≡ to.old.items ++ number_chunks (bytes column) rows.now) }
-    ensures memory { IsOkUnless result Fault.Memory }
-{
-    let mut chunks = [[0u8; 1]; PIECE];
-    for (place, row) in rows.iter().enumerate() {
-        chunks[place] = u8::to_le_bytes(column.of(row));
+        chunks[place] = column.bytes_of(row);
     }
     to.extend_from_slice(&chunks[..rows.len()])?;
     Ok(())

@@ -3,11 +3,10 @@ ghost use Rattle.std.specs.Prelude.{◌≡◌, ◌+◌, ◌*◌, ◌≤◌, leng
 ghost use Rattle.std.specs.Int.{from_le_bytes, w16};
 ghost use Rattle.std.specs.Simd.{first_chunks};
 ghost use Rattle.cube_model.specs.Limits.{most_batch_rows};
-ghost use Rattle.column_segment.specs.Decoded.{amount_place, byte_place, codes_in, coded_of, column_bytes};
-ghost use Rattle.column_segment.specs.Decoded.{number_place};
+ghost use Rattle.column_segment.specs.Decoded.{byte_place, codes_in, coded_of, column_bytes};
 ghost use Rattle.column_segment.specs.Projected.{fact_place, width_of};
 
-use crate::columns::{AmountColumn, ByteColumn, FactColumn, NumberColumn, TextColumn};
+use crate::columns::{ByteColumn, FactColumn, OfWidth, TextColumn};
 use dictionary::Dictionary;
 use std::alloc::Global;
 
@@ -99,27 +98,19 @@ impl Layout {
     }
 }
 
-/// A column of amounts, of bytes that have room for all columns of numbers.
-pub(crate) fn amount_chunks(bytes: &[u8], rows: usize, column: AmountColumn) -> &[[u8; 8]]
+/// A column of bytes that have room for all columns of numbers.
+pub(crate) fn chunks<const WIDTH: usize, C: OfWidth<WIDTH>>(
+    bytes: &[u8],
+    rows: usize,
+    column: C,
+) -> &[[u8; WIDTH]]
     requires few { rows ≤ most_batch_rows }
     requires room { 12 + 63 * rows ≤ length bytes.now }
-    ensures value { result.now ≡ first_chunks 8 rows (column_bytes (amount_place column) 8 rows bytes.now) }
+    ensures value { result.now ≡ first_chunks WIDTH rows (column_bytes (C.place column) WIDTH rows bytes.now) }
     ensures many { length result.now ≡ rows }
 {
-    part(bytes, rows, amount_place(column), 8)
-        .as_chunks::<8>()
-        .0
-}
-
-/// A column of numbers.
-pub(crate) fn number_chunks(bytes: &[u8], rows: usize, column: NumberColumn) -> &[[u8; 4]]
-    requires few { rows ≤ most_batch_rows }
-    requires room { 12 + 63 * rows ≤ length bytes.now }
-    ensures value { result.now ≡ first_chunks 4 rows (column_bytes (number_place column) 4 rows bytes.now) }
-    ensures many { length result.now ≡ rows }
-{
-    part(bytes, rows, number_place(column), 4)
-        .as_chunks::<4>()
+    part(bytes, rows, column.place(), WIDTH)
+        .as_chunks::<WIDTH>()
         .0
 }
 
@@ -130,7 +121,7 @@ pub(crate) fn byte_part(bytes: &[u8], rows: usize, column: ByteColumn) -> &[u8]
     ensures value { result.now ≡ column_bytes (byte_place column) 1 rows bytes.now }
     ensures many { length result.now ≡ rows }
 {
-    part(bytes, rows, byte_place(column), 1)
+    part(bytes, rows, column.place(), 1)
 }
 
 /// The codes of a column of texts that begin at a place.
@@ -160,9 +151,9 @@ pub(crate) fn place_of(column: FactColumn) -> usize
     ensures within { result + width_of column ≤ 63 }
 {
     match column {
-        FactColumn::Amount(column) => amount_place(column),
-        FactColumn::Number(column) => number_place(column),
-        FactColumn::Figure(column) => byte_place(column),
+        FactColumn::Amount(column) => column.place(),
+        FactColumn::Number(column) => column.place(),
+        FactColumn::Figure(column) => column.place(),
     }
 }
 
@@ -174,45 +165,5 @@ pub(crate) fn width_of(column: FactColumn) -> usize
         FactColumn::Amount(_) => 8,
         FactColumn::Number(_) => 4,
         FactColumn::Figure(_) => 1,
-    }
-}
-
-// How many bytes of a row are in the columns before one of amounts.
-fn amount_place(column: AmountColumn) -> usize
-    ensures value { result ≡ amount_place column }
-    ensures within { result + 8 ≤ 63 }
-{
-    match column {
-        AmountColumn::OrderKey => 0,
-        AmountColumn::ExtendedPrice => 29,
-        AmountColumn::OrdTotalPrice => 37,
-        AmountColumn::Revenue => 46,
-        AmountColumn::SupplyCost => 54,
-    }
-}
-
-// The same of a column of numbers.
-fn number_place(column: NumberColumn) -> usize
-    ensures value { result ≡ number_place column }
-    ensures within { result + 4 ≤ 63 }
-{
-    match column {
-        NumberColumn::LineNumber => 8,
-        NumberColumn::CustKey => 12,
-        NumberColumn::PartKey => 16,
-        NumberColumn::SuppKey => 20,
-        NumberColumn::OrderDate => 24,
-    }
-}
-
-// The same of a column of small numbers.
-fn byte_place(column: ByteColumn) -> usize
-    ensures value { result ≡ byte_place column }
-    ensures within { result + 1 ≤ 63 }
-{
-    match column {
-        ByteColumn::Quantity => 28,
-        ByteColumn::Discount => 45,
-        ByteColumn::Tax => 62,
     }
 }

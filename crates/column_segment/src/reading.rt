@@ -13,7 +13,7 @@ ghost use Rattle.column_segment.specs.Segment.{IsSegment};
 
 use crate::columns::AmountColumn;
 use crate::encoding::NAME;
-use crate::layout::{Coded, CodedTexts, HEADER_BYTES, Layout, NUMBER_BYTES, amount_chunks};
+use crate::layout::{Coded, CodedTexts, HEADER_BYTES, Layout, NUMBER_BYTES, chunks};
 use column_kernels::are_amounts;
 use cube_model::Fault;
 use cube_model::limits::MOST_BATCH_ROWS;
@@ -85,7 +85,7 @@ pub(crate) fn fits(bytes: &[u8], rows: usize, column: AmountColumn) -> bool
     requires room { 12 + 63 * rows ≤ length bytes.now }
     ensures { result ≡ all_below (2 ^ 63) (amounts_in bytes.now rows column) }
 {
-    are_amounts(amount_chunks(bytes, rows, column))
+    are_amounts(chunks(bytes, rows, column))
 }
 
 // Where the columns of texts are, which end with the bytes.

@@ -8,7 +8,7 @@ ghost use Rattle.column_segment.specs.Decoded.{texts_in};
 ghost use Rattle.column_segment.specs.Rows.{figures_of, row_keys_of};
 
 use crate::columns::{AmountColumn, ByteColumn, NumberColumn};
-use crate::layout::{Coded, Layout, amount_chunks, byte_part, number_chunks};
+use crate::layout::{Coded, Layout, byte_part, chunks};
 use cube_model::{Amount, Fault, LineOrder, RowText};
 use std::alloc::Global;
 
@@ -144,7 +144,7 @@ fn amount_at(bytes: &[u8], layout: &Layout, column: AmountColumn, row: usize) ->
     requires within { row < layout.now.rows }
     ensures { result ≡ slice_index (amounts_in bytes.now layout.now.rows column) row }
 {
-    Amount::new(u64::from_le_bytes(amount_chunks(bytes, layout.rows, column)[row]))
+    Amount::new(u64::from_le_bytes(chunks(bytes, layout.rows, column)[row]))
 }
 
 // The number of a row in a column.
@@ -153,7 +153,7 @@ fn number_at(bytes: &[u8], layout: &Layout, column: NumberColumn, row: usize) ->
     requires within { row < layout.now.rows }
     ensures { result ≡ slice_index (numbers_in bytes.now layout.now.rows column) row }
 {
-    u32::from_le_bytes(number_chunks(bytes, layout.rows, column)[row])
+    u32::from_le_bytes(chunks(bytes, layout.rows, column)[row])
 }
 
 // The small number of a row in a column.

@@ -24,7 +24,6 @@ impl<F: Read, S: Read> Read for Source<F, S> {
 
 /// The texts of several readers, one after another. A last line without a line feed at the end of one and the first
 /// line of the next stay two lines.
-#[derive(Drop)]
 pub struct Joined<'c, F> {
     readers: Vec<F>,
     // How many lines were begun in each of them.
@@ -34,6 +33,19 @@ pub struct Joined<'c, F> {
     // How many lines ended in the one whose turn it is, and whether the last one that was given has no end yet.
     lines: u64,
     is_open: bool,
+}
+
+// Written out, so that a proof has one call to follow where one is let go.
+impl<'c, F: Drop> Drop for Joined<'c, F> {
+    fn drop(self) {
+        let Joined {
+            readers: _,
+            counts: _,
+            ended: _,
+            lines: _,
+            is_open: _,
+        } = self;
+    }
 }
 
 impl<'c, F> Joined<'c, F> {

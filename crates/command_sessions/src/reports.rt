@@ -22,13 +22,23 @@ use warehouse_jobs::{report_formatted, report_partial};
 const ALL: &str = "all";
 
 /// What is reported.
-#[derive(Drop)]
 pub enum Reports {
     One(Asked),
     /// One of a part of the fact rows, to be merged with others.
     Part(PartAsked),
     /// Several, one after another.
     Several(Vec<NamedReport>),
+}
+
+// Written out, so that a proof has one call to follow where one is let go.
+impl Drop for Reports {
+    fn drop(self) {
+        match self {
+            Reports::One(_) => {}
+            Reports::Part(_) => {}
+            Reports::Several(_) => {}
+        }
+    }
 }
 
 impl Reports {
@@ -43,10 +53,16 @@ impl Reports {
 }
 
 /// A report, and the line after which it is written.
-#[derive(Drop)]
 pub struct NamedReport {
     line: String,
     asked: Asked,
+}
+
+// Written out, so that a proof has one call to follow where one is let go.
+impl Drop for NamedReport {
+    fn drop(self) {
+        let NamedReport { line: _, asked: _ } = self;
+    }
 }
 
 impl NamedReport {

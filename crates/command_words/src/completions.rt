@@ -7,7 +7,7 @@ use crate::words::Words;
 use std::fmt;
 
 /// A shell.
-#[derive(Clone, Copy, Debug, PartialEq, Eq)]
+#[derive(Clone, Copy, PartialEq, Eq)]
 pub enum Shell {
     Bash,
     Zsh,

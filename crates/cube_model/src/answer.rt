@@ -9,7 +9,7 @@ use crate::items::{Items, Text};
 use std::cmp::Ordering;
 
 /// What a line has in a column.
-#[derive(Debug, Drop)]
+#[derive(Drop)]
 pub enum Member {
     /// A member of the column. Texts are in order by bytes.
     Text(Text),
@@ -61,14 +61,14 @@ impl Ord for Member {
 }
 
 /// A fraction in lowest terms, whose denominator is at least 1.
-#[derive(Clone, Copy, Debug, PartialEq, Eq)]
+#[derive(Clone, Copy, PartialEq, Eq)]
 pub struct Fraction {
     pub numerator: i64,
     pub denominator: u64,
 }
 
 /// The value of an aggregate.
-#[derive(Clone, Copy, Debug, PartialEq, Eq)]
+#[derive(Clone, Copy, PartialEq, Eq)]
 pub enum Value {
     Whole(i64),
     /// An average.
@@ -76,14 +76,14 @@ pub enum Value {
 }
 
 /// A line of an answer: a key with a member for each column, and a value for each aggregate.
-#[derive(Debug, PartialEq, Eq, Drop)]
+#[derive(PartialEq, Eq, Drop)]
 pub struct Line {
     pub key: Items<Member>,
     pub values: Items<Value>,
 }
 
 /// The lines of an answer, in order.
-#[derive(Debug, PartialEq, Eq, Drop)]
+#[derive(PartialEq, Eq, Drop)]
 pub struct Answer {
     pub lines: Items<Line>,
 }

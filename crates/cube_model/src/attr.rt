@@ -6,7 +6,7 @@ ghost use Rattle.cube_model.specs.Attributes.{axis_of};
 use std::fmt;
 
 /// A dimension of the star.
-#[derive(Clone, Copy, Debug, PartialEq, Eq)]
+#[derive(Clone, Copy, PartialEq, Eq)]
 pub enum Axis {
     Customer,
     Supplier,
@@ -35,7 +35,7 @@ impl fmt::Display for Axis {
 }
 
 /// An attribute of a fact row, by one of its dimensions. The names are those of the benchmark.
-#[derive(Clone, Copy, Debug, PartialEq, Eq)]
+#[derive(Clone, Copy, PartialEq, Eq)]
 pub enum Attr {
     CustomerCity,
     CustomerNation,

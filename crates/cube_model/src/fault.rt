@@ -9,7 +9,7 @@ use std::fmt;
 use thiserror::Error;
 
 /// Where a text is: in a line of a table, or in a row of a batch. Both count from 1.
-#[derive(Clone, Copy, Debug, PartialEq, Eq)]
+#[derive(Clone, Copy, PartialEq, Eq)]
 pub enum Place {
     Line(u64),
     Row(u32),
@@ -25,7 +25,7 @@ impl fmt::Display for Place {
 }
 
 /// Where a member is. Batches and rows count from 1.
-#[derive(Clone, Copy, Debug, PartialEq, Eq)]
+#[derive(Clone, Copy, PartialEq, Eq)]
 pub enum MemberPlace {
     /// In a row of a dimension.
     InDimension { axis: Axis, row: u32 },
@@ -48,7 +48,7 @@ impl fmt::Display for MemberPlace {
 /// Why a call was refused, and where. It prints as `fault N NAME PLACE`, where N is its code.
 ///
 /// Lines, fields and rows count from 1. Field 0 means a whole line.
-#[derive(Clone, Copy, Debug, PartialEq, Eq, Drop, Error)]
+#[derive(Clone, Copy, PartialEq, Eq, Drop, Error)]
 pub enum Fault {
     /// A growth of memory was refused.
     #[error("fault 1 Memory")]
@@ -146,6 +146,13 @@ pub enum Fault {
     /// Rows were added to the dimensions as often as the warehouse can count.
     #[error("fault 32 TooManyAdditions")]
     TooManyAdditions,
+}
+
+// What a fault prints: its variants one by one would cost the proof of the longest function here.
+impl fmt::Debug for Fault {
+    fn fmt<W: fmt::Write>(&self, f: &mut fmt::Formatter<W>) -> fmt::Result {
+        fmt::Display::fmt(self, f)
+    }
 }
 
 // So that `?` answers `Memory` where a growth was refused.

@@ -6,7 +6,7 @@ ghost use Rattle.cube_model.specs.Proper.{is_average};
 use std::fmt;
 
 /// A number of a fact row that can be added up.
-#[derive(Clone, Copy, Debug, PartialEq, Eq)]
+#[derive(Clone, Copy, PartialEq, Eq)]
 pub enum Measure {
     Quantity,
     ExtendedPrice,
@@ -41,7 +41,7 @@ impl fmt::Display for Measure {
 }
 
 /// An aggregate over the rows of a line.
-#[derive(Clone, Copy, Debug, PartialEq, Eq)]
+#[derive(Clone, Copy, PartialEq, Eq)]
 pub enum Agg {
     Count,
     Sum(Measure),

@@ -11,7 +11,7 @@ use crate::measure::Agg;
 use std::marker::Model;
 
 /// A condition on a fact row.
-#[derive(Debug, PartialEq, Eq, Drop)]
+#[derive(PartialEq, Eq, Drop)]
 pub enum Cond {
     /// The attribute is one of the texts.
     OneOf(Attr, Items<Text>),
@@ -24,7 +24,7 @@ pub enum Cond {
 }
 
 /// Which groupings a query asks for.
-#[derive(Clone, Copy, Debug, PartialEq, Eq)]
+#[derive(Clone, Copy, PartialEq, Eq)]
 pub enum Kind {
     /// By all columns.
     Plain,
@@ -35,14 +35,14 @@ pub enum Kind {
 }
 
 /// By which column and then, falling, by which aggregate the lines are sorted. Both count from 0.
-#[derive(Clone, Copy, Debug, PartialEq, Eq)]
+#[derive(Clone, Copy, PartialEq, Eq)]
 pub struct Order {
     pub column: usize,
     pub aggregate: usize,
 }
 
 /// A query: of the fact rows of which all conditions hold, the aggregates by the groups.
-#[derive(Debug, PartialEq, Eq, Drop)]
+#[derive(PartialEq, Eq, Drop)]
 pub struct Query {
     pub kind: Kind,
     pub columns: Items<Attr>,

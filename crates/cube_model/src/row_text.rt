@@ -10,7 +10,7 @@ use std::marker::Model;
 /// A text of a fact row, any bytes. Contracts see it as the list of its bytes.
 ///
 /// Up to sixteen bytes lie in the value itself and need no memory.
-#[derive(Debug, Drop)]
+#[derive(Drop)]
 pub struct RowText {
     bytes: SmallVec<u8, 16>,
 }

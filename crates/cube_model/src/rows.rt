@@ -8,7 +8,7 @@ use crate::measure::Measure;
 use crate::row_text::RowText;
 
 /// A row of the customer table, as far as it is kept.
-#[derive(Debug, PartialEq, Eq, Drop)]
+#[derive(PartialEq, Eq, Drop)]
 pub struct CustomerRow {
     pub key: u32,
     pub city: Text,
@@ -17,7 +17,7 @@ pub struct CustomerRow {
 }
 
 /// A row of the supplier table, as far as it is kept.
-#[derive(Debug, PartialEq, Eq, Drop)]
+#[derive(PartialEq, Eq, Drop)]
 pub struct SupplierRow {
     pub key: u32,
     pub city: Text,
@@ -26,7 +26,7 @@ pub struct SupplierRow {
 }
 
 /// A row of the part table, as far as it is kept.
-#[derive(Debug, PartialEq, Eq, Drop)]
+#[derive(PartialEq, Eq, Drop)]
 pub struct PartRow {
     pub key: u32,
     pub brand1: Text,
@@ -35,7 +35,7 @@ pub struct PartRow {
 }
 
 /// A row of the date table, as far as it is kept. Its key is the day, such as 19930105.
-#[derive(Debug, PartialEq, Eq, Drop)]
+#[derive(PartialEq, Eq, Drop)]
 pub struct DateRow {
     pub key: u32,
     pub year: Text,
@@ -45,7 +45,7 @@ pub struct DateRow {
 }
 
 /// The rows of the four dimensions, each list in the order of its table.
-#[derive(Debug, PartialEq, Eq, Drop)]
+#[derive(PartialEq, Eq, Drop)]
 pub struct DimRows {
     pub customers: Items<CustomerRow>,
     pub suppliers: Items<SupplierRow>,
@@ -57,7 +57,7 @@ pub struct DimRows {
 ///
 /// The fields are in order of size and not as in the table: a row is laid out as it is declared, so no byte is lost
 /// between them.
-#[derive(Debug, PartialEq, Eq, Drop)]
+#[derive(PartialEq, Eq, Drop)]
 pub struct LineOrder {
     pub orderkey: Amount,
     pub extendedprice: Amount,

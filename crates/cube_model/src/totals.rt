@@ -1,7 +1,7 @@
 //! Sums of absolute values.
 
 /// The sum of the absolute values of each measure over some fact rows, in the units of the rows.
-#[derive(Clone, Copy, Debug, PartialEq, Eq)]
+#[derive(Clone, Copy, PartialEq, Eq)]
 pub struct Totals {
     pub quantity: u64,
     pub extendedprice: u64,

@@ -8,7 +8,7 @@ use crate::summary::Summaries;
 use lattice::View;
 
 /// What a view keeps of the fact rows that have one choice of members.
-#[derive(Clone, Copy, Debug, PartialEq, Eq)]
+#[derive(Clone, Copy, PartialEq, Eq)]
 pub struct Cell {
     pub key: Key,
     /// How many rows it groups.

@@ -17,7 +17,7 @@ use std::marker::Model;
 use wire::Cursor;
 
 /// The cells of a view by ascending keys. They keep the rules of cells.
-#[derive(Debug, Drop)]
+#[derive(Drop)]
 pub struct Cells {
     view: View,
     cells: Vec<Cell>,

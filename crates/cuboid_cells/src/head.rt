@@ -11,7 +11,7 @@ use lattice::View;
 use wire::Cursor;
 
 /// What the header of a run says: its view, its batches, and how many cells it has.
-#[derive(Clone, Copy, Debug, PartialEq, Eq)]
+#[derive(Clone, Copy, PartialEq, Eq)]
 pub struct RunHead {
     pub view: View,
     pub span: Span,

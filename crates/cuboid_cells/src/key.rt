@@ -7,7 +7,7 @@ use crate::limits::ALL_CODE;
 use lattice::{Level, View};
 
 /// The codes of the members of a cell: those of the dictionaries, and 65,535 on an axis that its view does not group.
-#[derive(Clone, Copy, Debug, PartialEq, Eq)]
+#[derive(Clone, Copy, PartialEq, Eq)]
 pub struct Key {
     pub customer: u16,
     pub supplier: u16,

@@ -1,7 +1,7 @@
 //! Which batches a run of cells holds.
 
 /// Batches one after the other.
-#[derive(Clone, Copy, Debug, PartialEq, Eq)]
+#[derive(Clone, Copy, PartialEq, Eq)]
 pub struct Span {
     /// The number of the batch before the first of them. Batches count from 1.
     pub from: u32,

@@ -4,7 +4,7 @@ ghost use Rattle.cuboid_cells.specs.Cells.{SummariesFit, SummaryFits};
 ghost use Rattle.cuboid_cells.specs.Merges.{merged_summaries, merged_summary};
 
 /// The sum of the numbers of a measure, the least and the greatest of them.
-#[derive(Clone, Copy, Debug, PartialEq, Eq)]
+#[derive(Clone, Copy, PartialEq, Eq)]
 pub struct Summary {
     pub sum: i64,
     pub least: i64,
@@ -30,7 +30,7 @@ impl Summary {
 }
 
 /// What is kept of each measure.
-#[derive(Clone, Copy, Debug, PartialEq, Eq)]
+#[derive(Clone, Copy, PartialEq, Eq)]
 pub struct Summaries {
     pub quantity: Summary,
     pub extendedprice: Summary,

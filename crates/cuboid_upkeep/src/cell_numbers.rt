@@ -27,7 +27,7 @@ const CODES: u128 = 65_536;
 const EVERY: u128 = 65_535;
 
 /// A code of a cell is that of no member.
-#[derive(Clone, Copy, Debug, PartialEq, Eq)]
+#[derive(Clone, Copy, PartialEq, Eq)]
 pub struct UnknownMember;
 
 /// The numbers of the groups that the cells of a view belong to by a plan. Contracts see the dimensions, the query, the

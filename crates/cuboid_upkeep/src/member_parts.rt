@@ -15,7 +15,7 @@ use lattice::Level;
 use std::alloc::{AllocError, Global};
 
 /// What the rows with the member of a code give to the number of a group.
-#[derive(Clone, Copy, Debug, PartialEq, Eq)]
+#[derive(Clone, Copy, PartialEq, Eq)]
 pub enum MemberPart {
     /// No member has the code.
     NoMember,

@@ -12,7 +12,7 @@ use std::io::Read;
 use std::marker::Model;
 
 /// A line of a dimension table that is refused.
-#[derive(Clone, Copy, Debug, PartialEq, Eq)]
+#[derive(Clone, Copy, PartialEq, Eq)]
 pub struct RefusedLine<'a> {
     /// The dimension of its table.
     pub axis: Axis,
@@ -21,12 +21,24 @@ pub struct RefusedLine<'a> {
 }
 
 /// The four tables of the dimensions, line by line.
-#[derive(Drop)]
 pub struct DimensionTables<C: Read + Drop, S: Read + Drop, P: Read + Drop, D: Read + Drop> {
     customer: Lines<C>,
     supplier: Lines<S>,
     part: Lines<P>,
     date: Lines<D>,
+}
+
+// Written out, so that a proof has one call to follow where one is let go.
+impl<C: Read + Drop, S: Read + Drop, P: Read + Drop, D: Read + Drop> Drop
+    for DimensionTables<C, S, P, D> {
+    fn drop(self) {
+        let DimensionTables {
+            customer: _,
+            supplier: _,
+            part: _,
+            date: _,
+        } = self;
+    }
 }
 
 impl<C: Read + Drop, S: Read + Drop, P: Read + Drop, D: Read + Drop> Model

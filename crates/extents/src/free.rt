@@ -14,7 +14,7 @@ use std::alloc::Global;
 use std::marker::Model;
 
 /// The free sectors of a device. Contracts see how many sectors the device has, and which are free.
-#[derive(Debug, Drop)]
+#[derive(Drop)]
 pub struct Free {
     count: u32,
     runs: Vec<Extent>,

@@ -13,7 +13,7 @@ use std::fs::OpenFile;
 use std::os::unix::fs::FileExt;
 
 /// What a file of the right length may hold that is to become a device.
-#[derive(Clone, Copy, Debug, PartialEq, Eq)]
+#[derive(Clone, Copy, PartialEq, Eq)]
 pub enum Existing {
     /// Nothing: its first two sectors are all zero.
     Blank,

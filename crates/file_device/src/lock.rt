@@ -2,7 +2,7 @@
 use std::fs::{File, TryLockError};
 
 /// What a lock on a file leaves to the other programs that ask for one.
-#[derive(Clone, Copy, Debug, PartialEq, Eq)]
+#[derive(Clone, Copy, PartialEq, Eq)]
 pub enum LockKind {
     /// No lock.
     Exclusive,

@@ -5,7 +5,7 @@ ghost use Rattle.group_plan.specs.Plans.{AreBounds, bounds_with, is_within};
 use cube_model::Cond;
 
 /// Between which bounds the quantity and the discount of a fact row lie, all included.
-#[derive(Clone, Copy, Debug, PartialEq, Eq)]
+#[derive(Clone, Copy, PartialEq, Eq)]
 pub struct Bounds {
     pub least_quantity: u8,
     pub greatest_quantity: u8,

@@ -16,7 +16,7 @@ use std::alloc::{AllocError, Global};
 
 /// A column of a query: its attribute, how many digits it has, and what each counts in the number of a group. Of each
 /// member it keeps the place of a row that has it.
-#[derive(Debug, Drop)]
+#[derive(Drop)]
 pub struct Column {
     pub attr: Attr,
     pub digits: u128,

@@ -26,7 +26,7 @@ pub fn group_count(dims: &Dims, columns: &[Attr]) -> u128
 }
 
 /// A column on a dimension as a digit of the numbers of groups: its attribute, and what a rank in it counts there.
-#[derive(Clone, Copy, Debug, PartialEq, Eq)]
+#[derive(Clone, Copy, PartialEq, Eq)]
 pub struct Digit {
     pub attr: Attr,
     pub weight: u128,

@@ -18,7 +18,7 @@ use std::alloc::{AllocError, Global};
 const MORE_KEYS: usize = 65_536;
 
 /// Which keys of a dimension are let pass, from a first key on. One that is not spanned passes.
-#[derive(Debug, Drop)]
+#[derive(Drop)]
 pub struct Filter {
     pub first: u32,
     pub passes: Vec<bool>,

@@ -11,7 +11,7 @@ use dimensions::Dims;
 use std::alloc::{AllocError, Global};
 
 /// A filter for each dimension.
-#[derive(Debug, Drop)]
+#[derive(Drop)]
 pub struct Filters {
     pub customers: Filter,
     pub suppliers: Filter,

@@ -60,7 +60,7 @@ pub trait ModeRows: FactRows {
 }
 
 /// Fact rows in memory, one after another.
-#[derive(Clone, Copy, Debug)]
+#[derive(Clone, Copy)]
 pub struct RowSlice<'a>(pub &'a [LineOrder]);
 
 impl<'a> FactRows for RowSlice<'a> {

@@ -20,13 +20,13 @@ use std::alloc::{AllocError, Global};
 const NARROW: u128 = 4_294_967_296;
 
 /// No row of the dimension has the key.
-#[derive(Clone, Copy, Debug, PartialEq, Eq)]
+#[derive(Clone, Copy, PartialEq, Eq)]
 pub struct UnknownKey;
 
 /// What the rows of a dimension give to the number of a group.
 ///
 /// By the kinds of the rows: what a row of each kind adds to the number, and nothing where a condition does not hold.
-#[derive(Debug, Drop)]
+#[derive(Drop)]
 pub enum Side {
     /// No condition and no column is on the dimension.
     Unused,

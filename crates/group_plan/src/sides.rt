@@ -11,7 +11,7 @@ use dimensions::Dims;
 use std::alloc::{AllocError, Global};
 
 /// What the rows of each dimension give to the number of a group.
-#[derive(Debug, Drop)]
+#[derive(Drop)]
 pub struct Sides {
     pub customers: Side,
     pub suppliers: Side,

@@ -14,11 +14,11 @@ use cube_model::{Agg, Amount, Value};
 pub const LIMIT: u64 = 1 << 63;
 
 /// A count or a sum would pass its type.
-#[derive(Clone, Copy, Debug, PartialEq, Eq)]
+#[derive(Clone, Copy, PartialEq, Eq)]
 pub struct TooLarge;
 
 /// The count of some numbers with their sum, the least and the greatest.
-#[derive(Clone, Copy, Debug, PartialEq, Eq)]
+#[derive(Clone, Copy, PartialEq, Eq)]
 pub struct Tally {
     pub count: Amount,
     pub sum: i64,

@@ -6,7 +6,7 @@ use crate::level::Level;
 use crate::view::{VIEWS_OF_FIVE_AXES, VIEWS_OF_FOUR_AXES, View};
 
 /// How many members the three levels of an axis have.
-#[derive(Clone, Copy, Debug, PartialEq, Eq)]
+#[derive(Clone, Copy, PartialEq, Eq)]
 pub struct LevelCounts {
     pub lowest: u32,
     pub middle: u32,
@@ -14,7 +14,7 @@ pub struct LevelCounts {
 }
 
 /// How many members the levels of the axes have. With a count of ship modes the lattice has ship mode as a fifth axis.
-#[derive(Clone, Copy, Debug, PartialEq, Eq)]
+#[derive(Clone, Copy, PartialEq, Eq)]
 pub struct Counts {
     pub customer: LevelCounts,
     pub supplier: LevelCounts,

@@ -8,7 +8,7 @@ use cube_model::{Attr, Axis};
 ///
 /// Customers and suppliers have the levels city, nation and region, parts brand, category and manufacturer, dates day,
 /// month and year.
-#[derive(Clone, Copy, Debug, PartialEq, Eq)]
+#[derive(Clone, Copy, PartialEq, Eq)]
 pub enum Level {
     /// City, brand or day.
     Lowest,

@@ -9,7 +9,7 @@ use std::fmt;
 /// A view as it is printed, such as `view 59 city|ALL|mfgr|ALL`.
 ///
 /// In the lattice with ship mode it has a fifth part, `shipmode` or `ALL`.
-#[derive(Clone, Copy, Debug, PartialEq, Eq)]
+#[derive(Clone, Copy, PartialEq, Eq)]
 pub struct ViewName {
     pub view: View,
     /// Whether the lattice has ship mode as an axis.

@@ -12,7 +12,7 @@ pub(crate) const VIEWS_OF_FOUR_AXES: u16 = 256;
 pub(crate) const VIEWS_OF_FIVE_AXES: u16 = 512;
 
 /// A view: the fact rows grouped by one level of each axis, and by their ship mode or not.
-#[derive(Clone, Copy, Debug, PartialEq, Eq)]
+#[derive(Clone, Copy, PartialEq, Eq)]
 pub struct View {
     pub customer: Level,
     pub supplier: Level,

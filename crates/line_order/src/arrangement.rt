@@ -1,7 +1,7 @@
 //! How the lines of a report are arranged.
 
 /// What lines are sorted by. Columns and aggregates count from 0.
-#[derive(Clone, Copy, Debug, PartialEq, Eq)]
+#[derive(Clone, Copy, PartialEq, Eq)]
 pub enum SortKey {
     /// The member of a column.
     Column(usize),
@@ -12,14 +12,14 @@ pub enum SortKey {
 }
 
 /// The order of lines. Those that are equal by the key are in the order of the members, ascending.
-#[derive(Clone, Copy, Debug, PartialEq, Eq)]
+#[derive(Clone, Copy, PartialEq, Eq)]
 pub struct Sorting {
     pub key: SortKey,
     pub descending: bool,
 }
 
 /// The order and the number of lines.
-#[derive(Clone, Copy, Debug, PartialEq, Eq)]
+#[derive(Clone, Copy, PartialEq, Eq)]
 pub struct Arrangement {
     /// The order that is asked for. Without one the lines are in that of the answer.
     pub sorting: Option<Sorting>,

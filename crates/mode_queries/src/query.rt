@@ -16,7 +16,7 @@ use std::marker::Model;
 pub const SHIP_MODE: &str = "lo_shipmode";
 
 /// A condition on the ship mode of a fact row.
-#[derive(Debug, PartialEq, Eq, Drop)]
+#[derive(PartialEq, Eq, Drop)]
 pub enum ModeCond {
     /// The ship mode is one of the texts.
     OneOf(Items<Text>),
@@ -25,7 +25,7 @@ pub enum ModeCond {
 }
 
 /// A query that may look at ship modes: one of its columns may be the ship mode, and conditions may be on it.
-#[derive(Debug, PartialEq, Eq, Drop)]
+#[derive(PartialEq, Eq, Drop)]
 pub struct ModeQuery {
     /// The query without ship modes: its other columns and conditions.
     pub query: Query,

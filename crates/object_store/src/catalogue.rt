@@ -9,7 +9,7 @@ pub use encoding::encode;
 pub use entry::Entry;
 
 /// The objects of a store, by ascending id, and its root.
-#[derive(Debug, Drop)]
+#[derive(Drop)]
 pub struct Catalogue {
     /// Where each object is.
     pub entries: Vec<Entry>,

@@ -33,7 +33,6 @@ use wire::limits::LEAST_SECTORS;
 ///
 /// After `Device` it answers `Failed` to each `get`, `read_at` and `commit`, and calls the device no more. It is to be
 /// opened again.
-#[derive(Drop)]
 pub struct Store<D: Sectors> {
     device: D,
     superblock: Super,
@@ -43,6 +42,19 @@ pub struct Store<D: Sectors> {
     ghost kept: { KeepsLayout (D.state device).size superblock entries.items root.items },
     ghost ready: { failed ≡ false → D.keeps_word device
         → IsReady (D.state device) superblock entries.items root.items },
+}
+
+// Written out, so that a proof has one call to follow where one is let go.
+impl<D: Sectors + Drop> Drop for Store<D> {
+    fn drop(self) {
+        let Store {
+            device: _,
+            superblock: _,
+            entries: _,
+            root: _,
+            failed: _,
+        } = self;
+    }
 }
 
 impl<D: Sectors> Store<D> {
@@ -165,7 +177,14 @@ impl<D: Sectors> Store<D> {
     pub fn close(self) -> D
         ensures { result ≡ device_of self }
     {
-        self.device
+        let Store {
+            device,
+            superblock: _,
+            entries: _,
+            root: _,
+            failed: _,
+        } = self;
+        device
     }
 
     /// Whether the device failed in an earlier call. Until then there is one image, and it shows the content.

@@ -13,7 +13,7 @@ use std::alloc::Global;
 pub const MOST_PARTS: u32 = 1024;
 
 /// Of which parts of a whole a partial report is, and the words of its query.
-#[derive(Debug, PartialEq, Eq, Drop)]
+#[derive(PartialEq, Eq, Drop)]
 pub struct Head {
     /// The numbers of its parts, which count from 1, in ascending order.
     pub numbers: Items<u32>,

@@ -5,7 +5,7 @@ use cube_model::Fault;
 use std::alloc::{AllocError, AllocFailed};
 
 /// What is wrong in a line of a partial report.
-#[derive(Clone, Copy, Debug, PartialEq, Eq)]
+#[derive(Clone, Copy, PartialEq, Eq)]
 pub enum Wrong {
     /// Another version of the format, or no partial report.
     Version,
@@ -30,7 +30,7 @@ pub enum Wrong {
 }
 
 /// Why a partial report was not read. Lines count from 1.
-#[derive(Clone, Copy, Debug, PartialEq, Eq, Drop)]
+#[derive(Clone, Copy, PartialEq, Eq, Drop)]
 pub enum Refused {
     /// A growth of memory was refused.
     Memory,

@@ -9,7 +9,7 @@ use std::alloc::Global;
 use wire::push_bytes;
 
 /// What a word of a query says: its number in the benchmark, its set, its columns, its aggregates, or a condition.
-#[derive(Clone, Copy, Debug, PartialEq, Eq)]
+#[derive(Clone, Copy, PartialEq, Eq)]
 pub enum WordKind {
     Q,
     Set,
@@ -19,7 +19,7 @@ pub enum WordKind {
 }
 
 /// A word of a query, as it was given.
-#[derive(Debug, PartialEq, Eq, Drop)]
+#[derive(PartialEq, Eq, Drop)]
 pub struct Word {
     pub kind: WordKind,
     pub text: Text,

@@ -5,7 +5,7 @@ ghost use Rattle.planner.specs.Plans.{rank, ComesFirst};
 use lattice::View;
 
 /// How a query is answered.
-#[derive(Clone, Copy, Debug, PartialEq, Eq)]
+#[derive(Clone, Copy, PartialEq, Eq)]
 pub enum Plan {
     /// From the fact rows of all batches.
     Scan,
@@ -15,7 +15,7 @@ pub enum Plan {
 }
 
 /// A plan, and how many cells and fact rows it reads.
-#[derive(Clone, Copy, Debug, PartialEq, Eq)]
+#[derive(Clone, Copy, PartialEq, Eq)]
 pub struct Priced {
     pub plan: Plan,
     pub cost: u64,

@@ -6,7 +6,7 @@ use cube_model::Query;
 use lattice::View;
 
 /// A stored cuboid: the cells of a view over the batches up to its mark.
-#[derive(Clone, Copy, Debug, PartialEq, Eq)]
+#[derive(Clone, Copy, PartialEq, Eq)]
 pub struct Stored {
     pub view: View,
     /// How many batches its cells group.

@@ -11,7 +11,7 @@ use mode_queries::{ModeCond, ModeQuery};
 use std::alloc::{AllocError, Global};
 
 /// A condition, by what it is on.
-#[derive(Debug, PartialEq, Eq, Drop)]
+#[derive(PartialEq, Eq, Drop)]
 pub enum Condition {
     /// An attribute, the quantity or the discount.
     Dimension(Cond),
@@ -42,7 +42,7 @@ impl Condition {
 }
 
 /// The parts of a cube query. Each column and each condition is one of a word, in the order of the words.
-#[derive(Debug, PartialEq, Eq, Drop)]
+#[derive(PartialEq, Eq, Drop)]
 pub struct CubeParts {
     pub kind: Kind,
     pub columns: Items<Column>,

@@ -6,7 +6,7 @@ use std::alloc::{AllocError, Global};
 use strsim::levenshtein;
 
 /// Why words are refused, and the name that a word may be meant for. It is shown as one line without its end.
-#[derive(Clone, Copy, Debug, PartialEq, Eq)]
+#[derive(Clone, Copy, PartialEq, Eq)]
 pub struct WordHint<'a> {
     pub(crate) refused: Refused<'a>,
     pub(crate) near: Option<&'static str>,

@@ -8,7 +8,7 @@ use mode_queries::SHIP_MODE;
 use ssb_reports::QNumber;
 
 /// Of what a word has to be a name.
-#[derive(Clone, Copy, Debug, PartialEq, Eq)]
+#[derive(Clone, Copy, PartialEq, Eq)]
 pub enum Known {
     /// A query of the benchmark.
     Query,
@@ -25,7 +25,7 @@ pub enum Known {
 }
 
 /// What is taken of the values of a measure.
-#[derive(Clone, Copy, Debug, PartialEq, Eq)]
+#[derive(Clone, Copy, PartialEq, Eq)]
 pub enum Taken {
     Sum,
     Min,
@@ -34,14 +34,14 @@ pub enum Taken {
 }
 
 /// What a query can have as a column.
-#[derive(Clone, Copy, Debug, PartialEq, Eq)]
+#[derive(Clone, Copy, PartialEq, Eq)]
 pub enum Column {
     Attribute(Attr),
     ShipMode,
 }
 
 /// What a condition is on.
-#[derive(Clone, Copy, Debug, PartialEq, Eq)]
+#[derive(Clone, Copy, PartialEq, Eq)]
 pub enum Subject {
     /// What can also be a column.
     Member(Column),

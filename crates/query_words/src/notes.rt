@@ -6,7 +6,7 @@ use std::{fmt, io};
 
 /// A condition, or a text of one, that selects no row, whatever the fact rows are. It is shown as one line without its
 /// end.
-#[derive(Clone, Copy, Debug, PartialEq, Eq)]
+#[derive(Clone, Copy, PartialEq, Eq)]
 pub enum Note<'a> {
     /// No row of the dimension has a text. Another text may be near that some row has.
     NoMember {
@@ -29,7 +29,7 @@ pub enum Note<'a> {
 }
 
 /// An end of a range.
-#[derive(Clone, Copy, Debug, PartialEq, Eq)]
+#[derive(Clone, Copy, PartialEq, Eq)]
 pub enum End<'a> {
     Text(&'a [u8]),
     Number(u8),

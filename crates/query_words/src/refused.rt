@@ -8,7 +8,7 @@ use std::alloc::{AllocError, AllocFailed};
 
 /// The words of a query: the number of a query of the benchmark, or the name of a set, columns, aggregates and
 /// conditions.
-#[derive(Clone, Copy, Debug)]
+#[derive(Clone, Copy)]
 pub struct QueryWords<'a> {
     pub q: Option<&'a str>,
     pub set: Option<&'a str>,
@@ -33,7 +33,7 @@ impl<'a> QueryWords<'a> {
 }
 
 /// What a query has too many of.
-#[derive(Clone, Copy, Debug, PartialEq, Eq)]
+#[derive(Clone, Copy, PartialEq, Eq)]
 pub enum Counted {
     Columns,
     Aggregates,
@@ -56,7 +56,7 @@ impl Counted {
 }
 
 /// What is wrong with a word of a condition, an aggregate or a group column.
-#[derive(Clone, Copy, Debug, PartialEq, Eq)]
+#[derive(Clone, Copy, PartialEq, Eq)]
 pub enum Mistake {
     /// A condition has no sign after its name.
     NoSign,
@@ -94,7 +94,7 @@ impl Mistake {
 
 /// Why words are refused: memory, or the first mistake in them, in the order set, columns, conditions, aggregates, and
 /// then the limits of their numbers.
-#[derive(Clone, Copy, Debug, PartialEq, Eq, Drop)]
+#[derive(Clone, Copy, PartialEq, Eq, Drop)]
 pub enum Refused<'a> {
     /// A growth of memory was refused.
     Memory,

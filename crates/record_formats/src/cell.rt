@@ -2,7 +2,7 @@
 use std::fmt;
 
 /// A cell of a record.
-#[derive(Clone, Copy, Debug, PartialEq, Eq)]
+#[derive(Clone, Copy, PartialEq, Eq)]
 pub enum Cell {
     Number(u64),
     /// A word of letters, digits, underscores and blanks, which each format writes as it is.

@@ -16,7 +16,6 @@ use ssb_reports::Lines;
 use std::alloc::Global;
 
 /// A report in a layout, and the query whose answer it has.
-#[derive(Drop)]
 pub struct Asked {
     pub layout: Layout,
     /// The query to be answered.
@@ -25,6 +24,18 @@ pub struct Asked {
     pub aggregates: Items<Agg>,
     /// The order and the number of its lines. An aggregate is one of the report's.
     pub arrangement: Arrangement,
+}
+
+// Written out, so that a proof has one call to follow where one is let go.
+impl Drop for Asked {
+    fn drop(self) {
+        let Asked {
+            layout: _,
+            query: _,
+            aggregates: _,
+            arrangement: _,
+        } = self;
+    }
 }
 
 impl Asked {

@@ -4,7 +4,7 @@ ghost use Rattle.report_formats.specs.Rows.{counts_averages, ending_of, format_n
 ghost use Rattle.report_formats.specs.Rows.{separator_of};
 
 /// The format of a report.
-#[derive(Clone, Copy, Debug, PartialEq, Eq)]
+#[derive(Clone, Copy, PartialEq, Eq)]
 pub enum Format {
     /// Fields separated by bars, with the number of lines at the end.
     Bars,
@@ -17,7 +17,7 @@ pub enum Format {
 }
 
 /// How a report is written.
-#[derive(Clone, Copy, Debug, PartialEq, Eq)]
+#[derive(Clone, Copy, PartialEq, Eq)]
 pub struct Layout {
     pub format: Format,
     /// How many digits after the point an average has, at most 18. Without it an average is a fraction in lowest terms,

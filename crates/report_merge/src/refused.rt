@@ -8,7 +8,7 @@ use partial_reports::Wrong;
 use std::alloc::{AllocError, AllocFailed};
 
 /// Why a partial report was not merged with those before it.
-#[derive(Clone, Copy, Debug, PartialEq, Eq, Drop)]
+#[derive(Clone, Copy, PartialEq, Eq, Drop)]
 pub enum Refused {
     /// A growth of memory was refused.
     Memory,
@@ -27,7 +27,7 @@ pub enum Refused {
 }
 
 /// Which of several partial reports was not merged, and why. Places count from 0.
-#[derive(Clone, Copy, Debug, PartialEq, Eq, Drop)]
+#[derive(Clone, Copy, PartialEq, Eq, Drop)]
 pub struct Unmerged {
     pub place: usize,
     pub refused: Refused,

@@ -6,7 +6,7 @@ use cube_model::{Amount, Fault, LineOrder, RowText};
 use std::alloc::Global;
 
 /// A fact row. A number of money is at most 9,223,372,036,854,775,807; a greater one counts as that.
-#[derive(Clone, Copy, Debug)]
+#[derive(Clone, Copy)]
 pub struct Fact<'a> {
     pub orderkey: u64,
     pub linenumber: u32,

@@ -22,7 +22,7 @@ pub const ATTRIBUTES: [Attr; 14] = [
 ];
 
 /// A condition on a fact row.
-#[derive(Clone, Copy, Debug)]
+#[derive(Clone, Copy)]
 pub enum Condition<'a> {
     OneOf(Attr, &'a [&'a str]),
     Between(Attr, &'a str, &'a str),
@@ -31,7 +31,7 @@ pub enum Condition<'a> {
 }
 
 /// A query.
-#[derive(Clone, Copy, Debug)]
+#[derive(Clone, Copy)]
 pub struct Asked<'a> {
     pub kind: Kind,
     pub columns: &'a [Attr],

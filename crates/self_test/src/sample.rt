@@ -12,10 +12,19 @@ use std::alloc::Global;
 const MOST_ROWS: usize = 64;
 
 /// The batches, and what the thirteen queries answer over the first of them: over none, over the first, and so on.
-#[derive(Drop)]
 pub(crate) struct Sample {
     batches: Vec<Items<LineOrder>>,
     answers: Vec<Vec<Answer>>,
+}
+
+// Written out, so that a proof has one call to follow where one is let go.
+impl Drop for Sample {
+    fn drop(self) {
+        let Sample {
+            batches: _,
+            answers: _,
+        } = self;
+    }
 }
 
 impl Sample {

@@ -15,7 +15,6 @@ use Rattle.cube_model.specs.Limits.{most_batch_rows, most_batches}
 use Rattle.batch_admission.specs.Accepted.{Accepted, HasAccepted}
 use Rattle.batch_admission.specs.Found.{Found, cause_of, found_in}
 use Rattle.batch_admission.specs.Totals.{totals_of}
-use Rattle.cube_model.specs.declared.totals.Totals.{Totals}
 use Rattle.batch_admission.proofs.CallerLemmas.{found-clean, found-earlier, known_both}
 use Rattle.cube_query.specs.Groups.{FoldState, IsOver}
 use Rattle.mode_folds.specs.States.{CanTakeByModes, IsOverByModes, ModeFoldState, RepresentsModeRows, TakesByModes}

@@ -26,12 +26,24 @@ pub struct Evaluated {
 }
 
 /// The five tables, line by line, and what is kept of a refusal.
-#[derive(Drop)]
 pub struct Tables<C: Read + Drop, S: Read + Drop, P: Read + Drop, D: Read + Drop, L: Read + Drop> {
     dimensions: DimensionTables<C, S, P, D>,
     lineorder: Lines<L>,
     broken: Option<DimRows>,
     unknown: Option<UnknownKey>,
+}
+
+// Written out, so that a proof has one call to follow where one is let go.
+impl<C: Read + Drop, S: Read + Drop, P: Read + Drop, D: Read + Drop, L: Read + Drop> Drop
+    for Tables<C, S, P, D, L> {
+    fn drop(self) {
+        let Tables {
+            dimensions: _,
+            lineorder: _,
+            broken: _,
+            unknown: _,
+        } = self;
+    }
 }
 
 impl<C: Read + Drop, S: Read + Drop, P: Read + Drop, D: Read + Drop, L: Read + Drop> Model

@@ -8,7 +8,7 @@ use cube_model::{Axis, Fault, LineOrder};
 use dimensions::Dims;
 
 /// A key in a line of the fact table that no row of its dimension has. Lines count from 1.
-#[derive(Clone, Copy, Debug, PartialEq, Eq)]
+#[derive(Clone, Copy, PartialEq, Eq)]
 pub struct UnknownKey {
     pub axis: Axis,
     pub key: u32,

@@ -3,7 +3,7 @@ ghost use Rattle.std.specs.Prelude.{◌≡◌};
 ghost use Rattle.ssb_reports.specs.Benchmark.{query_number_text};
 
 /// A query of the benchmark: its flight, and its place there.
-#[derive(Clone, Copy, Debug, PartialEq, Eq)]
+#[derive(Clone, Copy, PartialEq, Eq)]
 pub enum QNumber {
     Q11,
     Q12,

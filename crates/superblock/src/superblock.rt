@@ -9,7 +9,7 @@ const NEWEST_LAYOUT: u32 = 2;
 const LEAST_BYTES: u32 = 12;
 
 /// What a superblock says of the store.
-#[derive(Clone, Copy, Debug, PartialEq, Eq)]
+#[derive(Clone, Copy, PartialEq, Eq)]
 pub struct Super {
     /// The number of the layout of the objects, 1 or 2.
     pub layout: u32,

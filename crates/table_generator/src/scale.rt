@@ -5,7 +5,7 @@ ghost use Rattle.table_generator.specs.Scale.{customers_of, doublings, orders_of
 use std::marker::Model;
 
 /// A scale in hundredths of scale 1: from 0.01 to 100.
-#[derive(Clone, Copy, Debug, PartialEq, Eq)]
+#[derive(Clone, Copy, PartialEq, Eq)]
 pub struct Scale {
     hundredths: u32,
 }

@@ -2,7 +2,7 @@
 use crate::files::Table;
 
 /// What a column holds.
-#[derive(Clone, Copy, Debug, PartialEq, Eq)]
+#[derive(Clone, Copy, PartialEq, Eq)]
 pub enum Column {
     /// A number up to a limit.
     Number(u64),

@@ -5,7 +5,7 @@ ghost use Rattle.table_hints.specs.Tables.{table_name, table_of};
 use cube_model::Axis;
 
 /// One of the five tables.
-#[derive(Clone, Copy, Debug, PartialEq, Eq)]
+#[derive(Clone, Copy, PartialEq, Eq)]
 pub enum Table {
     Customer,
     Supplier,

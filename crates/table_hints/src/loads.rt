@@ -8,14 +8,14 @@ use cube_model::{Axis, Fault, MemberPlace};
 use std::alloc::Global;
 
 /// How a load cuts a file into batches: the number of the first, and the rows of each.
-#[derive(Clone, Copy, Debug, PartialEq, Eq)]
+#[derive(Clone, Copy, PartialEq, Eq)]
 pub struct Cut {
     pub first: u32,
     pub rows: u32,
 }
 
 /// A key of a fact row that no row of its dimension has, and its line, which counts from 1.
-#[derive(Clone, Copy, Debug, PartialEq, Eq)]
+#[derive(Clone, Copy, PartialEq, Eq)]
 pub struct KeyAt<'a> {
     pub axis: Axis,
     pub key: u32,

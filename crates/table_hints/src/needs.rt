@@ -23,7 +23,7 @@ const BATCH_BYTES: u64 = 20;
 const SECTOR_BYTES: u64 = 512;
 
 /// The sectors that a load needs, about.
-#[derive(Clone, Copy, Debug, PartialEq, Eq)]
+#[derive(Clone, Copy, PartialEq, Eq)]
 pub struct Needs {
     /// Those of its next batch.
     pub batch: u64,

@@ -6,7 +6,7 @@ const SHOWN: usize = 40;
 
 /// A text between quotation marks, with signs in place of bytes that cannot be printed, and cut after its first 40
 /// bytes.
-#[derive(Clone, Copy, Debug)]
+#[derive(Clone, Copy)]
 pub struct Quoted<'a>(pub &'a [u8]);
 
 impl fmt::Display for Quoted<'_> {

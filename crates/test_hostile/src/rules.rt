@@ -38,7 +38,7 @@ const ADDED_CUSTOMERS: u32 = 10;
 const ADDED_CATALOGUE: u32 = 12;
 
 /// What is found on a disk.
-#[derive(Clone, Copy, Debug, PartialEq, Eq)]
+#[derive(Clone, Copy, PartialEq, Eq)]
 enum Found {
     /// How the opening is refused.
     Refused(Fault),

@@ -151,9 +151,9 @@ fn each_read_and_each_write_under_a_report_fails_in_turn(rt: HostRuntime) -> Res
     for (number, text) in &REPORTS {
         let query = query_of(rt.alloc(), *number)?;
         let write = first_wrong_write(rt.alloc(), &query, text);
-        assert!(rt; write == None, "{number:?}: {write:?}");
+        assert!(rt; write == None, "{}: {write:?}", number.name());
         let read = first_wrong_read(rt.alloc(), &query, text);
-        assert!(rt; read == None, "{number:?}: {read:?}");
+        assert!(rt; read == None, "{}: {read:?}", number.name());
     }
     Ok(())
 }

@@ -263,7 +263,7 @@ fn wanted(case: &Case) -> Outcome {
 fn batches_are_accepted_or_refused_for_the_first_cause(rt: HostRuntime) -> Result<(), Fail> {
     let dims = dims_of(rt.alloc(), &STAR)?;
     for case in &CASES {
-        assert_eq!(rt; outcomes(rt.alloc(), &dims, case), Ok([wanted(case); 2]));
+        assert!(rt; outcomes(rt.alloc(), &dims, case) == Ok([wanted(case); 2]));
     }
     Ok(())
 }

@@ -33,9 +33,6 @@ fn sample_answer(alloc: Global) -> Result<Answer, Fault> {
 
 #[test]
 fn a_warehouse_in_memory_answers(rt: HostRuntime) -> Result<(), Fail> {
-    assert_eq!(rt;
-        sample_answer(rt.alloc()),
-        answer(rt.alloc(), &[(&[], 2000)], 1)
-    );
+    assert!(rt; sample_answer(rt.alloc()) == answer(rt.alloc(), &[(&[], 2000)], 1));
     Ok(())
 }

@@ -13,14 +13,14 @@ use std::alloc::{AllocError, Global};
 pub const MOST_STORED_CELLS: u64 = 262_144;
 
 /// A view, and the most cells that it can have.
-#[derive(Clone, Copy, Debug, PartialEq, Eq)]
+#[derive(Clone, Copy, PartialEq, Eq)]
 pub struct Candidate {
     pub view: View,
     pub size: u64,
 }
 
 /// A view that is asked for, and its cost under the views chosen so far.
-#[derive(Clone, Copy, Debug, PartialEq, Eq)]
+#[derive(Clone, Copy, PartialEq, Eq)]
 pub struct Costed {
     pub view: View,
     pub cost: u64,

@@ -7,7 +7,7 @@ use lattice::{Counts, View};
 use std::alloc::{AllocError, Global};
 
 /// Which view is taken of several with the greatest benefit.
-#[derive(Clone, Copy, Debug, PartialEq, Eq)]
+#[derive(Clone, Copy, PartialEq, Eq)]
 pub enum Ties {
     /// That of the least number.
     ToLeast,

@@ -1,7 +1,7 @@
 //! Why words name no list of views.
 
 /// Why words name no list of views that a warehouse can store.
-#[derive(Clone, Copy, Debug, PartialEq, Eq)]
+#[derive(Clone, Copy, PartialEq, Eq)]
 pub enum Refused {
     /// Memory was refused.
     Memory,

@@ -2,7 +2,7 @@
 use lattice::View;
 
 /// A view that was chosen.
-#[derive(Clone, Copy, Debug, PartialEq, Eq)]
+#[derive(Clone, Copy, PartialEq, Eq)]
 pub struct Chosen {
     pub view: View,
     /// By how many rows it lowers the costs of the views that it answers, in all, under those chosen before it.

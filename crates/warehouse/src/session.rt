@@ -22,7 +22,6 @@ use warehouse_root::Root;
 ///
 /// After `Device` it answers `Failed` to every call but `device` and `close`, and calls the device no more. It is to be
 /// opened again.
-#[derive(Drop)]
 pub struct Session<D: Sectors> {
     pub(crate) store: Store<D>,
     pub(crate) dims: Rc<Dims>,
@@ -30,6 +29,18 @@ pub struct Session<D: Sectors> {
     pub(crate) root: Root,
     ghost loaded: { stores.has_failed store ≡ false → D.keeps_word (stores.device_of store)
         → IsLoaded (stores.content_of D.Sectors store) dims.value modes root } by { Prim.hlevel props },
+}
+
+// Written out, so that a proof has one call to follow where one is let go.
+impl<D: Sectors + Drop> Drop for Session<D> {
+    fn drop(self) {
+        let Session {
+            store: _,
+            dims: _,
+            modes: _,
+            root: _,
+        } = self;
+    }
 }
 
 impl<D: Sectors> Session<D> {
@@ -46,7 +57,13 @@ impl<D: Sectors> Session<D> {
     pub fn close(self) -> D
         ensures { result ≡ device_of self }
     {
-        self.store.close()
+        let Session {
+            store,
+            dims: _,
+            modes: _,
+            root: _,
+        } = self;
+        store.close()
     }
 
     /// Whether the device failed in an earlier call. Until then each image represents the warehouse.

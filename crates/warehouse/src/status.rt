@@ -17,7 +17,7 @@ use warehouse_root::limits::MOST_CUBOIDS;
 use warehouse_root::{Layout, StoredCuboid};
 
 /// The numbers of a warehouse.
-#[derive(Clone, Copy, Debug, PartialEq, Eq)]
+#[derive(Clone, Copy, PartialEq, Eq)]
 pub struct Status {
     /// The layout of what is on the device.
     pub layout: Layout,

@@ -3,7 +3,7 @@ use cube_model::Fault;
 use std::fmt;
 
 /// The first thing that is wrong with the content of a store. Batches are numbered from 1.
-#[derive(Clone, Copy, Debug, PartialEq, Eq)]
+#[derive(Clone, Copy, PartialEq, Eq)]
 pub enum Finding {
     /// An object is missing for which the root asks, or there is one for which it does not.
     Objects,

@@ -8,7 +8,7 @@ use lattice::View;
 use std::marker::Model;
 
 /// The number of a batch. Batches are numbered from 1.
-#[derive(Clone, Copy, Debug, PartialEq, Eq)]
+#[derive(Clone, Copy, PartialEq, Eq)]
 pub struct BatchNumber {
     number: u32,
 }
@@ -47,7 +47,7 @@ impl BatchNumber {
 }
 
 /// How many lines of a file make a batch: 1 to 65,536. The last batch may have fewer.
-#[derive(Clone, Copy, Debug, PartialEq, Eq)]
+#[derive(Clone, Copy, PartialEq, Eq)]
 pub struct BatchRows {
     rows: usize,
 }

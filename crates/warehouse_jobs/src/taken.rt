@@ -1,7 +1,7 @@
 //! What becomes of the batches of a load.
 
 /// What became of a batch of a load.
-#[derive(Clone, Copy, Debug, PartialEq, Eq)]
+#[derive(Clone, Copy, PartialEq, Eq)]
 pub enum Taken {
     /// It was added.
     Added,

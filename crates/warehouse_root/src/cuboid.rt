@@ -5,7 +5,7 @@ use crate::layout::Layout;
 use crate::limits::{MOST_CELLS, MOST_RUNS};
 
 /// What a root says of a cuboid.
-#[derive(Clone, Copy, Debug, PartialEq, Eq)]
+#[derive(Clone, Copy, PartialEq, Eq)]
 pub struct StoredCuboid {
     /// The number of its view, from 0.
     pub view: u16,

@@ -22,7 +22,6 @@ use std::alloc::Global;
 use std::marker::Model;
 
 /// What a warehouse says of its batches and its stored cuboids. It keeps the rules of a root.
-#[derive(Debug, Drop)]
 pub struct Root {
     layout: Layout,
     batches: Vec<u32>,
@@ -30,6 +29,20 @@ pub struct Root {
     additions: u32,
     totals: Totals,
     cuboids: Vec<StoredCuboid>,
+}
+
+// Written out, so that a proof has one call to follow where one is let go.
+impl Drop for Root {
+    fn drop(self) {
+        let Root {
+            layout: _,
+            batches: _,
+            target: _,
+            additions: _,
+            totals: _,
+            cuboids: _,
+        } = self;
+    }
 }
 
 impl Model for Root {

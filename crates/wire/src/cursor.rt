@@ -7,7 +7,7 @@ use cube_model::Fault;
 use std::marker::Model;
 
 /// Bytes that are read from the front. Contracts see it as the bytes that are left.
-#[derive(Debug, Drop)]
+#[derive(Drop)]
 pub struct Cursor<'a> {
     rest: &'a [u8],
 }

@@ -58,7 +58,7 @@ pub trait Source {
 }
 
 /// Bytes in memory, which are at every id.
-#[derive(Debug, Drop)]
+#[derive(Drop)]
 pub struct SliceSource<'a> {
     bytes: &'a [u8],
 }

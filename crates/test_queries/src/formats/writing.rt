@@ -49,12 +49,9 @@ static REPORTS: [(Format, Option<u32>, &[u8]); 8] = [
 
 #[test]
 fn reports_are_written_as_by_hand(rt: HostRuntime) -> Result<(), Fail> {
-    for (format, decimals, expected) in &REPORTS {
+    for (place, (format, decimals, expected)) in REPORTS.iter().enumerate() {
         let written = report(rt.alloc(), *format, *decimals)?;
-        assert!(rt;
-            written.as_slice() == *expected,
-            "in {format:?}, {decimals:?}"
-        );
+        assert!(rt; written.as_slice() == *expected, "report {place}");
     }
     Ok(())
 }

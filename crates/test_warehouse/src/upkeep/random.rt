@@ -9,13 +9,25 @@ use std::alloc::Global;
 use warehouse::{MOST_CUBOIDS, Session, Status, StoredCuboid};
 
 /// A session, what its status is to be, the rows of its batches, and whether each audit answered yes.
-#[derive(Drop)]
 struct Run {
     draw: Draw,
     session: Session<MemDisk>,
     status: Status,
     rows: Vec<Row>,
     is_audited: bool,
+}
+
+// Written out, so that a proof has one call to follow where one is let go.
+impl Drop for Run {
+    fn drop(self) {
+        let Run {
+            draw: _,
+            session: _,
+            status: _,
+            rows: _,
+            is_audited: _,
+        } = self;
+    }
 }
 
 /// A run over a warehouse without batches on 2,048 sectors.

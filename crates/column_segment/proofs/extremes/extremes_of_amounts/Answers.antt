@@ -4,5 +4,5 @@ use Rattle.column_segment.proofs.extremes.extremes_of_amounts.Goals as goal
 pub returns : goal.returns
 returns c =
     of_amounts c.args.bytes.now c.args.layout.now c.requires.columns c.args.mask.now c.args.column
-    c.amount_chunks.result.now c.extremes_of_numbers.result c.amount_chunks.ensures.value
+    c.chunks.result.now c.extremes_of_numbers.result c.chunks.ensures.value
     c.extremes_of_numbers.ensures

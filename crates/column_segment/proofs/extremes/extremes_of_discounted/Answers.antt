@@ -4,5 +4,5 @@ use Rattle.column_segment.proofs.extremes.extremes_of_discounted.Goals as goal
 pub returns : goal.returns
 returns c =
     of_discounted c.args.bytes.now c.args.layout.now c.requires.columns c.args.mask.now
-    c.amount_chunks-prices.result.now c.byte_part-discounts.result.now c.extremes_of_products.result
-    c.amount_chunks-prices.ensures.value c.byte_part-discounts.ensures.value c.extremes_of_products.ensures
+    c.chunks-prices.result.now c.byte_part-discounts.result.now c.extremes_of_products.result
+    c.chunks-prices.ensures.value c.byte_part-discounts.ensures.value c.extremes_of_products.ensures

@@ -9,14 +9,14 @@ pub new-requires : goal.new-requires
 new-requires c =
     let text : List ℕ = c.args.bytes.now in
     let rows : ℕ = c.args.layout.now.rows in
-    let chunks : List (List ℕ) = c.amount_chunks.result.now in
+    let chunks : List (List ℕ) = c.chunks.result.now in
     let many : length (amounts_in text rows c.args.column) ≡ rows =
     length-read (from_le_bytes w64) 8 rows (column_bytes (amount_place c.args.column) 8 rows text) in
     let small : slice_index (amounts_in text rows c.args.column) c.args.row < 2 ^ 63 =
     c.requires.readable.amounts c.args.column c.args.row 0 (omega (arith, many, c.requires.within)) in
     let is : slice_index (amounts_in text rows c.args.column) c.args.row
     ≡ from_le_bytes w64 (get_or chunks c.args.row []) =
-    ap (λ (l : List (List ℕ)). get_or (map (from_le_bytes w64) l) c.args.row 0) (sym c.amount_chunks.ensures.value)
+    ap (λ (l : List (List ℕ)). get_or (map (from_le_bytes w64) l) c.args.row 0) (sym c.chunks.ensures.value)
     ∙ at-map (from_le_bytes w64) chunks c.args.row [] 0
-    (omega (arith, c.amount_chunks.ensures.many, c.requires.within)) in
+    (omega (arith, c.chunks.ensures.many, c.requires.within)) in
     subst (λ (n : ℕ). n < 2 ^ 63) (is ∙ sym c.from_le_bytes.ensures) small

@@ -8,5 +8,5 @@ pub returns : goal.returns
 returns c =
     to_z-of_z w128 c.sum_of_differences.result (record { sfits = c.sum_of_differences.type_inv })
     ∙ profit_sum c.args.bytes.now c.args.layout.now c.requires.columns c.args.mask.now
-    c.amount_chunks-revenues.result.now c.amount_chunks-costs.result.now c.sum_of_differences.result
-    c.amount_chunks-revenues.ensures.value c.amount_chunks-costs.ensures.value c.sum_of_differences.ensures
+    c.chunks-revenues.result.now c.chunks-costs.result.now c.sum_of_differences.result
+    c.chunks-revenues.ensures.value c.chunks-costs.ensures.value c.sum_of_differences.ensures

@@ -1,4 +1,4 @@
-use Rattle.std.proofs.Common.{◌≡◌, Err, subst, sym, true, false, is_some, rules}
+use Rattle.std.proofs.Common.{◌≡◌, Err, true, false, is_some, rules}
 use Rattle.std.proofs.lemmas.Result.{err_from_is_err_and}
 use Rattle.batch_admission.specs.Found.{cause_of}
 use Rattle.cube_query.proofs.CallerLemmas.{memory_alone}

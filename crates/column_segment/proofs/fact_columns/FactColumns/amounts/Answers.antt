@@ -7,6 +7,6 @@ use Rattle.column_segment.proofs.fact_columns.FactColumns.amounts.Goals as goal
 
 pub returns : goal.returns
 returns c =
-    ap (map (from_le_bytes w64)) c.amount_chunks.ensures.value
+    ap (map (from_le_bytes w64)) c.chunks.ensures.value
     ∙ sym (amount_values c.self.inside.bytes.now c.self.inside.layout.now c.args.column)
     ∙ ap (λ (rows : List LineOrder). map (amount_of c.args.column) rows) c.self.view_is

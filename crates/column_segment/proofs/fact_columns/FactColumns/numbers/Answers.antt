@@ -7,6 +7,6 @@ use Rattle.column_segment.proofs.fact_columns.FactColumns.numbers.Goals as goal
 
 pub returns : goal.returns
 returns c =
-    ap (map (from_le_bytes w32)) c.number_chunks.ensures.value
+    ap (map (from_le_bytes w32)) c.chunks.ensures.value
     ∙ sym (number_values c.self.inside.bytes.now c.self.inside.layout.now c.args.column)
     ∙ ap (λ (rows : List LineOrder). map (column_number c.args.column) rows) c.self.view_is

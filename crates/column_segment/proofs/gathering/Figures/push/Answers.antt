@@ -9,21 +9,21 @@ use Rattle.column_segment.proofs.gathering.Figures.push.Goals as goal
 pub returns-clause-ok : goal.returns-clause-ok
 returns-clause-ok c =
     let rows = c.args.rows.now in
-    on_ok_weaker c.put_bytes-3.result
+    on_ok_weaker c.put-7.result
     (λ put before have. record {
-      quantity = chunks_after (bytes Quantity) before rows c.args.self.now.quantity.items c.put_bytes.new.to.items
-          have.quantity c.in_ok-put_bytes.ensures.ok;
+      quantity = chunks_after (bytes Quantity) before rows c.args.self.now.quantity.items c.put.new.to.items
+          have.quantity c.in_ok-put.ensures.ok;
       extendedprice = chunks_after (amounts ExtendedPrice) before rows c.args.self.now.extendedprice.items
-          c.put_amounts.new.to.items have.extendedprice c.in_ok-put_amounts.ensures.ok;
+          c.put-2.new.to.items have.extendedprice c.in_ok-put-2.ensures.ok;
       ordtotalprice = chunks_after (amounts OrdTotalPrice) before rows c.args.self.now.ordtotalprice.items
-          c.put_amounts-2.new.to.items have.ordtotalprice c.in_ok-put_amounts-2.ensures.ok;
-      discount = chunks_after (bytes Discount) before rows c.args.self.now.discount.items c.put_bytes-2.new.to.items
-          have.discount c.in_ok-put_bytes-2.ensures.ok;
-      revenue = chunks_after (amounts Revenue) before rows c.args.self.now.revenue.items c.put_amounts-3.new.to.items
-          have.revenue c.in_ok-put_amounts-3.ensures.ok;
+          c.put-3.new.to.items have.ordtotalprice c.in_ok-put-3.ensures.ok;
+      discount = chunks_after (bytes Discount) before rows c.args.self.now.discount.items c.put-4.new.to.items
+          have.discount c.in_ok-put-4.ensures.ok;
+      revenue = chunks_after (amounts Revenue) before rows c.args.self.now.revenue.items c.put-5.new.to.items
+          have.revenue c.in_ok-put-5.ensures.ok;
       supplycost =
-          chunks_after (amounts SupplyCost) before rows c.args.self.now.supplycost.items c.put_amounts-4.new.to.items
-          have.supplycost c.in_ok-put_amounts-4.ensures.ok;
-      tax = chunks_after (bytes Tax) before rows c.args.self.now.tax.items c.put_bytes-3.new.to.items have.tax put;
+          chunks_after (amounts SupplyCost) before rows c.args.self.now.supplycost.items c.put-6.new.to.items
+          have.supplycost c.in_ok-put-6.ensures.ok;
+      tax = chunks_after (bytes Tax) before rows c.args.self.now.tax.items c.put-7.new.to.items have.tax put;
     })
-    c.put_bytes-3.ensures.ok
+    c.put-7.ensures.ok
