@@ -1,1 +1,7 @@
+pub mod Ends
+pub mod Files
+pub mod Found
+pub mod LoadSteps
+pub mod Named
+pub mod Over
 pub mod Reported

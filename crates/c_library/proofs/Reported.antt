@@ -2,13 +2,13 @@
 use Rattle.std.proofs.Common.{◌≡◌, ◌⊎◌, inr, ℤ, ℕ, List, Option, Some, None, subst}
 use Rattle.cube_model.specs.declared.fault.Fault.{Fault}
 use Rattle.c_library.specs.Reports.{AsksFor, RefusesReport, IsReportFor, prefix_of}
-use Rattle.image_jobs.specs.Answers.{AnswerRefuses, IsReportOver, IsNoDevice}
-use Rattle.image_jobs.specs.Images.{HoldsWarehouse}
+use Rattle.c_library.specs.Answers.{AnswerRefuses, IsReportOver, IsNoDevice}
+use Rattle.c_library.specs.Images.{HoldsWarehouse}
 use Rattle.query_words.specs.Words.{Words}
 use Rattle.report_formats.specs.Rows.{format_named}
 use Rattle.report_formats.specs.declared.asked.Asked.{Asked}
 use Rattle.report_formats.specs.declared.layout.Layout.{Layout}
-use Rattle.report_words.specs.Words.{IsReportOf}
+use Rattle.c_library.specs.Words.{IsReportOf}
 use Rattle.warehouse_objects.specs.Facts.{Facts}
 
 module _ (image : List ℕ) (words : Words) (format : List ℕ) (as_of : ℤ) (prefix : Option ℕ) (layout : Layout)

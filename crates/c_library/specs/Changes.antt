@@ -3,7 +3,7 @@ use Rattle.std.specs.Prelude.{◌≡◌, ◌⊎◌, ◌≤◌, ℕ, List}
 use Rattle.cube_model.specs.declared.fault.Fault.{Fault}
 use Rattle.cube_model.specs.declared.fault.Fault.TheVariants.{BadQuery}
 use Rattle.cube_model.specs.Limits.{most_batch_rows}
-use Rattle.image_jobs.specs.Loading.{RefusesLoad}
+use Rattle.c_library.specs.Loading.{RefusesLoad}
 
 -- the numbers of a load: that of its first batch, and how many rows a batch has
 abbrev pub AreLoadNumbers : ℕ → ℕ → Type 0

@@ -1,3 +1,9 @@
-pub mod Handing
-pub mod Reports
+pub mod Answers
 pub mod Changes
+pub mod Creating
+pub mod Handing
+pub mod Images
+pub mod Journals
+pub mod Loading
+pub mod Reports
+pub mod Words

@@ -2,13 +2,13 @@
 use Rattle.std.specs.Prelude.{◌≡◌, ◌⊎◌, ◌^◌, ◌≤ℤ◌, ℤ, pos, negsuc, ℕ, List, Option, None, Some}
 use Rattle.cube_model.specs.declared.fault.Fault.{Fault}
 use Rattle.cube_model.specs.declared.fault.Fault.TheVariants.{BadQuery, Memory, NoSuchPrefix}
-use Rattle.image_jobs.specs.Answers.{AnswerRefuses, IsReportOver, IsNoDevice}
-use Rattle.image_jobs.specs.Images.{HoldsWarehouse}
+use Rattle.c_library.specs.Answers.{AnswerRefuses, IsReportOver, IsNoDevice}
+use Rattle.c_library.specs.Images.{HoldsWarehouse}
 use Rattle.query_words.specs.Words.{Words}
 use Rattle.report_formats.specs.Rows.{format_named}
 use Rattle.report_formats.specs.declared.asked.Asked.{Asked}
 use Rattle.report_formats.specs.declared.layout.Layout.{Layout}
-use Rattle.report_words.specs.Words.{IsReportOf}
+use Rattle.c_library.specs.Words.{IsReportOf}
 use Rattle.warehouse_objects.specs.Facts.{Facts}
 
 -- over so many batches, or over all below 0

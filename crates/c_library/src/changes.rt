@@ -2,12 +2,13 @@
 ghost use Rattle.std.specs.Prelude.{IfErr, IfOk};
 ghost use Rattle.c_library.specs.Changes.{RefusesChange};
 ghost use Rattle.c_library.specs.Handing.{HandsSaying};
-ghost use Rattle.image_jobs.specs.Creating.{IsCreateJournal, RefusesCreate};
-ghost use Rattle.image_jobs.specs.Loading.{IsLoadJournal};
+ghost use Rattle.c_library.specs.Creating.{IsCreateJournal, RefusesCreate};
+ghost use Rattle.c_library.specs.Loading.{IsLoadJournal};
 
+use crate::creating::create;
 use crate::handing::{put, refuse};
+use crate::loading::load;
 use cube_model::Fault;
-use image_jobs::{create, load};
 use std::alloc::Global;
 use warehouse_jobs::{BatchNumber, BatchRows};
 

@@ -3,12 +3,12 @@ ghost use Rattle.std.specs.Prelude.{◌≡◌, ◌≤ℤ◌, ◌^◌, pos, IfErr
 ghost use Rattle.cube_model.specs.declared.fault.Fault.TheVariants.{NoSuchPrefix};
 ghost use Rattle.c_library.specs.Handing.{Hands};
 ghost use Rattle.c_library.specs.Reports.{RefusesReport, IsReportFor, prefix_of};
-ghost use Rattle.report_words.specs.Words.{benchmark_words, cube_words};
+ghost use Rattle.c_library.specs.Words.{benchmark_words, cube_words};
 
+use crate::answering::answer;
+use crate::asking::{asked_benchmark, asked_cube, layout_of};
 use crate::handing::{number_of, put};
 use cube_model::Fault;
-use image_jobs::answer;
-use report_words::{asked_benchmark, asked_cube, layout_of};
 use std::alloc::Global;
 
 /// The report of a query of the benchmark, by its number such as 1.1, over so many batches, or over all where `as_of`

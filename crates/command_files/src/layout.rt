@@ -3,9 +3,8 @@ use crate::query::query_of;
 use crate::refusal::{Refusal, bad_query};
 use clap::ArgMatches;
 use cube_model::Fault;
-use line_order::{Arrangement, Sorting, sort_key};
 use mode_queries::ModeQuery;
-use report_formats::{Asked, Format, Layout};
+use report_formats::{Arrangement, Asked, Format, Layout, Sorting, sort_key};
 use std::alloc::{AllocError, Global};
 
 /// The report that the words of a command ask for.

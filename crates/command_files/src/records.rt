@@ -2,8 +2,7 @@
 use clap::ArgMatches;
 use cube_model::Axis;
 use lattice::View;
-use record_formats::Cell;
-use report_formats::Format;
+use report_formats::{Cell, Format};
 
 /// The format of the records that the words of a command ask for. None where they ask for its lines.
 pub fn format_of(given: &ArgMatches<'_>) -> Option<Format> {

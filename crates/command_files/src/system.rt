@@ -10,8 +10,8 @@ use std::time::{CpuClock, Duration};
 /// What standard input gives.
 pub type Stdin = <HostRuntime as Input>::Reader;
 
-/// The system on which a command runs: its files, its clock and its standard streams. What is printed on both streams may
-/// be kept in one text instead.
+/// The system on which a command runs: its files, its clock and its standard streams. What is printed on both streams
+/// may be kept in one text instead.
 #[derive(Drop)]
 pub struct System {
     rt: HostRuntime,

@@ -5,7 +5,7 @@ use command_files::output::{cut_short, output};
 use command_files::refusal::Refusal;
 use command_files::system::System;
 use cube_model::Fault;
-use self_test::test_crashes;
+use trials::test_crashes;
 
 /// For how many seconds there are random crashes, if the command does not say.
 const SECONDS: u32 = 10;

@@ -4,7 +4,7 @@ use command_files::output::{cut_short, output};
 use command_files::refusal::Refusal;
 use command_files::system::System;
 use cube_model::Fault;
-use demonstration::demonstrate;
+use trials::demonstrate;
 
 /// Shows what a warehouse does, on a disk in memory.
 pub fn demo(rt: &System) -> Result<u8, Refusal> {

@@ -16,7 +16,7 @@ use std::io::Write;
 use table_hints::Table;
 use table_texts::write_dimension;
 use warehouse::Session;
-use warehouse_dump::{write_batch, write_batches};
+use warehouse_jobs::{write_batch, write_batches};
 
 /// Prints the fact rows of the warehouse of a command as lines of their table, or writes all five tables into a folder.
 pub fn dump(rt: &System, given: &ArgMatches<'_>) -> Result<u8, Refusal> {

@@ -9,11 +9,11 @@ use command_sessions::device::{self, Access, InFile};
 use command_sessions::explaining::explained;
 use command_sessions::job::met_in;
 use cube_model::{Attr, Fault};
-use member_lists::write_members;
 use query_words::{QueryWords, read_query};
 use sector_device::Sectors;
 use std::alloc::Global;
 use std::io::Write;
+use table_texts::write_members;
 use warehouse::Session;
 
 /// Lists the members of an attribute of the warehouse of a command.

@@ -14,10 +14,10 @@ use command_sessions::unfinished::note_unfinished;
 use cube_model::{Axis, Fault};
 use dimensions::Dims;
 use lattice::{View, ViewName};
+use query_words::{RefusedViews, hint_of_view, read_views};
 use sector_device::Sectors;
 use std::alloc::Global;
 use std::io::Write;
-use view_words::{Refused, hint_of_view, read_views};
 use warehouse::{Layout, MOST_CUBOIDS, Session, StoredCuboid};
 
 /// The dimensions.
@@ -77,14 +77,14 @@ fn no_ship_modes(alloc: Global, view: View) -> Refusal {
 }
 
 // The refusal of words that name no list of views.
-fn unnamed(alloc: Global, words: &[&str], refused: Refused) -> Refusal {
+fn unnamed(alloc: Global, words: &[&str], refused: RefusedViews) -> Refusal {
     let hint = match refused {
-        Refused::Memory => return Refusal::from(Fault::Memory),
-        Refused::TooMany => {
+        RefusedViews::Memory => return Refusal::from(Fault::Memory),
+        RefusedViews::TooMany => {
             format!(in alloc; "{} views: at most {MOST_CUBOIDS} are stored", words.len())
         }
-        Refused::Unknown(place) => hint_of_view(alloc, word_at(words, place)),
-        Refused::Twice(place) => {
+        RefusedViews::Unknown(place) => hint_of_view(alloc, word_at(words, place)),
+        RefusedViews::Twice(place) => {
             format!(in alloc; "{}: this view is named twice", word_at(words, place))
         }
     };

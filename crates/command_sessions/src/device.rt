@@ -64,7 +64,7 @@ pub fn copy<D: Sectors + InFile>(
     watch: Watch<'_>,
 ) -> Result<u32, Met> {
     let (device, is_new) = made(rt, path, sectors, Existing::Blank, watch)?;
-    match warehouse_copy::copy(rt.alloc(), from, device) {
+    match warehouse_jobs::copy(rt.alloc(), from, device) {
         Ok(copy) => {
             keep_name(rt, path);
             Ok(copy.status()?.batches)

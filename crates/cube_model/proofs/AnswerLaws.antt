@@ -17,11 +17,13 @@ use Rattle.cube_model.specs.declared.query.Query.{Query}
 use Rattle.cube_model.specs.declared.rows.DimRows.{DimRows}
 use Rattle.cube_model.specs.declared.rows.LineOrder.{LineOrder}
 use Rattle.cube_model.specs.Answers.{answer, line_of}
-use Rattle.cube_model.specs.Ascending.{by_order, insert_once, ascending, IsAscending, IsAscending-ascending}
-use Rattle.cube_model.specs.Ascending.{list_any-ascending}
+use Rattle.cube_model.specs.Ascending.{by_order, insert_once, ascending, IsAscending}
+use Rattle.cube_model.proofs.Ascending.{IsAscending-ascending}
+use Rattle.cube_model.proofs.Ascending.{list_any-ascending}
 use Rattle.cube_model.specs.Keys.{key_cmp, keys_of}
 use Rattle.cube_model.specs.Lawful.{IsAnswer}
-use Rattle.cube_model.specs.Order.{key_cmp_total, key_cmp-IsAntisymmetric, member_cmp_total}
+use Rattle.cube_model.specs.Order.{member_cmp_total}
+use Rattle.cube_model.proofs.KeyOrder.{key_cmp_total, key_cmp-IsAntisymmetric}
 use Rattle.cube_model.specs.Orders.{answer_cmp, value_cmp, in_order}
 use Rattle.cube_model.specs.Selection.{selected}
 use Rattle.cube_model.proofs.Entries.{IsAscending-unique}

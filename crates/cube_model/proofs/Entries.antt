@@ -11,7 +11,8 @@ use Rattle.std.specs.Map.{lookup}
 use Rattle.std.specs.BTreeMap.{is_at}
 use Rattle.std.specs.FinMap.{IsAntisymmetric}
 use Rattle.std.specs.FinMap.Entries.{is_sorted, below_all, find, same_entries}
-use Rattle.cube_model.specs.Ascending.{ascending, IsAscending, IsAscending-ascending, list_any-ascending}
+use Rattle.cube_model.specs.Ascending.{ascending, IsAscending}
+use Rattle.cube_model.proofs.Ascending.{IsAscending-ascending, list_any-ascending}
 
 both : (a b : Bool) → T a → T b → T (a && b)
 both true b p q = q

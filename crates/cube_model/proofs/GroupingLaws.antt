@@ -15,7 +15,7 @@ use Rattle.cube_model.specs.declared.rows.DimRows.{DimRows}
 use Rattle.cube_model.specs.declared.rows.LineOrder.{LineOrder}
 use Rattle.cube_model.specs.Answers.{rows_of_key}
 use Rattle.cube_model.specs.Keys.{GroupingSet, beginnings, subsets, grouping_sets, key_under, key_cmp, keys_of}
-use Rattle.cube_model.specs.Order.{key_cmp-IsAntisymmetric}
+use Rattle.cube_model.proofs.KeyOrder.{key_cmp-IsAntisymmetric}
 use Rattle.cube_model.specs.Lawful.{RowsOfAKey}
 
 -- an item of a list

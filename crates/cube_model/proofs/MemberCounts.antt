@@ -8,7 +8,8 @@ use Rattle.std.specs.declared.cmp.Ordering.TheVariants.{Less, Equal, Greater}
 use Rattle.std.specs.Ordering.{eq_by_cmp, is_eq, ordering_reverse}
 use Rattle.std.specs.Cmp.{IsTotalOrder}
 use Rattle.std.specs.FinMap.{IsAntisymmetric}
-use Rattle.cube_model.specs.Ascending.{ascending, IsAscending, IsAscending-ascending, list_any-ascending}
+use Rattle.cube_model.specs.Ascending.{ascending, IsAscending}
+use Rattle.cube_model.proofs.Ascending.{IsAscending-ascending, list_any-ascending}
 
 none_more : (n : ℕ) → 0 ≤ n
 none_more n = omega arith

@@ -148,7 +148,7 @@ pub enum Fault {
     TooManyAdditions,
 }
 
-// What a fault prints: its variants one by one would cost the proof of the longest function here.
+// What a fault prints, since one derived for so many variants would be among the longest proofs here.
 impl fmt::Debug for Fault {
     fn fmt<W: fmt::Write>(&self, f: &mut fmt::Formatter<W>) -> fmt::Result {
         fmt::Display::fmt(self, f)

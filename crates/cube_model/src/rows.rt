@@ -45,12 +45,24 @@ pub struct DateRow {
 }
 
 /// The rows of the four dimensions, each list in the order of its table.
-#[derive(PartialEq, Eq, Drop)]
+#[derive(PartialEq, Eq)]
 pub struct DimRows {
     pub customers: Items<CustomerRow>,
     pub suppliers: Items<SupplierRow>,
     pub parts: Items<PartRow>,
     pub dates: Items<DateRow>,
+}
+
+// Written out, so that a proof has one call to follow where one is let go.
+impl Drop for DimRows {
+    fn drop(self) {
+        let DimRows {
+            customers: _,
+            suppliers: _,
+            parts: _,
+            dates: _,
+        } = self;
+    }
 }
 
 /// A row of the fact table, whole. Amounts of money are in the generator's whole units.

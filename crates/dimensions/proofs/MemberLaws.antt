@@ -9,7 +9,8 @@ use Rattle.std.specs.declared.cmp.Ordering.TheVariants.{Less, Equal, Greater}
 use Rattle.std.specs.Cmp.{IsTotalOrder}
 use Rattle.std.specs.Cmp.Lexicographic.{slice_cmp, texts_ties, nat_list_cmp_total}
 use Rattle.std.specs.FinMap.{IsAntisymmetric, nat_cmp-IsAntisymmetric, slice_cmp-IsAntisymmetric}
-use Rattle.cube_model.specs.Ascending.{by_order, insert_once, IsAscending, IsAscending-ascending, list_any-ascending}
+use Rattle.cube_model.specs.Ascending.{by_order, insert_once, IsAscending}
+use Rattle.cube_model.proofs.Ascending.{IsAscending-ascending, list_any-ascending}
 use Rattle.cube_model.specs.Validity.{members_of}
 use Rattle.dictionary.specs.Dictionary.{EachOnce, firsts}
 use Rattle.dictionary.proofs.CallerLemmas.{or_both, list_any-firsts, EachOnce-firsts}

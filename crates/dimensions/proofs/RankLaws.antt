@@ -15,7 +15,8 @@ use Rattle.std.proofs.lemmas.List.Kept.{IsStrictlySortedBy-dedup, Contains-dedup
 use Rattle.std.proofs.lemmas.List.Sorted.{searchable_from_sorted, list_any-IsPermutation}
 use Rattle.std.proofs.lemmas.Map.Keys.{Less-from_sorted}
 use Rattle.std.proofs.lemmas.Map.Views.{list_any-from_Contains, Contains-from_any}
-use Rattle.cube_model.specs.Ascending.{IsAscending, IsAscending-ascending}
+use Rattle.cube_model.specs.Ascending.{IsAscending}
+use Rattle.cube_model.proofs.Ascending.{IsAscending-ascending}
 use Rattle.cube_model.specs.Validity.{members_of}
 use Rattle.dictionary.proofs.CallerLemmas.{bytes_eq-same, bytes_eq-refl, list_any_here}
 use Rattle.dimensions.proofs.MemberLaws.{text_cmp, has_by_cmp, has-members_of, IsAscending-unique, reflexive}

@@ -2,7 +2,7 @@
 use Rattle.std.proofs.Common.{Result, Ok, Err, MatchResult, OnOk, is_ok, ◌≡◌, ℕ, zero, suc, ◌+◌, ◌/◌, ◌<◌, List, []}
 use Rattle.std.proofs.Common.{◌∷◌, length, take, get_or, refl, add-one, sym, ◌∙◌, ap, subst, inl, true≢false, arith}
 use Rattle.sector_device.specs.Device.{Image, CandidatesStay, HasRun}
-use Rattle.sector_device.specs.Moments.{stays_then}
+use Rattle.sector_device.proofs.WriteRuns.{stays_then}
 use Rattle.sector_device.proofs.CallerLemmas.{length-chunks, chunk_at}
 use Rattle.file_device.specs.History.{reads_after, IsHonest, file_state}
 use Rattle.file_device.specs.Runs.{sectors_in, with_reads}

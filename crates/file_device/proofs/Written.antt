@@ -4,7 +4,7 @@ use Rattle.std.proofs.Common.{Bool, true, false, if◌then◌else◌, ◌≡◌,
 use Rattle.std.proofs.Common.{take, get_or, refl, add-one, sym, ◌∙◌, ap, subst, inl, Result, Ok, Err, OnOk, is_ok}
 use Rattle.std.proofs.Common.{arith}
 use Rattle.sector_device.specs.Device.{Image, WritesSector, WritesWithin, HasRun, IsInRun}
-use Rattle.sector_device.specs.Moments.{none_written, one_written, within_then}
+use Rattle.sector_device.proofs.WriteRuns.{none_written, one_written, within_then}
 use Rattle.sector_device.proofs.CallerLemmas.{length-chunks, chunk_at}
 use Rattle.file_device.specs.History.{reads_after, IsHonest, file_state}
 use Rattle.file_device.specs.Laws.{file_only_now}

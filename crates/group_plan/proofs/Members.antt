@@ -11,7 +11,8 @@ use Rattle.std.proofs.lemmas.List.Sums.{position_or_len_is}
 use Rattle.std.proofs.lemmas.Slice.Eq.{bytes_eq-Decides}
 use Rattle.cube_model.specs.declared.attr.Attr.{Attr}
 use Rattle.cube_model.specs.declared.rows.DimRows.{DimRows}
-use Rattle.cube_model.specs.Ascending.{IsAscending, IsAscending-ascending}
+use Rattle.cube_model.specs.Ascending.{IsAscending}
+use Rattle.cube_model.proofs.Ascending.{IsAscending-ascending}
 use Rattle.cube_model.specs.Places.{attr_members, texts_of, text_at}
 use Rattle.group_plan.specs.Parts.{rank_at}
 

@@ -19,12 +19,12 @@ use Rattle.cube_model.specs.Aggregates.{aggregate, total}
 use Rattle.cube_model.specs.Fractions.{fraction_of}
 use Rattle.cube_model.specs.Measures.{measure_of}
 use Rattle.cube_model.specs.Orders.{in_order}
-use Rattle.cube_model.specs.Ascending.{list_any-ascending}
+use Rattle.cube_model.proofs.Ascending.{list_any-ascending}
 use Rattle.group_tallies.specs.Groups.{groups_of}
 use Rattle.cube_model.specs.Answers.{answer, keys_among, rows_of_key, line_of}
 use Rattle.cube_model.specs.declared.rows.DimRows.{DimRows}
 use Rattle.cube_model.specs.Keys.{key_cmp, keys_of}
-use Rattle.cube_model.specs.Order.{key_cmp_total, key_cmp-IsAntisymmetric}
+use Rattle.cube_model.proofs.KeyOrder.{key_cmp_total, key_cmp-IsAntisymmetric}
 use Rattle.cube_model.specs.Selection.{selected}
 use Rattle.group_tallies.specs.Tallies.{tally_of, tallies_of, tallies_if_any, aggregated, value_of, values_of}
 use Rattle.group_tallies.specs.Columns.{line_with}

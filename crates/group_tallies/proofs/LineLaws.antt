@@ -13,10 +13,11 @@ use Rattle.std.proofs.lemmas.List.Sorted.{IsPermutation-map, All-permutation, li
 use Rattle.std.proofs.lemmas.Map.Keys.{IsDistinct-from_sorted}
 use Rattle.std.proofs.lemmas.Map.Made.{IsDistinct-keys_filter}
 use Rattle.cube_model.specs.Answers.{answer, line_of, keys_among}
-use Rattle.cube_model.specs.Ascending.{IsAscending, list_any-ascending}
+use Rattle.cube_model.specs.Ascending.{IsAscending}
+use Rattle.cube_model.proofs.Ascending.{list_any-ascending}
 use Rattle.cube_model.specs.Keys.{key_cmp, keys_of}
 use Rattle.cube_model.specs.Lawful.{AnswerIsTheOne}
-use Rattle.cube_model.specs.Order.{key_cmp_total, key_cmp-IsAntisymmetric}
+use Rattle.cube_model.proofs.KeyOrder.{key_cmp_total, key_cmp-IsAntisymmetric}
 use Rattle.cube_model.specs.Orders.{line_cmp, answer_cmp}
 use Rattle.cube_model.specs.Proper.{is_average, IsFitOrder, IsProper}
 use Rattle.cube_model.specs.Selection.{selected}

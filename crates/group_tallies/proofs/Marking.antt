@@ -15,7 +15,7 @@ use Rattle.cube_model.specs.declared.query.Kind.TheVariants.{Plain}
 use Rattle.cube_model.specs.declared.rows.DimRows.{DimRows}
 use Rattle.cube_model.specs.declared.rows.LineOrder.{LineOrder}
 use Rattle.cube_model.specs.Keys.{key_cmp}
-use Rattle.cube_model.specs.Order.{key_cmp_total, key_cmp-IsAntisymmetric}
+use Rattle.cube_model.proofs.KeyOrder.{key_cmp_total, key_cmp-IsAntisymmetric}
 use Rattle.group_tallies.specs.Columns.{slotted}
 use Rattle.group_plan.specs.Numbers.{group_count, group_key_at, KeysRise}
 use Rattle.group_tallies.specs.Slots.{slot_of, AreSlots}

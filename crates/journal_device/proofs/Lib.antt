@@ -1,4 +1,5 @@
-pub mod Steps
+pub mod Cut
 pub mod Prefixes
 pub mod Spelled
+pub mod Steps
 pub mod Within

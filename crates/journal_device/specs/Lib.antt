@@ -1,5 +1,6 @@
-pub mod Calls
-pub mod Latest
 pub mod After
+pub mod Calls
+pub mod ImageDisk
 pub mod JournalDisk
+pub mod Latest
 pub mod Lawful

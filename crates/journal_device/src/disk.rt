@@ -3,16 +3,16 @@ ghost use Rattle.std.specs.Prelude.{◌≡◌, ◌≢◌, ◌++◌, ◌∷◌, �
 ghost use Rattle.std.specs.Prelude.{length, is_ok, nat_eq, if◌then◌else◌, Some, refl, All};
 ghost use Rattle.sector_device.specs.Device.{CountsFailure, IsSettled, CandidatesStay, Syncs, WritesSector};
 ghost use Rattle.sector_device.specs.Memory.{content};
-ghost use Rattle.image_device.specs.ImageDisk.{sectors_in, shown_sectors};
+ghost use Rattle.journal_device.specs.ImageDisk.{sectors_in, shown_sectors};
 ghost use Rattle.journal_device.specs.After.{state_after, CallsAreWhole};
 ghost use Rattle.journal_device.specs.Calls.{IsWithin};
 ghost use Rattle.journal_device.specs.Latest.{ShowsLatest, last_at};
 ghost use Rattle.journal_device.specs.declared.call.Call.{Call};
 
 use crate::call::Call;
+use crate::image_disk::ImageDisk;
 use crate::latest::{Latest, copy_last, keep_last};
 use crate::origin::Origin;
-use image_device::ImageDisk;
 use sector_device::{DeviceError, Sectors};
 use std::alloc::{AllocError, Global};
 use std::collections::HashMap;

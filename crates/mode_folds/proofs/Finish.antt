@@ -16,7 +16,7 @@ use Rattle.cube_model.specs.declared.rows.LineOrder.{LineOrder}
 use Rattle.cube_model.specs.Answers.{answer}
 use Rattle.cube_model.specs.Ascending.{ascending}
 use Rattle.cube_model.specs.Keys.{key_cmp}
-use Rattle.cube_model.specs.Order.{key_cmp_total, key_cmp-IsAntisymmetric}
+use Rattle.cube_model.proofs.KeyOrder.{key_cmp_total, key_cmp-IsAntisymmetric}
 use Rattle.cube_model.specs.Orders.{in_order}
 use Rattle.cube_model.proofs.Entries.{entries_are}
 use Rattle.cube_query.specs.Groups.{FoldState, RepresentsRows}

@@ -16,7 +16,7 @@ use Rattle.cube_model.specs.declared.answer.Member.{Member}
 use Rattle.cube_model.specs.declared.answer.Value.{Value}
 use Rattle.cube_model.specs.declared.query.Kind.{Kind}
 use Rattle.cube_model.specs.Keys.{key_cmp}
-use Rattle.cube_model.specs.Order.{key_cmp-IsAntisymmetric}
+use Rattle.cube_model.proofs.KeyOrder.{key_cmp-IsAntisymmetric}
 use Rattle.mode_folds.specs.Joining.{HasValues}
 use Rattle.mode_queries.specs.Joining.{HaveValues, is_kept, joined_keys, joined_lines, member_of, with_member}
 

@@ -20,7 +20,7 @@ use Rattle.cube_model.specs.Aggregates.{aggregate}
 use Rattle.cube_model.specs.Answers.{answer, keys_among, line_of, rows_of_key}
 use Rattle.cube_model.specs.Ascending.{ascending, by_order, insert_once}
 use Rattle.cube_model.specs.Keys.{key_cmp, keys_of}
-use Rattle.cube_model.specs.Order.{key_cmp-IsAntisymmetric}
+use Rattle.cube_model.proofs.KeyOrder.{key_cmp-IsAntisymmetric}
 use Rattle.cube_model.specs.Orders.{in_order}
 use Rattle.cube_model.specs.Selection.{is_selected, selected}
 use Rattle.mode_queries.specs.Answers.{moded_keys_among, moded_line_of, rows_of_moded_key}

@@ -6,7 +6,8 @@ use Rattle.std.proofs.lemmas.Bool.{cond_both}
 use Rattle.std.proofs.lemmas.List.Elements.{All-nil, All-cons}
 use Rattle.std.proofs.lemmas.List.Kept.{AllPairs-cons}
 use Rattle.wire.specs.Limits.{most_object_bytes}
-use Rattle.sector_device.specs.Device.{Image}
+use Rattle.sector_device.specs.Device.{Image, IsImage}
+use Rattle.sector_device.specs.Moments.{leaves_also}
 use Rattle.superblock.specs.declared.superblock.Super.{Super}
 use Rattle.superblock.specs.Superblock.{IsSuperblock}
 use Rattle.object_store.specs.declared.catalogue.entry.Entry.{Entry}
@@ -17,7 +18,7 @@ use Rattle.object_store.specs.Commit.{put_by, drop_by, put_all, drop_all, commit
 use Rattle.object_store.specs.Commit.{ArePuts}
 use Rattle.object_store.specs.Places.{bytes_at, objects_at}
 use Rattle.object_store.specs.Shows.{Shows}
-use Rattle.object_store.specs.Disk.{Disk, AllShow, IsShown}
+use Rattle.object_store.specs.Disk.{Disk, Each, AllShow, IsShown, OnlyImagesOf, Passes}
 use Rattle.object_store.specs.Reading.{IsNewest}
 use Rattle.std.specs.List.{AllPairs}
 use Rattle.object_store.proofs.Lists.{AllPairs-drop_each, AllPairs-nil, ascending-put_each}
@@ -185,3 +186,12 @@ pub once_created : (puts : List (ℕ × List ℕ)) (root : List ℕ) (layout : �
 unfolding created
 once_created puts root layout =
     ascending-put_each (λ o. o.0) puts [] (AllPairs-nil (λ (a : ℕ × List ℕ) (b : ℕ × List ℕ). a.0 < b.0))
+
+-- where each image is one of those at the start, each has what all had then
+pub only_images : (P : ℕ → Image → Type 0) (old new : Disk) → OnlyImagesOf old new → Each old P → Passes old new P
+only_images P old new only each = record {
+  word = only.word;
+  size = only.size;
+  moments = λ w. leaves_also old.state new.state (IsImage old.state) (P old.state.size) (each (only.word w))
+      (only.moments w);
+}

@@ -17,7 +17,7 @@ use Rattle.object_store.proofs.Pieces.{length_run}
 use Rattle.object_store.specs.Places.{sectors_bytes, bytes_at, extent_of, extents_of, objects_at, used_by}
 use Rattle.object_store.specs.DeviceCalls.{ReadsDevice}
 use Rattle.object_store.specs.Disk.{disk, Leaves, ShowsSome}
-use Rattle.object_store.specs.Moments.{only_images}
+use Rattle.object_store.proofs.CallerLemmas.{only_images}
 use Rattle.object_store.specs.Ready.{content_from, IsReady}
 use Rattle.object_store.proofs.DeviceCalls.{images_of}
 use Rattle.object_store.proofs.Lists.{All-unmap}

@@ -3,7 +3,8 @@ use Rattle.std.proofs.Common.{◌≡◌, ◌≢◌, ◌⊎◌, inl, inr, ⊎_eli
 use Rattle.std.proofs.lemmas.Bool.{cases_eq}
 use Rattle.sector_device.specs.Device.{Image, DeviceState, IsImage, IsSettled, WritesSector, WritesWithin, Syncs}
 use Rattle.sector_device.specs.Device.{LeavesOnly}
-use Rattle.sector_device.specs.Moments.{goes_on, leaves_also, synced_within}
+use Rattle.sector_device.specs.Moments.{goes_on, leaves_also}
+use Rattle.sector_device.proofs.WriteRuns.{synced_within}
 use Rattle.extents.specs.Extents.{SomeHolds, AreLaidOut}
 use Rattle.superblock.specs.Superblock.{sector_of}
 use Rattle.object_store.specs.declared.plan.CommitPlan.{CommitPlan}

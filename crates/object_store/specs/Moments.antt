@@ -46,12 +46,3 @@ leaves_weaker P Q old new so =
 pub all_weaker : (P Q : Content → Type 0) (now : Disk) → (now.keeps_word → (c : Content) → P c → Q c) → AllShow now P
     → AllShow now Q
 all_weaker P Q now so all w image is = let shown = all w image is in (shown.0, shown.1, so w shown.0 shown.2)
-
--- where each image is one of those at the start, each has what all had then
-pub only_images : (P : ℕ → Image → Type 0) (old new : Disk) → OnlyImagesOf old new → Each old P → Passes old new P
-only_images P old new only each = record {
-  word = only.word;
-  size = only.size;
-  moments = λ w. leaves_also old.state new.state (IsImage old.state) (P old.state.size) (each (only.word w))
-      (only.moments w);
-}

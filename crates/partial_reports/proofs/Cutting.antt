@@ -9,7 +9,7 @@ use Rattle.std.proofs.lemmas.Slice.Eq.{bytes_eq-Decides}
 use Rattle.std.proofs.Math.ListN.{get_or-append}
 use Rattle.std.proofs.Math.Seq.{drop-append-add, get_or-append_seam, take-append_seam}
 use Rattle.memchr.specs.Find.{NoneBefore, Nowhere, Passes, is_byte}
-use Rattle.answer_merge.specs.Readable.{HasNoByte}
+use Rattle.partial_reports.specs.Readable.{HasNoByte}
 
 -- the byte at a place of such a text is another one
 none_at : (sign : ℕ) (text : List ℕ) (k : ℕ) → HasNoByte sign text → k < length text → (get_or text k 0 == sign) ≡ false

@@ -7,8 +7,8 @@ use Rattle.cube_model.specs.declared.answer.Line.{Line}
 use Rattle.cube_model.specs.declared.answer.Member.{Member}
 use Rattle.cube_model.specs.declared.answer.Value.{Value}
 use Rattle.cube_model.specs.declared.query.Query.{Query}
-use Rattle.answer_merge.specs.Readable.{HasNoByte, IsPlainMember, IsReadableLine, IsWholeNumber}
-use Rattle.answer_merge.proofs.CallerLemmas.{line_bar}
+use Rattle.partial_reports.specs.Readable.{HasNoByte, IsPlainMember, IsReadableLine, IsWholeNumber}
+use Rattle.partial_reports.proofs.CallerLemmas.{line_bar}
 use Rattle.ssb_reports.specs.Report.{member_text, value_text}
 use Rattle.partial_reports.specs.Reading.{FieldsAreLeft, line_fields}
 

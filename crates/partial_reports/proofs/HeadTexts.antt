@@ -11,8 +11,8 @@ use Rattle.hex.proofs.HexLemmas.{decode_of-encode_lower, decode_of-same, length-
 use Rattle.partial_reports.specs.declared.head.Head.{Head}
 use Rattle.partial_reports.specs.Head.{are_parts, ascend_between, dimensions_text, head_text, is_proper, is_short_word}
 use Rattle.partial_reports.specs.Head.{most_parts, numbers_text, part_text, word_text}
-use Rattle.answer_merge.specs.Lawful.{ReportsReadBack}
-use Rattle.answer_merge.specs.Parts.{partial_query}
+use Rattle.partial_reports.specs.MergeLawful.{ReportsReadBack}
+use Rattle.partial_reports.specs.Parts.{partial_query}
 use Rattle.ssb_reports.specs.Report.{report_of}
 use Rattle.partial_reports.specs.HeadLaws.{HeadsReadBack, PartialReportsReadBack}
 use Rattle.partial_reports.specs.HeadReading.{IsDigest}

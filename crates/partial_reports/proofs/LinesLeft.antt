@@ -10,8 +10,8 @@ use Rattle.cube_model.specs.declared.query.Query.{Query}
 use Rattle.cube_model.specs.Ascending.{IsAscending}
 use Rattle.cube_model.specs.Keys.{key_cmp}
 use Rattle.cube_model.specs.Orders.{answer_cmp}
-use Rattle.answer_merge.specs.Readable.{HasNoByte, IsReadableLine}
-use Rattle.answer_merge.proofs.CallerLemmas.{line_lf}
+use Rattle.partial_reports.specs.Readable.{HasNoByte, IsReadableLine}
+use Rattle.partial_reports.proofs.CallerLemmas.{line_lf}
 use Rattle.ssb_reports.specs.Report.{count_text, line_text}
 use Rattle.partial_reports.specs.Reading.{IsNextLine, SpellsPartLines, line_fields}
 use Rattle.partial_reports.proofs.NumbersLeft.{digits_lack, lack_both}

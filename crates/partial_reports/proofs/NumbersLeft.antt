@@ -8,7 +8,7 @@ use Rattle.std.specs.List.{AllByRecursion, flat_map, list_all}
 use Rattle.std.proofs.lemmas.Bool.{and_parts}
 use Rattle.std.proofs.lemmas.Bool.Decides.{nat_tests}
 use Rattle.partial_reports.specs.Head.{numbers_text, after_comma}
-use Rattle.answer_merge.specs.Readable.{HasNoByte}
+use Rattle.partial_reports.specs.Readable.{HasNoByte}
 use Rattle.partial_reports.proofs.NumberTexts.{digits}
 
 -- each number of a list has 32 bits

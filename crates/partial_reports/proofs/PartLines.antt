@@ -11,7 +11,7 @@ use Rattle.hex.proofs.HexLemmas.{IsDigits-lower_digits}
 use Rattle.partial_reports.specs.declared.head.Head.{Head}
 use Rattle.partial_reports.specs.Head.{are_parts, ascend_between, is_proper, is_short_word, most_parts, numbers_text}
 use Rattle.partial_reports.specs.Head.{part_text}
-use Rattle.answer_merge.specs.Readable.{HasNoByte}
+use Rattle.partial_reports.specs.Readable.{HasNoByte}
 use Rattle.partial_reports.specs.HeadReading.{IsDigest, part_line}
 use Rattle.partial_reports.proofs.HeadTexts.{part_front, proper_head}
 use Rattle.partial_reports.proofs.NumbersLeft.{AreShort, lack_both, number_lacks, numbers_lack}

@@ -7,7 +7,7 @@ use Rattle.std.proofs.lemmas.Bool.{false_from_ne_true}
 use Rattle.std.proofs.lemmas.Slice.Eq.{bytes_eq-Decides}
 use Rattle.cube_model.specs.declared.answer.Member.{Member}
 use Rattle.cube_model.specs.declared.answer.Member.TheVariants.{All, Text}
-use Rattle.answer_merge.specs.Readable.{HasNoByte, IsPlainMember, IsPlainText}
+use Rattle.partial_reports.specs.Readable.{HasNoByte, IsPlainMember, IsPlainText}
 use Rattle.partial_reports.specs.Members.{ends_field, is_plain_member, is_plain_text}
 
 record Both (a b : Bool) : Type 0 where

@@ -5,7 +5,7 @@ use Rattle.std.specs.declared.cmp.Ordering.TheVariants.{Less}
 use Rattle.cube_model.specs.declared.answer.Line.{Line}
 use Rattle.cube_model.specs.Ascending.{IsAscending}
 use Rattle.cube_model.specs.Keys.{key_cmp}
-use Rattle.cube_model.specs.Order.{key_cmp_total}
+use Rattle.cube_model.proofs.KeyOrder.{key_cmp_total}
 use Rattle.cube_model.specs.Orders.{answer_cmp}
 
 all_last : (P : Line → Type 0) (front : List Line) (last : Line) → AllByRecursion P (front ++ last ∷ []) → P last

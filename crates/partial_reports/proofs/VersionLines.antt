@@ -5,7 +5,7 @@ use Rattle.std.specs.List.{list_all}
 use Rattle.std.specs.Str.{bytes_eq}
 use Rattle.std.proofs.lemmas.Bool.{and_parts, both_ways, not-true}
 use Rattle.std.proofs.lemmas.Slice.Eq.{bytes_eq-Decides}
-use Rattle.answer_merge.specs.Readable.{HasNoByte}
+use Rattle.partial_reports.specs.Readable.{HasNoByte}
 
 lacks : (sign : ℕ) (text : List ℕ) → list_all (λ byte. not (byte == sign)) text ≡ true → HasNoByte sign text
 lacks sign [] e = tt

@@ -9,7 +9,7 @@ use Rattle.partial_reports.specs.declared.words.Word.{Word}
 use Rattle.partial_reports.specs.declared.words.WordKind.{WordKind}
 use Rattle.partial_reports.specs.declared.words.WordKind.TheVariants.{Q, Set, By, Agg, If}
 use Rattle.partial_reports.specs.Head.{is_short_word, kind_by, kind_text, word_text}
-use Rattle.answer_merge.specs.Readable.{HasNoByte}
+use Rattle.partial_reports.specs.Readable.{HasNoByte}
 use Rattle.partial_reports.proofs.NumbersLeft.{lack_both}
 use Rattle.partial_reports.proofs.WordTexts.{inner, is_inner, word_front}
 

@@ -3,8 +3,8 @@ use Rattle.std.specs.Prelude.{◌≡◌, ℕ, true, List, ◌++◌}
 use Rattle.cube_model.specs.declared.answer.Answer.{Answer}
 use Rattle.cube_model.specs.declared.query.Query.{Query}
 use Rattle.ssb_reports.specs.Report.{report_of}
-use Rattle.answer_merge.specs.Parts.{partial_query}
-use Rattle.answer_merge.specs.Readable.{IsReadableAnswer}
+use Rattle.partial_reports.specs.Parts.{partial_query}
+use Rattle.partial_reports.specs.Readable.{IsReadableAnswer}
 use Rattle.partial_reports.specs.declared.head.Head.{Head}
 use Rattle.partial_reports.specs.Head.{head_text, is_proper}
 use Rattle.partial_reports.specs.HeadReading.{IsDigest}

@@ -1,7 +1,14 @@
 pub mod Dimensions
+pub mod Finishing
 pub mod Head
 pub mod HeadLaws
 pub mod HeadReading
 pub mod Members
+pub mod MergeLawful
+pub mod Merges
 pub mod Partial
+pub mod Parts
+pub mod Plain
+pub mod Readable
 pub mod Reading
+pub mod Wide

@@ -3,7 +3,7 @@ use Rattle.std.specs.Prelude.{ℕ, List, ◌++◌}
 use Rattle.cube_model.specs.declared.answer.Answer.{Answer}
 use Rattle.cube_model.specs.declared.query.Query.{Query}
 use Rattle.cube_model.specs.declared.rows.DimRows.{DimRows}
-use Rattle.answer_merge.specs.Parts.{partial_query}
+use Rattle.partial_reports.specs.Parts.{partial_query}
 use Rattle.ssb_reports.specs.Report.{report_of}
 use Rattle.partial_reports.specs.declared.asked.PartAsked.{PartAsked}
 use Rattle.partial_reports.specs.declared.head.Head.{Head}

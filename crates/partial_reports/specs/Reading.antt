@@ -5,7 +5,7 @@ use Rattle.cube_model.specs.declared.answer.Line.{Line}
 use Rattle.cube_model.specs.declared.query.Query.{Query}
 use Rattle.cube_model.specs.Ascending.{IsAscending}
 use Rattle.cube_model.specs.Orders.{answer_cmp}
-use Rattle.answer_merge.specs.Readable.{HasNoByte, IsReadableLine}
+use Rattle.partial_reports.specs.Readable.{HasNoByte, IsReadableLine}
 use Rattle.ssb_reports.specs.Report.{count_text, line_text, member_text, value_text}
 
 -- the fields of a line: its members, then its numbers

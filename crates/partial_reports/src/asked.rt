@@ -3,7 +3,7 @@ ghost use Rattle.std.specs.Prelude.{◌≡◌, IfErr, IfOk};
 ghost use Rattle.partial_reports.specs.Partial.{part_asked};
 
 use crate::head::Head;
-use answer_merge::partial_query;
+use crate::partial::partial_query;
 use cube_model::{Fault, Query};
 use std::alloc::Global;
 

@@ -8,7 +8,7 @@ ghost use Rattle.std.specs.Option.{option_map};
 ghost use Rattle.cube_model.specs.declared.answer.Line.{Line};
 ghost use Rattle.cube_model.specs.declared.answer.Member.{Member};
 ghost use Rattle.cube_model.specs.declared.answer.Value.{Value};
-ghost use Rattle.answer_merge.specs.Readable.{IsPlainMember, IsReadableLine, IsWholeNumber};
+ghost use Rattle.partial_reports.specs.Readable.{IsPlainMember, IsReadableLine, IsWholeNumber};
 ghost use Rattle.ssb_reports.specs.Report.{member_text, value_text};
 ghost use Rattle.partial_reports.specs.HeadReading.{UnlessMemory};
 ghost use Rattle.partial_reports.specs.Reading.{FieldsAreLeft, line_fields};

@@ -6,7 +6,7 @@ ghost use Rattle.std.specs.List.{AllByRecursion, flat_map, list_all};
 ghost use Rattle.hex.specs.Hex.{encode_lower};
 ghost use Rattle.partial_reports.specs.declared.head.Head.{Head};
 ghost use Rattle.partial_reports.specs.declared.words.Word.{Word};
-ghost use Rattle.answer_merge.specs.Readable.{HasNoByte};
+ghost use Rattle.partial_reports.specs.Readable.{HasNoByte};
 ghost use Rattle.partial_reports.specs.HeadReading.{IsDigest, UnlessMemory, part_line};
 ghost use Rattle.partial_reports.specs.Head.{dimensions_text, head_text, is_proper, is_short_word, kind_text};
 ghost use Rattle.partial_reports.specs.Head.{numbers_text, part_text, word_text};

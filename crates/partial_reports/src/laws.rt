@@ -1,7 +1,7 @@
 //! Laws of partial reports: each function proves the statement that its contract names, and does nothing.
 ghost use Rattle.partial_reports.specs.HeadLaws.{HeadsReadBack, PartialReportsReadBack};
 
-use answer_merge::reports_read_back;
+use crate::merge_laws::reports_read_back;
 
 /// A text tells the head that it begins with, the digest of the dimension rows, and what is after the head.
 pub fn heads_read_back()

@@ -5,7 +5,7 @@ ghost use Rattle.cube_model.specs.declared.answer.Answer.{Answer};
 ghost use Rattle.cube_model.specs.declared.answer.Line.{Line};
 ghost use Rattle.cube_model.specs.Ascending.{IsAscending};
 ghost use Rattle.cube_model.specs.Orders.{answer_cmp};
-ghost use Rattle.answer_merge.specs.Readable.{IsReadableAnswer};
+ghost use Rattle.partial_reports.specs.Readable.{IsReadableAnswer};
 ghost use Rattle.ssb_reports.specs.Report.{count_text, header_text, line_text, report_of};
 ghost use Rattle.partial_reports.specs.declared.refused.Refused.TheVariants.{Memory};
 ghost use Rattle.partial_reports.specs.HeadReading.{UnlessMemory};

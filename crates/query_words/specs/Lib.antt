@@ -4,8 +4,9 @@ pub mod Known
 pub mod Laws
 pub mod Limits
 pub mod Mistakes
+pub mod Near
 pub mod Parts
 pub mod Reading
 pub mod Spelled
+pub mod ViewWords
 pub mod Words
-pub mod Near

@@ -1,7 +1,14 @@
 mod Arranging
+mod Averages
+mod Comparisons
 mod Csv
+mod Inserted
+mod KeyLoop
 mod Members
 mod Pairs
+mod Places
 mod Plain
+mod SizeOrder
+mod SortedAnswers
 mod Tsv
 mod Utf8

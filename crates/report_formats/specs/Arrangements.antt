@@ -3,10 +3,10 @@ use Rattle.std.specs.Prelude.{◌&&◌, if◌then◌else◌, length, slice_index
 use Rattle.std.specs.Option.{option_map}
 use Rattle.cube_model.specs.declared.measure.Agg.TheVariants.{Count}
 use Rattle.cube_model.specs.Proper.{is_average}
-use Rattle.line_order.specs.declared.arrangement.Arrangement.{Arrangement}
-use Rattle.line_order.specs.declared.arrangement.SortKey.{SortKey}
-use Rattle.line_order.specs.declared.arrangement.SortKey.TheVariants.{Column, Aggregate, Average}
-use Rattle.line_order.specs.declared.arrangement.Sorting.{Sorting}
+use Rattle.report_formats.specs.declared.arrangement.Arrangement.{Arrangement}
+use Rattle.report_formats.specs.declared.arrangement.SortKey.{SortKey}
+use Rattle.report_formats.specs.declared.arrangement.SortKey.TheVariants.{Column, Aggregate, Average}
+use Rattle.report_formats.specs.declared.arrangement.Sorting.{Sorting}
 use Rattle.report_formats.specs.declared.asked.Asked.{Asked}
 use Rattle.report_formats.specs.Rows.{counts_averages}
 

@@ -5,7 +5,7 @@ use Rattle.cube_model.specs.declared.measure.Agg.{Agg}
 use Rattle.cube_model.specs.declared.measure.Agg.TheVariants.{Count, Sum, Min, Max, Avg}
 use Rattle.cube_model.specs.declared.query.Query.{Query}
 use Rattle.cube_model.specs.Proper.{is_average}
-use Rattle.line_order.specs.Arranging.{no_arrangement}
+use Rattle.report_formats.specs.Arranging.{no_arrangement}
 use Rattle.mode_queries.specs.declared.query.ModeQuery.{ModeQuery}
 use Rattle.report_formats.specs.declared.asked.Asked.{Asked}
 use Rattle.report_formats.specs.declared.layout.Layout.{Layout}

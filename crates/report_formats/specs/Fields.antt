@@ -13,7 +13,7 @@ use Rattle.cube_model.specs.declared.measure.Agg.{Agg}
 use Rattle.cube_model.specs.Names.{agg_name}
 use Rattle.cube_model.specs.Proper.{is_average}
 use Rattle.ssb_reports.specs.Report.{count_text, report_of, value_text}
-use Rattle.line_order.specs.Arranging.{arranged}
+use Rattle.report_formats.specs.Arranging.{arranged}
 use Rattle.mode_queries.specs.Names.{column_names}
 use Rattle.report_formats.specs.declared.asked.Asked.{Asked}
 use Rattle.report_formats.specs.declared.layout.Format.{Format}

@@ -1,8 +1,13 @@
 pub mod Arranged
 pub mod Arrangements
+pub mod Arranging
 pub mod Asked
 pub mod Decimals
 pub mod Escapes
 pub mod Fields
 pub mod Lawful
+pub mod Named
+pub mod OrderLawful
 pub mod Rows
+pub mod Shown
+pub mod Sorting

@@ -3,14 +3,15 @@ ghost use Rattle.std.specs.Prelude.{◌≡◌, slice_index_or, map, None, IfErr,
 ghost use Rattle.std.specs.List.{list_any};
 ghost use Rattle.cube_model.specs.Proper.{is_average};
 ghost use Rattle.cube_model.specs.declared.measure.Agg.TheVariants.{Count};
-ghost use Rattle.line_order.specs.Arranging.{arranged};
+ghost use Rattle.report_formats.specs.Arranging.{arranged};
 ghost use Rattle.report_formats.specs.Arrangements.{arrangement_in, sort_key_in};
 ghost use Rattle.report_formats.specs.Asked.{asked_for, moded_query_for, query_for, summed, with_count};
 ghost use Rattle.report_formats.specs.Fields.{is_plain_report};
 
+use crate::arranged::Arranged;
+use crate::arrangement::{Arrangement, SortKey, Sorting};
 use crate::layout::Layout;
 use cube_model::{Agg, Fault, Items, Query};
-use line_order::{Arranged, Arrangement, SortKey, Sorting};
 use mode_queries::ModeQuery;
 use ssb_reports::Lines;
 use std::alloc::Global;
@@ -39,7 +40,7 @@ impl Drop for Asked {
 }
 
 impl Asked {
-    ghost use Rattle.line_order.specs.Shown.{shown};
+    ghost use Rattle.report_formats.specs.Shown.{shown};
 
     /// The report of a query in a layout. Where averages are written as their sum and their count, the query to be
     /// answered has sums in place of averages, and the count of rows after all aggregates: one of 8 aggregates is then
@@ -160,28 +161,15 @@ fn moded_query_for(alloc: Global, layout: Layout, asked: ModeQuery) -> Result<Mo
     })
 }
 
-fn query_for(alloc: Global, layout: Layout, query: Query) -> Result<Query, Fault>
+fn query_for(alloc: Global, layout: Layout, mut query: Query) -> Result<Query, Fault>
     ensures ok { IfOk result (λ found. found ≡ query_for layout query) }
     ensures only { IfErr result (λ fault. fault ≡ Fault.Memory) }
 {
     if !layout.counts_averages() || !has_average(query.aggregates.as_slice()) {
         return Ok(query);
     }
-    let Query {
-        kind,
-        columns,
-        conditions,
-        aggregates,
-        order,
-    } = query;
-    let aggregates = with_count(alloc, aggregates.as_slice())?;
-    Ok(Query {
-        kind,
-        columns,
-        conditions,
-        aggregates,
-        order,
-    })
+    query.aggregates = with_count(alloc, query.aggregates.as_slice())?;
+    Ok(query)
 }
 
 fn has_average(aggregates: &[Agg]) -> bool

@@ -10,7 +10,8 @@ use Rattle.std.specs.Cmp.{IsTotalOrder, eq_by_cmp_equiv}
 use Rattle.std.specs.FinMap.{IsAntisymmetric}
 use Rattle.std.proofs.lemmas.List.Sorted.{list_any-IsPermutation, ranks_by, sorted_far}
 use Rattle.std.proofs.lemmas.Map.Keys.{IsDistinct-IsPermutation}
-use Rattle.cube_model.specs.Ascending.{ascending, IsAscending, IsAscending-ascending, list_any-ascending}
+use Rattle.cube_model.specs.Ascending.{ascending, IsAscending}
+use Rattle.cube_model.proofs.Ascending.{IsAscending-ascending, list_any-ascending}
 use Rattle.cube_model.proofs.Entries.{IsAscending-unique}
 
 pub at_each : {X : Type 0} (P : X → Type 0) (xs : List X) → AllByRecursion P xs → All P xs

@@ -11,8 +11,8 @@ use Rattle.cube_model.specs.declared.rows.LineOrder.{LineOrder}
 use Rattle.cube_model.specs.Aggregates.{aggregate}
 use Rattle.cube_model.specs.Answers.{answer, keys_among, line_of, rows_of_key}
 use Rattle.cube_model.specs.Selection.{selected}
-use Rattle.answer_merge.specs.Lawful.{PartialAnswersSuffice}
-use Rattle.answer_merge.specs.Parts.{finished, partial_agg, partial_query}
+use Rattle.partial_reports.specs.MergeLawful.{PartialAnswersSuffice}
+use Rattle.partial_reports.specs.Parts.{finished, partial_agg, partial_query}
 use Rattle.report_formats.specs.declared.layout.Layout.{Layout}
 use Rattle.report_formats.specs.Asked.{query_for, with_count}
 use Rattle.report_merge.specs.Finishing.{asks_for_counts, finished_for, recounted, recounted_line}

@@ -11,10 +11,10 @@ use Rattle.cube_model.specs.declared.fault.Fault.TheVariants.{Memory}
 use Rattle.cube_model.specs.declared.measure.Agg.{Agg}
 use Rattle.cube_model.specs.declared.measure.Agg.TheVariants.{Count}
 use Rattle.cube_model.specs.declared.query.Query.{Query}
-use Rattle.answer_merge.specs.Finishing.{CanBeFinished, CountsNoRow, CountsRows, FinishRefuses, IsPastRange}
-use Rattle.answer_merge.specs.Finishing.{LineRefuses}
-use Rattle.answer_merge.specs.Parts.{value_number}
-use Rattle.answer_merge.specs.Readable.{IsWholeNumber}
+use Rattle.partial_reports.specs.Finishing.{CanBeFinished, CountsNoRow, CountsRows, FinishRefuses, IsPastRange}
+use Rattle.partial_reports.specs.Finishing.{LineRefuses}
+use Rattle.partial_reports.specs.Parts.{value_number}
+use Rattle.partial_reports.specs.Readable.{IsWholeNumber}
 use Rattle.report_formats.specs.declared.layout.Layout.{Layout}
 use Rattle.report_formats.specs.Asked.{query_for}
 use Rattle.report_merge.specs.Finishing.{asks_for_counts, count_alone, partial_for, recounted, recounted_line}

@@ -10,11 +10,11 @@ use Rattle.cube_model.specs.declared.answer.Answer.{Answer}
 use Rattle.cube_model.specs.declared.query.Query.{Query}
 use Rattle.cube_model.specs.Ascending.{IsAscending}
 use Rattle.cube_model.specs.Orders.{answer_cmp}
-use Rattle.answer_merge.specs.declared.wide.WideLine.{WideLine}
-use Rattle.answer_merge.specs.Merges.{merged_answer}
-use Rattle.answer_merge.specs.Parts.{partial_query}
-use Rattle.answer_merge.specs.Readable.{IsReadableAnswer}
-use Rattle.answer_merge.specs.Wide.{Rise, narrow_lines}
+use Rattle.partial_reports.specs.declared.wide.WideLine.{WideLine}
+use Rattle.partial_reports.specs.Merges.{merged_answer}
+use Rattle.partial_reports.specs.Parts.{partial_query}
+use Rattle.partial_reports.specs.Readable.{IsReadableAnswer}
+use Rattle.partial_reports.specs.Wide.{Rise, narrow_lines}
 use Rattle.partial_reports.specs.declared.head.Head.{Head}
 use Rattle.partial_reports.specs.Head.{are_parts, ascend_between, head_text, is_proper, is_short_word, most_parts}
 use Rattle.ssb_reports.specs.Report.{report_of}

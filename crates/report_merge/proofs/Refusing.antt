@@ -3,9 +3,9 @@ use Rattle.std.proofs.Common.{◌≡◌, ◌∙◌, sym, ap, refl, subst, ℕ, t
 use Rattle.std.specs.Prelude.{◌&&◌, nat_le, nat_lt, Result, Ok, Err}
 use Rattle.std.specs.List.{list_all}
 use Rattle.cube_model.specs.declared.query.Query.{Query}
-use Rattle.answer_merge.specs.Lawful.{ReportsReadBack}
-use Rattle.answer_merge.specs.Parts.{partial_query}
-use Rattle.answer_merge.specs.Readable.{IsReadableAnswer}
+use Rattle.partial_reports.specs.MergeLawful.{ReportsReadBack}
+use Rattle.partial_reports.specs.Parts.{partial_query}
+use Rattle.partial_reports.specs.Readable.{IsReadableAnswer}
 use Rattle.mode_queries.specs.declared.query.ModeQuery.{ModeQuery}
 use Rattle.mode_queries.specs.Lawful.{without_modes}
 use Rattle.mode_queries.proofs.CallerLemmas.{proper_without}

@@ -7,9 +7,9 @@ use Rattle.cube_model.specs.declared.measure.Agg.{Agg}
 use Rattle.cube_model.specs.Ascending.{IsAscending}
 use Rattle.cube_model.specs.Keys.{key_cmp}
 use Rattle.cube_model.specs.Orders.{answer_cmp}
-use Rattle.answer_merge.specs.declared.wide.WideLine.{WideLine}
-use Rattle.answer_merge.specs.Parts.{finished_line}
-use Rattle.answer_merge.specs.Wide.{Rise, narrow_lines}
+use Rattle.partial_reports.specs.declared.wide.WideLine.{WideLine}
+use Rattle.partial_reports.specs.Parts.{finished_line}
+use Rattle.partial_reports.specs.Wide.{Rise, narrow_lines}
 use Rattle.report_merge.specs.Finishing.{recounted_line}
 
 module _ (f : Line → Line) (own : (line : Line) → (f line).key ≡ line.key) where

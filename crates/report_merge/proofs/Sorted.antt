@@ -20,9 +20,10 @@ use Rattle.cube_model.specs.declared.answer.Value.TheVariants.{Whole, Ratio}
 use Rattle.cube_model.specs.declared.query.Order.{Order}
 use Rattle.cube_model.specs.Ascending.{IsAscending, ascending, by_order, insert_once}
 use Rattle.cube_model.specs.Keys.{key_cmp}
-use Rattle.cube_model.specs.Order.{key_cmp_total, key_cmp-IsAntisymmetric, member_cmp_total}
+use Rattle.cube_model.specs.Order.{member_cmp_total}
+use Rattle.cube_model.proofs.KeyOrder.{key_cmp_total, key_cmp-IsAntisymmetric}
 use Rattle.cube_model.specs.Orders.{answer_cmp, line_cmp, value_cmp}
-use Rattle.answer_merge.specs.Merges.{keys_in, line_of_key}
+use Rattle.partial_reports.specs.Merges.{keys_in, line_of_key}
 use Rattle.report_merge.proofs.Ascent.{ascending-sorted, at_each, from_each}
 
 -- values are in a total order, in which averages tie

@@ -5,11 +5,12 @@ use Rattle.cube_model.specs.declared.rows.DimRows.{DimRows}
 use Rattle.cube_model.specs.declared.rows.LineOrder.{LineOrder}
 use Rattle.cube_model.specs.Admission.{all_rows}
 use Rattle.cube_model.specs.Answers.{answer}
-use Rattle.answer_merge.specs.Finishing.{CanBeFinished}
-use Rattle.answer_merge.specs.Lawful.{AnswersMerge, PartialAnswersCanBeFinished, PartialAnswersSuffice, ReportsReadBack}
-use Rattle.answer_merge.specs.Merges.{merged_answer}
-use Rattle.answer_merge.specs.Parts.{partial_query}
-use Rattle.answer_merge.specs.Readable.{IsReadableAnswer}
+use Rattle.partial_reports.specs.Finishing.{CanBeFinished}
+use Rattle.partial_reports.specs.MergeLawful.{AnswersMerge, PartialAnswersCanBeFinished, PartialAnswersSuffice}
+use Rattle.partial_reports.specs.MergeLawful.{ReportsReadBack}
+use Rattle.partial_reports.specs.Merges.{merged_answer}
+use Rattle.partial_reports.specs.Parts.{partial_query}
+use Rattle.partial_reports.specs.Readable.{IsReadableAnswer}
 use Rattle.query_words.specs.Laws.{SpellOneQuery}
 use Rattle.ssb_reports.specs.Report.{report_of}
 use Rattle.report_merge.specs.Finishing.{finished_for}

@@ -11,10 +11,10 @@ use Rattle.cube_model.specs.declared.rows.LineOrder.{LineOrder}
 use Rattle.cube_model.specs.Answers.{answer}
 use Rattle.cube_model.specs.Ascending.{IsAscending}
 use Rattle.cube_model.specs.Orders.{answer_cmp}
-use Rattle.answer_merge.proofs.CallerLemmas.{merged_lines-rise}
-use Rattle.answer_merge.specs.Lawful.{AnswersMerge, PartialAnswersSuffice}
-use Rattle.answer_merge.specs.Merges.{merged_answer}
-use Rattle.answer_merge.specs.Parts.{partial_query}
+use Rattle.partial_reports.proofs.CallerLemmas.{merged_lines-rise}
+use Rattle.partial_reports.specs.MergeLawful.{AnswersMerge, PartialAnswersSuffice}
+use Rattle.partial_reports.specs.Merges.{merged_answer}
+use Rattle.partial_reports.specs.Parts.{partial_query}
 use Rattle.partial_reports.specs.declared.words.Word.{Word}
 use Rattle.partial_reports.specs.HeadReading.{IsDigest}
 use Rattle.report_merge.specs.Lawful.{AreOfWhole, AreWritten, IsWritten, WrittenTextsCanBeMerged, heads_in}

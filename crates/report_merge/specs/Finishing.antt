@@ -6,7 +6,7 @@ use Rattle.cube_model.specs.declared.answer.Line.{Line}
 use Rattle.cube_model.specs.declared.answer.Value.{Value}
 use Rattle.cube_model.specs.declared.query.Query.{Query}
 use Rattle.cube_model.specs.Proper.{is_average}
-use Rattle.answer_merge.specs.Parts.{finished}
+use Rattle.partial_reports.specs.Parts.{finished}
 use Rattle.report_formats.specs.declared.layout.Layout.{Layout}
 use Rattle.report_formats.specs.Asked.{query_for}
 use Rattle.report_formats.specs.Rows.{counts_averages}

@@ -5,9 +5,9 @@ use Rattle.cube_model.specs.declared.answer.Answer.{Answer}
 use Rattle.cube_model.specs.Ascending.{IsAscending}
 use Rattle.cube_model.specs.Orders.{answer_cmp}
 use Rattle.cube_model.specs.declared.query.Query.{Query}
-use Rattle.answer_merge.specs.declared.wide.WideLine.{WideLine}
-use Rattle.answer_merge.specs.Parts.{partial_query}
-use Rattle.answer_merge.specs.Wide.{Rise, narrow_lines}
+use Rattle.partial_reports.specs.declared.wide.WideLine.{WideLine}
+use Rattle.partial_reports.specs.Parts.{partial_query}
+use Rattle.partial_reports.specs.Wide.{Rise, narrow_lines}
 use Rattle.partial_reports.specs.declared.head.Head.{Head}
 use Rattle.partial_reports.specs.Head.{is_proper}
 use Rattle.partial_reports.specs.HeadReading.{IsDigest}

@@ -6,9 +6,9 @@ use Rattle.cube_model.specs.declared.rows.DimRows.{DimRows}
 use Rattle.cube_model.specs.declared.rows.LineOrder.{LineOrder}
 use Rattle.cube_model.specs.Admission.{AreInRange, all_rows}
 use Rattle.cube_model.specs.Answers.{answer}
-use Rattle.answer_merge.specs.Finishing.{CanBeFinished}
-use Rattle.answer_merge.specs.Parts.{partial_query}
-use Rattle.answer_merge.specs.Readable.{IsReadableAnswer}
+use Rattle.partial_reports.specs.Finishing.{CanBeFinished}
+use Rattle.partial_reports.specs.Parts.{partial_query}
+use Rattle.partial_reports.specs.Readable.{IsReadableAnswer}
 use Rattle.partial_reports.specs.declared.head.Head.{Head}
 use Rattle.partial_reports.specs.declared.words.Word.{Word}
 use Rattle.partial_reports.specs.Head.{head_text, is_proper}

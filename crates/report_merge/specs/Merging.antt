@@ -8,9 +8,9 @@ use Rattle.cube_model.specs.declared.query.Query.{Query}
 use Rattle.cube_model.specs.Ascending.{IsAscending}
 use Rattle.cube_model.specs.Orders.{answer_cmp}
 use Rattle.cube_model.specs.Proper.{IsProper}
-use Rattle.answer_merge.specs.Merges.{merged_answer}
-use Rattle.answer_merge.specs.Parts.{partial_query}
-use Rattle.answer_merge.specs.Readable.{IsReadableAnswer}
+use Rattle.partial_reports.specs.Merges.{merged_answer}
+use Rattle.partial_reports.specs.Parts.{partial_query}
+use Rattle.partial_reports.specs.Readable.{IsReadableAnswer}
 use Rattle.mode_queries.specs.Lawful.{without_modes}
 use Rattle.partial_reports.specs.declared.head.Head.{Head}
 use Rattle.partial_reports.specs.declared.words.Word.{Word}

@@ -3,15 +3,15 @@ ghost use Rattle.std.specs.Prelude.{◌≡◌, if◌then◌else◌, [], ◌∷�
 ghost use Rattle.std.specs.List.{list_any};
 ghost use Rattle.cube_model.specs.declared.answer.Value.TheVariants.{Whole};
 ghost use Rattle.cube_model.specs.Proper.{is_average};
-ghost use Rattle.answer_merge.specs.Finishing.{FinishRefuses};
-ghost use Rattle.answer_merge.specs.Parts.{finished};
-ghost use Rattle.answer_merge.specs.Wide.{Rise, narrow_line, narrow_lines};
+ghost use Rattle.partial_reports.specs.Finishing.{FinishRefuses};
+ghost use Rattle.partial_reports.specs.Parts.{finished};
+ghost use Rattle.partial_reports.specs.Wide.{Rise, narrow_line, narrow_lines};
 ghost use Rattle.report_formats.specs.Rows.{counts_averages};
 ghost use Rattle.report_merge.specs.Finishing.{asks_for_counts, count_alone, recounted_line};
 
 use crate::ordering::in_order;
-use answer_merge::{WideLine, finished_lines};
 use cube_model::{Agg, Answer, Fault, Query};
+use partial_reports::{WideLine, finished_lines};
 use report_formats::{Format, Layout};
 use std::alloc::Global;
 

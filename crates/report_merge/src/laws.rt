@@ -2,10 +2,10 @@
 ghost use Rattle.report_merge.specs.Lawful.{CountsAreAppended, MergedTextsAreTheAnswer, MergedTextsCanBeFinished};
 ghost use Rattle.report_merge.specs.Lawful.{PartialReportsAreOfOnePart, WrittenTextsCanBeMerged};
 
-use answer_merge::{
-    answers_merge, partial_answers_can_be_finished, partial_answers_suffice, reports_read_back,
+use partial_reports::{
+    answers_merge, heads_read_back, partial_answers_can_be_finished, partial_answers_suffice,
+    reports_read_back,
 };
-use partial_reports::heads_read_back;
 use query_words::words_spell_one_query;
 
 /// A text is the partial report of one part at most.

@@ -1,11 +1,11 @@
 //! Merged lines with numbers of 64 bits.
 ghost use Rattle.std.specs.Prelude.{◌≡◌, map, IfErr, IfOk};
 ghost use Rattle.cube_model.specs.declared.answer.Value.TheVariants.{Whole};
-ghost use Rattle.answer_merge.specs.Wide.{narrow_line, narrow_lines};
+ghost use Rattle.partial_reports.specs.Wide.{narrow_line, narrow_lines};
 ghost use Rattle.report_merge.specs.Ranges.{IsRangeOrMemory};
 
-use answer_merge::WideLine;
 use cube_model::{Agg, Fault, Items, Line, Member, Value};
+use partial_reports::WideLine;
 use std::alloc::Global;
 
 /// The lines of a partial answer with a number for each of some aggregates.

@@ -1,8 +1,8 @@
 //! Partial reports merged.
 ghost use Rattle.std.specs.Prelude.{◌≡◌, ◌<◌, ◌++◌, ℕ, length, slice_index, IfErr, IfNone, IfOk, IfSome, OnErr, OnOk};
-ghost use Rattle.answer_merge.specs.Finishing.{CanBeFinished, FinishRefuses};
-ghost use Rattle.answer_merge.specs.Parts.{partial_query};
-ghost use Rattle.answer_merge.specs.Wide.{narrow_lines};
+ghost use Rattle.partial_reports.specs.Finishing.{CanBeFinished, FinishRefuses};
+ghost use Rattle.partial_reports.specs.Parts.{partial_query};
+ghost use Rattle.partial_reports.specs.Wide.{narrow_lines};
 ghost use Rattle.mode_queries.specs.Lawful.{without_modes};
 ghost use Rattle.partial_reports.specs.Head.{head_text};
 ghost use Rattle.report_formats.specs.Asked.{asked_for, query_for};
@@ -21,10 +21,11 @@ use crate::lines::narrow_lines;
 use crate::numbers::{first_missing, merged_numbers};
 use crate::refused::Refused;
 use crate::words::{are_same, queries_of};
-use answer_merge::{WideLine, merge_in, widened};
 use cube_model::{Answer, Fault, Items, Query};
 use mode_queries::ModeQuery;
-use partial_reports::{Head, HeadRead, head_text, heads_read_back, read_answer, read_head};
+use partial_reports::{
+    Head, HeadRead, WideLine, head_text, heads_read_back, merge_in, read_answer, read_head, widened,
+};
 use query_words::words_spell_one_query;
 use report_formats::{Asked, Layout};
 use ssb_reports::{write_bytes, write_report};

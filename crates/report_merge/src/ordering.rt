@@ -6,7 +6,7 @@ ghost use Rattle.cube_model.specs.declared.answer.Value.TheVariants.{Whole};
 ghost use Rattle.cube_model.specs.Ascending.{IsAscending, ascending};
 ghost use Rattle.cube_model.specs.Keys.{member_cmp};
 ghost use Rattle.cube_model.specs.Orders.{answer_cmp, in_order, line_cmp, value_cmp};
-ghost use Rattle.line_order.specs.Sorting.{text_member};
+ghost use Rattle.report_formats.specs.Sorting.{text_member};
 
 use cube_model::{Items, Line, Member, Order, Value};
 use std::cmp::Ordering;

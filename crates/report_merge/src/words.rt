@@ -3,7 +3,7 @@ ghost use Rattle.std.specs.Prelude.{◌≡◌, ◌⊎◌, ◌↔◌, ◌++◌, �
 ghost use Rattle.std.specs.Prelude.{None};
 ghost use Rattle.std.specs.Option.{option_map};
 ghost use Rattle.cube_model.specs.declared.query.Query.{Query};
-ghost use Rattle.answer_merge.specs.Parts.{partial_query};
+ghost use Rattle.partial_reports.specs.Parts.{partial_query};
 ghost use Rattle.mode_queries.specs.Lawful.{without_modes};
 ghost use Rattle.partial_reports.specs.declared.words.WordKind.TheVariants.{If};
 ghost use Rattle.std.specs.Str.{IsUtf8};
@@ -15,10 +15,9 @@ ghost use Rattle.report_merge.specs.Merging.{SpellsWords};
 ghost use Rattle.report_merge.specs.Refusals.{UnlessMemory, WordsRefuse};
 
 use crate::refused::Refused;
-use answer_merge::partial_query;
 use cube_model::Query;
 use mode_queries::ModeQuery;
-use partial_reports::{Word, WordKind};
+use partial_reports::{Word, WordKind, partial_query};
 use query_words::{QueryWords, read_query, words_spell_one_query};
 use std::alloc::Global;
 

@@ -1,11 +1,11 @@
 //! What a warehouse answers by ship mode.
 use cube_model::{Agg, Fault, Items, Kind, Measure, Query, Value};
 use mode_queries::ModeQuery;
-use mode_reports::answered;
 use sector_device::Sectors;
 use ssb_reports::Lines;
 use std::alloc::Global;
 use warehouse::Session;
+use warehouse_jobs::answered;
 
 /// A ship mode, and the revenue of its rows.
 pub type Revenue = (&'static str, i64);

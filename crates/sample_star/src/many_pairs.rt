@@ -76,13 +76,10 @@ fn parts(alloc: Global) -> Result<Items<PartRow>, Fault>
 pub fn rows_of_pairs(alloc: Global) -> Result<DimRows, Fault>
     ensures { IfOk result HaveShortTexts }
 {
-    let customers = customers(alloc)?;
-    let parts = parts(alloc)?;
-    Ok(DimRows {
-        customers,
-        parts,
-        ..dim_rows(alloc, &STAR)?
-    })
+    let mut rows = dim_rows(alloc, &STAR)?;
+    rows.customers = customers(alloc)?;
+    rows.parts = parts(alloc)?;
+    Ok(rows)
 }
 
 /// So many fact rows over these, each the first sample row but for its customer and part: those of the pairs from a

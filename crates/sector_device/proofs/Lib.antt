@@ -3,3 +3,4 @@ pub mod Lists
 pub mod MemorySteps
 pub mod PickSteps
 pub mod Runs
+pub mod WriteRuns

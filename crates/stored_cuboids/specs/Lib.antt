@@ -1,4 +1,9 @@
 pub mod Counted
+pub mod Grouped
+pub mod Keeping
 pub mod Lawful
 pub mod Merged
+pub mod Nexts
+pub mod Replacing
 pub mod Steps
+pub mod Upkeep

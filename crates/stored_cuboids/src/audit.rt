@@ -12,8 +12,8 @@ ghost use Rattle.warehouse_root.specs.Layouts.{view_count};
 ghost use Rattle.lattice.specs.Views.{index_of};
 ghost use Rattle.stored_cuboids.specs.Merged.{IsSound};
 
+use crate::batches::cells_of_batches;
 use crate::runs::merged_runs;
-use batch_cells::cells_of_batches;
 use cube_model::Fault;
 use cuboid_cells::{Cell, Cells, Span};
 use cuboid_upkeep::cells_are_the_one;

@@ -1,7 +1,10 @@
 pub mod CarriageReturns
+pub mod Counting
 pub mod Decimals
 pub mod DimensionsBack
 pub mod FactsBack
+pub mod Lines
 pub mod Places
+pub mod Ranks
 pub mod ReadBack
 pub mod Written

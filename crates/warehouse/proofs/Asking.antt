@@ -6,7 +6,7 @@ use Rattle.std.proofs.lemmas.Result.{IfErr-at_err}
 use Rattle.cube_model.specs.declared.fault.Fault.{Fault}
 use Rattle.cube_model.specs.declared.fault.Fault.TheVariants.{BadLayout, BadQuery, Device, Memory, NoSuchPrefix}
 use Rattle.cube_model.specs.declared.rows.LineOrder.{LineOrder}
-use Rattle.batch_rows.proofs.CallerLemmas.{only_memory}
+use Rattle.stored_rows.proofs.CallerLemmas.{only_memory}
 use Rattle.sector_device.specs.declared.device.Sectors.{Ghosts}
 use Rattle.warehouse_objects.specs.Warehouse.{Warehouse}
 use Rattle.warehouse_root.specs.Root.{PlainRoot}

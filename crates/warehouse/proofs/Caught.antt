@@ -14,9 +14,9 @@ use Rattle.warehouse_root.specs.Root.{PlainRoot}
 use Rattle.warehouse_objects.specs.Represents.{Represents}
 use Rattle.warehouse_objects.specs.Facts.{AddsChange, Change, Facts}
 use Rattle.warehouse_objects.specs.Warehouse.{Warehouse}
-use Rattle.cuboid_commits.specs.Keeping.{IsCaughtUp, IsDone, IsReachedOrLarge, StoreAt}
-use Rattle.cuboid_commits.specs.Nexts.{EndsBringing, RefusesLeast}
-use Rattle.cuboid_commits.proofs.CallerLemmas.{done_or_large, kept_then, leaves_if}
+use Rattle.stored_cuboids.specs.Keeping.{IsCaughtUp, IsDone, IsReachedOrLarge, StoreAt}
+use Rattle.stored_cuboids.specs.Nexts.{EndsBringing, RefusesLeast}
+use Rattle.stored_cuboids.proofs.CallerLemmas.{done_or_large, kept_then, leaves_if}
 use Rattle.warehouse.specs.declared.session.Session.{Session}
 use Rattle.warehouse.specs.Found.{IsSince, MayBeFound, MayRepresentSince}
 use Rattle.warehouse.specs.Session.{IsAt, disk_of}

@@ -8,7 +8,7 @@ use Rattle.warehouse_objects.specs.Loaded.{IsLoaded}
 use Rattle.warehouse_objects.specs.Represents.{AreItsMembers, IsLaidOut, Represents}
 use Rattle.warehouse_objects.specs.Warehouse.{Warehouse}
 use Rattle.warehouse_objects.proofs.CallerLemmas.{laid_of}
-use Rattle.cuboid_commits.specs.Keeping as keeping
+use Rattle.stored_cuboids.specs.Keeping as keeping
 use Rattle.warehouse.specs.declared.session.Session.{Session}
 use Rattle.warehouse.specs.Loaded.{Agrees}
 use Rattle.warehouse.specs.Session.{IsAt, content_of, disk_of}

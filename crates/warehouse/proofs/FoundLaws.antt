@@ -3,7 +3,8 @@ use Rattle.std.proofs.Common.{◌≡◌, false, Option, refl, sym, subst}
 use Rattle.sector_device.specs.declared.device.Sectors.{Ghosts}
 use Rattle.object_store.specs.Content.{Content}
 use Rattle.object_store.specs.Disk.{Disk, disk, AllShow, Leaves, ShowsSome, OnlyImagesOf, IsShown, MayShowNothing}
-use Rattle.object_store.specs.Moments.{only_images, leaves_then, leaves_weaker}
+use Rattle.object_store.specs.Moments.{leaves_then, leaves_weaker}
+use Rattle.object_store.proofs.CallerLemmas.{only_images}
 use Rattle.object_store.specs.Store as stores
 use Rattle.object_store.specs.declared.store.Store.{Store}
 use Rattle.object_store.proofs.CallerLemmas.{shown_has}
@@ -11,7 +12,7 @@ use Rattle.warehouse_objects.specs.Facts.{Change, Facts}
 use Rattle.warehouse_objects.specs.Warehouse.{Warehouse}
 use Rattle.warehouse_objects.specs.Represents.{Represents}
 use Rattle.warehouse.specs.declared.session.Session.{Session}
-use Rattle.cuboid_commits.proofs.CallerLemmas.{kept_same}
+use Rattle.stored_cuboids.proofs.CallerLemmas.{kept_same}
 use Rattle.warehouse.specs.Found.{IsSince, MayBeFound, MayRepresent, MayRepresentSince}
 use Rattle.warehouse.specs.Session.{IsAt, is_at, disk_of, content_of, has_failed}
 

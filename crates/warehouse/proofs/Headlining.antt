@@ -8,7 +8,7 @@ use Rattle.object_store.specs.Shows.{Shows}
 use Rattle.object_store.specs.Frames.{shows_same}
 use Rattle.object_store.specs.Disk.{ShowsSome}
 use Rattle.object_store.specs.Moments.{begins}
-use Rattle.added_rows.specs.Added.{widened}
+use Rattle.stored_rows.specs.Added.{widened}
 use Rattle.warehouse_objects.specs.Facts.{Change, Facts, IsAdmissibleIn, a_batch, addition_refusal, facts_in, some_rows}
 use Rattle.warehouse_objects.specs.Facts.{the_layout}
 use Rattle.warehouse_objects.specs.Warehouse.{Warehouse, loaded, migrated, with_views}

@@ -10,12 +10,12 @@ use Rattle.cube_model.specs.declared.rows.DimRows.{DimRows}
 use Rattle.cube_model.specs.declared.rows.LineOrder.{LineOrder}
 use Rattle.cube_model.specs.Answers.{answer_as_of}
 use Rattle.object_store.specs.Disk.{Leaves}
-use Rattle.added_rows.specs.Added.{widened}
+use Rattle.stored_rows.specs.Added.{widened}
 use Rattle.warehouse_objects.specs.Facts.{AdmitsBatch, AdmitsRows, CanMigrate}
 use Rattle.warehouse_objects.specs.Warehouse.{Warehouse, loaded, migrated, with_views}
 use Rattle.warehouse_objects.specs.Represents.{Represents}
-use Rattle.cuboid_commits.specs.Keeping.{IsKeptUp}
-use Rattle.cuboid_commits.specs.Upkeep.{CuboidsAreCurrent}
+use Rattle.stored_cuboids.specs.Keeping.{IsKeptUp}
+use Rattle.stored_cuboids.specs.Upkeep.{CuboidsAreCurrent}
 use Rattle.warehouse.specs.declared.chosen.Chosen.{Chosen}
 use Rattle.warehouse.specs.declared.command.Command.{Command}
 use Rattle.warehouse.specs.declared.command.Command.TheVariants.{Submit, Query, Status, Choose, Upkeep, Audit, Add}

@@ -7,7 +7,7 @@ use Rattle.object_store.specs.Moments.{leaves_then, leaves_weaker}
 use Rattle.cube_model.specs.declared.fault.Fault.{Fault}
 use Rattle.cube_model.specs.declared.fault.Fault.TheVariants.{Memory}
 use Rattle.planned_queries.specs.Stepping.{Started, stepped}
-use Rattle.added_rows.specs.Added.{widened}
+use Rattle.stored_rows.specs.Added.{widened}
 use Rattle.warehouse_objects.specs.Facts.{facts_in}
 use Rattle.warehouse_objects.specs.Warehouse.{Warehouse, loaded, migrated, with_views}
 use Rattle.warehouse_objects.specs.Represents.{Represents}

@@ -7,8 +7,8 @@ use Rattle.cube_model.specs.declared.attr.Axis.TheVariants.{Customer, Supplier, 
 use Rattle.cube_model.specs.declared.fault.Fault.{Fault}
 use Rattle.cube_model.specs.declared.rows.DimRows.{DimRows}
 use Rattle.dimensions.specs.Added.{addition_cause, joined}
-use Rattle.added_rows.specs.Added.{put_of, widened, widening_puts}
-use Rattle.added_rows.proofs.CallerLemmas.{length_of_puts, rows_widened, represents_widened}
+use Rattle.stored_rows.specs.Added.{put_of, widened, widening_puts}
+use Rattle.stored_rows.proofs.CallerLemmas.{length_of_puts, rows_widened, represents_widened}
 use Rattle.object_store.specs.Content.{Content, bytes_of}
 use Rattle.object_store.specs.Commit.{among, committed, IsFew}
 use Rattle.object_store.specs.Disk.{Disk, Leaves}

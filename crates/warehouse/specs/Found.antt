@@ -7,8 +7,8 @@ use Rattle.object_store.specs.Content.{Content}
 use Rattle.object_store.specs.Disk.{Disk, IsShown}
 use Rattle.warehouse_objects.specs.Facts.{AddsChange, Change, Facts, facts_in}
 use Rattle.warehouse_objects.specs.Warehouse.{Warehouse}
-use Rattle.cuboid_commits.specs.Keeping.{IsKeptUp, IsReachedOrLarge}
-use Rattle.cuboid_commits.specs.Nexts.{RefusesLeast}
+use Rattle.stored_cuboids.specs.Keeping.{IsKeptUp, IsReachedOrLarge}
+use Rattle.stored_cuboids.specs.Nexts.{RefusesLeast}
 use Rattle.warehouse_objects.specs.Represents.{Represents}
 use Rattle.warehouse.specs.declared.session.Session.{Session}
 

@@ -17,7 +17,7 @@ use Rattle.object_store.specs.Frames.{always_shows}
 use Rattle.object_store.specs.Moments.{all_weaker}
 use Rattle.object_store.specs.Room.{Room}
 use Rattle.object_store.specs.Store as stores
-use Rattle.added_rows.specs.Added.{widened, widening_puts}
+use Rattle.stored_rows.specs.Added.{widened, widening_puts}
 use Rattle.warehouse_objects.specs.Facts.{AdmitsBatch, AdmitsRows, PassesChecks, number_refusal, refusal_of}
 use Rattle.warehouse_objects.specs.Facts.{rows_refusal_of}
 use Rattle.warehouse_objects.specs.Warehouse.{Warehouse, loaded}

@@ -5,8 +5,8 @@ use Rattle.cube_model.specs.declared.fault.Fault.{Fault}
 use Rattle.cube_model.specs.declared.fault.Fault.TheVariants.{TooManyCells}
 use Rattle.warehouse_objects.specs.Warehouse.{Warehouse}
 use Rattle.warehouse_objects.specs.Represents.{IsLaidOut}
-use Rattle.cuboid_commits.specs.Keeping.{IsLeastTooLarge}
-use Rattle.cuboid_commits.specs.Upkeep.{KeepUpRefuses}
+use Rattle.stored_cuboids.specs.Keeping.{IsLeastTooLarge}
+use Rattle.stored_cuboids.specs.Upkeep.{KeepUpRefuses}
 use Rattle.warehouse.specs.declared.session.Session.{Session}
 use Rattle.warehouse.specs.Session.{content_of, disk_of, has_failed}
 

@@ -3,7 +3,7 @@ use Rattle.std.specs.Prelude.{◌≡◌, ◌⊎◌, ℕ, None, List, map}
 use Rattle.sector_device.specs.declared.device.Sectors.{Ghosts}
 use Rattle.cube_model.specs.declared.rows.DimRows.{DimRows}
 use Rattle.dimensions.specs.Added.{addition_cause, joined}
-use Rattle.added_rows.specs.Added.{widened, widening_puts}
+use Rattle.stored_rows.specs.Added.{widened, widening_puts}
 use Rattle.object_store.specs.Commit.{ArePuts}
 use Rattle.object_store.specs.Content.{Content}
 use Rattle.object_store.specs.Disk.{Leaves}

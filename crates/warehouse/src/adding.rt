@@ -6,7 +6,7 @@ ghost use Rattle.cube_model.specs.declared.fault.Fault.TheVariants.{Device, Fail
 ghost use Rattle.cube_model.specs.declared.rows.DimRows as dim_rows;
 ghost use Rattle.cube_model.specs.Validity.{HaveShortTexts};
 ghost use Rattle.wire.specs.Limits.{most_objects};
-ghost use Rattle.added_rows.specs.Added.{widened};
+ghost use Rattle.stored_rows.specs.Added.{widened};
 ghost use Rattle.object_store.specs.Disk.{Leaves};
 ghost use Rattle.warehouse_root.specs.Limits.{most_additions};
 ghost use Rattle.warehouse_objects.specs.Facts.{AdmitsRows, number_refusal, rows_refusal_of};

@@ -1,8 +1,8 @@
 //! Queries that look at ship modes, over the first batches of a warehouse.
 ghost use Rattle.std.specs.Prelude.{◌≡◌, ◌⊎◌, ◌<◌, ◌≤◌, ◌↔◌, true, Err, IfOk, IfErr, IsErrOf, OnOk};
 ghost use Rattle.cube_model.specs.declared.fault.Fault.TheVariants.{BadQuery, Device, Failed, NoSuchPrefix};
-ghost use Rattle.mode_answers.specs.Answers.{moded_answer_as_of};
-ghost use Rattle.mode_answers.specs.Planned.{ArePlansByModes, looks_at_modes};
+ghost use Rattle.planned_queries.specs.ModeAnswers.{moded_answer_as_of};
+ghost use Rattle.planned_queries.specs.ModesPlanned.{ArePlansByModes, looks_at_modes};
 ghost use Rattle.mode_queries.specs.Proper.{IsProperByModes};
 ghost use Rattle.warehouse_objects.specs.Warehouse.{Warehouse};
 ghost use Rattle.warehouse.specs.ByModes.{IsAskedByModes};
@@ -13,8 +13,8 @@ use crate::prepared::kept_is_represented;
 use crate::querying::are_there;
 use crate::session::Session;
 use cube_model::Fault;
-use mode_answers::{FoundByModes, answer_by_plan, mode_plans_of};
 use mode_queries::{ModeQuery, ProperModeQuery};
+use planned_queries::{FoundByModes, answer_by_plan, mode_plans_of};
 use planner::Priced;
 use sector_device::Sectors;
 use std::alloc::Global;

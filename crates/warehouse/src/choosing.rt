@@ -58,7 +58,7 @@ impl<D: Sectors> Session<D> {
             return Err(Fault::Failed);
         }
         kept_is_represented(&self.dims, &self.root);
-        match cuboid_commits::set_views(alloc, &mut self.store, &mut self.root, views) {
+        match stored_cuboids::set_views(alloc, &mut self.store, &mut self.root, views) {
             Ok(()) => Ok(()),
             Err(fault) => Err(fault),
         }

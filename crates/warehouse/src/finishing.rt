@@ -4,17 +4,17 @@ ghost use Rattle.cube_model.specs.declared.fault.Fault.TheVariants.{BadLayout, D
 ghost use Rattle.object_store.specs.Disk.{Leaves};
 ghost use Rattle.warehouse_objects.specs.Warehouse.{Warehouse};
 ghost use Rattle.warehouse_objects.specs.Represents.{Represents};
-ghost use Rattle.cuboid_commits.specs.Keeping.{IsCaughtUp};
+ghost use Rattle.stored_cuboids.specs.Keeping.{IsCaughtUp};
 ghost use Rattle.warehouse.specs.Found.{IsFinished};
 ghost use Rattle.warehouse.specs.Session.{Breaks, IsAt, device_of, disk_of, has_failed};
 
 use crate::prepared::kept_is_represented;
 use crate::session::Session;
 use cube_model::Fault;
-use cuboid_commits::catch_up;
 use lattice::View;
 use sector_device::Sectors;
 use std::alloc::Global;
+use stored_cuboids::catch_up;
 
 impl<D: Sectors> Session<D> {
     // Brings each stored cuboid to the target, by ascending view and in one commit each. It passes over those that

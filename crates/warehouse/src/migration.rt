@@ -19,11 +19,11 @@ ghost use Rattle.warehouse.specs.Session.{has_failed};
 
 use crate::prepared::kept_is_represented;
 use crate::session::Session;
-use batch_rows::read_ship_modes;
 use cube_model::Fault;
 use object_store::Store;
 use sector_device::Sectors;
 use std::alloc::Global;
+use stored_rows::read_ship_modes;
 use warehouse_objects::ShipModes;
 use warehouse_root::{Layout, MODES_ID, Root};
 

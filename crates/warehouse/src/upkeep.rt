@@ -5,8 +5,8 @@ ghost use Rattle.object_store.specs.Disk.{Leaves};
 ghost use Rattle.warehouse_objects.specs.Warehouse.{Warehouse};
 ghost use Rattle.warehouse_objects.specs.Represents.{Represents};
 ghost use Rattle.stored_cuboids.specs.Merged.{IsSound};
-ghost use Rattle.cuboid_commits.specs.Keeping.{IsKeptUp};
-ghost use Rattle.cuboid_commits.specs.Upkeep.{CuboidsAreCurrent};
+ghost use Rattle.stored_cuboids.specs.Keeping.{IsKeptUp};
+ghost use Rattle.stored_cuboids.specs.Upkeep.{CuboidsAreCurrent};
 ghost use Rattle.warehouse.specs.Reads.{OnlyReads};
 ghost use Rattle.warehouse.specs.Session.{CallsDevice, IsAt, device_of, disk_of};
 ghost use Rattle.warehouse.specs.Upkeep.{IsLaidAt, UpkeepRefuses};
@@ -14,11 +14,10 @@ ghost use Rattle.warehouse.specs.Upkeep.{IsLaidAt, UpkeepRefuses};
 use crate::prepared::kept_is_represented;
 use crate::session::Session;
 use cube_model::Fault;
-use cuboid_commits::keep_up;
 use sector_device::Sectors;
 use std::alloc::Global;
-use stored_cuboids::audited;
 use stored_cuboids::laws::kept_cuboids_are_sound;
+use stored_cuboids::{audited, keep_up};
 
 impl<D: Sectors> Session<D> {
     /// Brings each stored cuboid to all batches. Where some mark is below their count, one commit sets the target to

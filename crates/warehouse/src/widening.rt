@@ -4,7 +4,7 @@ ghost use Rattle.cube_model.specs.declared.fault.Fault.TheVariants.{Memory};
 ghost use Rattle.cube_model.specs.declared.rows.DimRows as dim_rows;
 ghost use Rattle.cube_model.specs.Validity.{HaveShortTexts};
 ghost use Rattle.dimensions.specs.Added.{addition_cause, joined};
-ghost use Rattle.added_rows.specs.Added.{put_of, widening_puts};
+ghost use Rattle.stored_rows.specs.Added.{put_of, widening_puts};
 ghost use Rattle.object_store.specs.Commit as commits;
 ghost use Rattle.warehouse_root.specs.Limits.{most_additions};
 ghost use Rattle.warehouse.specs.Refusing.{is_of_device};

@@ -11,13 +11,13 @@ ghost use Rattle.warehouse_check.specs.Checked.{HasBatches};
 use crate::batches::check_batches;
 use crate::cuboids::check_cuboids;
 use crate::finding::Finding;
-use batch_rows::has_own_ship_modes;
 use cube_model::Fault;
 use dimensions::Dims;
 use object_store::Store;
 use sector_device::Sectors;
 use std::alloc::Global;
 use stored_cuboids::laws::kept_cuboids_are_sound;
+use stored_rows::has_own_ship_modes;
 use warehouse_objects::{ShipModes, has_its_objects};
 use warehouse_root::Root;
 

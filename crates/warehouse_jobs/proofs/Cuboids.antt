@@ -7,7 +7,7 @@ use Rattle.cube_model.specs.declared.fault.Fault.TheVariants.{Device, Memory}
 use Rattle.ssb_reports.specs.Writing.{Writes}
 use Rattle.warehouse_root.specs.Layouts.{has_modes}
 use Rattle.warehouse_objects.specs.Warehouse.{Warehouse}
-use Rattle.cuboid_commits.specs.Keeping.{IsKeptUp}
+use Rattle.stored_cuboids.specs.Keeping.{IsKeptUp}
 use Rattle.warehouse.specs.declared.chosen.Chosen.{Chosen}
 use Rattle.warehouse.specs.declared.session.Session.{Session}
 use Rattle.warehouse.specs.Session.{IsAt, has_failed}

@@ -4,7 +4,7 @@ use Rattle.std.proofs.KnownBytes.{Keeps-refl}
 use Rattle.cube_model.specs.declared.fault.Fault.{Fault}
 use Rattle.mode_queries.specs.declared.query.ModeQuery.{ModeQuery}
 use Rattle.planner.specs.declared.price.Priced.{Priced}
-use Rattle.mode_answers.specs.Planned.{ArePlansByModes}
+use Rattle.planned_queries.specs.ModesPlanned.{ArePlansByModes}
 use Rattle.ssb_reports.specs.Writing.{Writes}
 use Rattle.warehouse_root.specs.Layouts.{has_modes}
 use Rattle.warehouse_objects.specs.Warehouse.{Warehouse}

@@ -1,17 +1,26 @@
-pub mod Cuts
-pub mod Turns
-pub mod Through
-pub mod Endings
-pub mod Stepping
-pub mod Reported
-pub mod PartlyReported
-pub mod Performed
-pub mod ShipModes
 pub mod Added
 mod Additions
+pub mod CallerLemmas
+mod CopiedCuboids
+mod CopiedNoRows
+mod CopiedParts
+mod CopiedStored
+mod CopyAnswers
+mod CopyBegins
+mod CopyCauses
 mod Cuboids
-mod Migrations
-mod Written
-mod PlanLines
+pub mod Cuts
+mod Dumped
+pub mod Endings
 mod Explained
+mod Migrations
+pub mod PartlyReported
+pub mod Performed
+mod PlanLines
+pub mod Reports
+pub mod ShipModes
+pub mod Stepping
+pub mod Through
+pub mod Turns
 pub mod UnknownKeys
+mod Written

@@ -14,7 +14,7 @@ use Rattle.warehouse_objects.specs.Warehouse.{Warehouse}
 use Rattle.warehouse.specs.declared.session.Session.{Session}
 use Rattle.warehouse.specs.Session.{IsAt, IsAsked, QueryRefuses, has_failed}
 use Rattle.warehouse_jobs.specs.Partial.{AnswersInPart}
-use Rattle.warehouse_jobs.proofs.Reported.{report-refused, report-written}
+use Rattle.warehouse_jobs.proofs.Reports.{report-refused, report-written}
 
 module _ {D : Type 0} (g : Ghosts D) (w : Warehouse) (count : ℕ) (asked : PartAsked) (new : Session D g)
     (before : Option (List ℕ)) where

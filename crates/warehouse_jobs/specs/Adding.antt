@@ -11,8 +11,8 @@ use Rattle.ssb_reports.specs.Writing.{AppendsBeginning}
 use Rattle.warehouse_objects.specs.Facts.{AdmitsRows}
 use Rattle.warehouse_objects.specs.Warehouse.{Warehouse}
 use Rattle.warehouse_objects.specs.Represents.{Represents}
-use Rattle.added_rows.specs.Added.{widened}
-use Rattle.added_rows.specs.Among.{ContainsRows}
+use Rattle.stored_rows.specs.Added.{widened}
+use Rattle.stored_rows.specs.Among.{ContainsRows}
 use Rattle.warehouse.specs.declared.session.Session.{Session}
 use Rattle.warehouse.specs.Session.{AddRefuses, IsAt, disk_of, has_failed}
 use Rattle.warehouse_jobs.specs.declared.taken.Taken.{Taken}

@@ -10,8 +10,8 @@ use Rattle.ssb_reports.specs.Writing.{AppendsBeginning}
 use Rattle.warehouse_root.specs.Layouts.{has_modes}
 use Rattle.warehouse_objects.specs.Warehouse.{Warehouse, with_views}
 use Rattle.warehouse_objects.specs.Represents.{Represents}
-use Rattle.cuboid_commits.specs.Keeping.{IsKeptUp}
-use Rattle.cuboid_commits.specs.Upkeep.{CuboidsAreCurrent}
+use Rattle.stored_cuboids.specs.Keeping.{IsKeptUp}
+use Rattle.stored_cuboids.specs.Upkeep.{CuboidsAreCurrent}
 use Rattle.warehouse.specs.declared.chosen.Chosen.{Chosen}
 use Rattle.warehouse.specs.declared.session.Session.{Session}
 use Rattle.warehouse.specs.Choosing.{ChooseForRefuses, ChooseRefuses, IsChoice, IsChoiceFor, views_of}

@@ -7,7 +7,7 @@ use Rattle.cube_model.specs.declared.fault.Fault.{Fault}
 use Rattle.cube_model.specs.declared.fault.Fault.TheVariants.{Output, Device}
 use Rattle.cube_model.specs.declared.query.Query.{Query}
 use Rattle.cube_model.specs.Answers.{answer_as_of}
-use Rattle.mode_answers.specs.Answers.{moded_answer_as_of}
+use Rattle.planned_queries.specs.ModeAnswers.{moded_answer_as_of}
 use Rattle.mode_queries.specs.declared.query.ModeQuery.{ModeQuery}
 use Rattle.object_store.specs.Disk.{Leaves}
 use Rattle.report_formats.specs.declared.asked.Asked.{Asked}

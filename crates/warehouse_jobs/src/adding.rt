@@ -9,11 +9,11 @@ ghost use Rattle.warehouse_jobs.specs.Adding.{DoesAddition, RefusesRows, DeviceT
 
 use crate::printing::write_addition;
 use crate::taken::Taken;
-use added_rows::has_rows;
 use cube_model::{DimRows, Fault};
 use sector_device::Sectors;
 use std::alloc::Global;
 use std::io::Write;
+use stored_rows::has_rows;
 use warehouse::Session;
 
 /// Adds rows to the dimensions under a number, and writes and flushes two lines once they are durable: `addition 1 rows

@@ -9,9 +9,9 @@ ghost use Rattle.warehouse_objects.specs.Represents.{Represents};
 ghost use Rattle.warehouse.specs.Session.{device_of, disk_of, has_failed, IsAt};
 ghost use Rattle.warehouse_jobs.specs.Reporting.{AnswersByModes, ReportsIn};
 
+use crate::answering::answered;
 use crate::reporting::batches_asked;
 use cube_model::Fault;
-use mode_reports::answered;
 use report_formats::{Asked, write_formatted};
 use sector_device::Sectors;
 use std::alloc::Global;

@@ -9,7 +9,7 @@ use Rattle.byteorder.specs.Endian.{little_from, little_number, little_bytes}
 use Rattle.byteorder.specs.Numbers.{little_from-cons, little_number-reads_back, length-bytes_low_first}
 use Rattle.cube_model.specs.declared.fault.Fault.{Fault}
 use Rattle.wire.specs.declared.source.Source.{Ghosts}
-use Rattle.wire.specs.Runs.{HasRead, IsRefused, Stays-none, Stays-then}
+use Rattle.wire.specs.Runs.{Stays, HasRead, IsRefused}
 use Rattle.wire.specs.Spelling.{spelling}
 use Rattle.wire.specs.Writing.{with_field}
 
@@ -61,6 +61,25 @@ spelling-one n x y xs ys x_fits y_fits same =
 pub with_field-done : (done field rest : List ℕ) → with_field (length done) field (done ++ rest) ≡ done
     ++ (field ++ drop (length field) rest)
 with_field-done done field rest = rw (take-append_seam done rest, drop-append-add done rest (length field)) refl
+
+-- before the first read
+pub Stays-none : {S : Type 0} (g : Ghosts S) (s : S) → Stays g s s
+Stays-none g s = record {
+  totals = λ id. refl;
+  texts = λ keeps id. refl;
+  word = λ keeps. keeps;
+  goes_on = λ always keeps. keeps;
+}
+
+-- one run after another
+pub Stays-then : {S : Type 0} (g : Ghosts S) (old mid new : S)
+    → Stays g old mid → Stays g mid new → Stays g old new
+Stays-then g old mid new first second = record {
+  totals = λ id. second.totals id ∙ first.totals id;
+  texts = λ keeps id. second.texts keeps id ∙ first.texts (second.word keeps) id;
+  word = λ keeps. first.word (second.word keeps);
+  goes_on = λ always keeps. second.goes_on always (first.goes_on always keeps);
+}
 
 -- no read leaves a source as it is, where no read is a run
 pub HasRead-none : {S : Type 0} (g : Ghosts S) → ((s : S) → g.reads s s) → (s : S) → HasRead g s s

@@ -1,6 +1,5 @@
 -- What a run of reads leaves of a source. Our own.
-use Rattle.std.specs.Prelude.{◌≡◌, ℕ, refl}
-use Rattle.std.proofs.Common.{◌∙◌}
+use Rattle.std.specs.Prelude.{◌≡◌, ℕ}
 use Rattle.cube_model.specs.declared.fault.Fault.{Fault}
 use Rattle.wire.specs.Parts.{IsReadFault}
 use Rattle.wire.specs.declared.source.Source.{Ghosts}
@@ -22,22 +21,3 @@ pub record IsRefused {S : Type 0} (g : Ghosts S) (fault : Fault) (old new : S) :
   pub stays : Stays g old new
   pub cause : IsReadFault fault
   pub run : g.fails fault old new
-
--- before the first read
-pub Stays-none : {S : Type 0} (g : Ghosts S) (s : S) → Stays g s s
-Stays-none g s = record {
-  totals = λ id. refl;
-  texts = λ keeps id. refl;
-  word = λ keeps. keeps;
-  goes_on = λ always keeps. keeps;
-}
-
--- one run after another
-pub Stays-then : {S : Type 0} (g : Ghosts S) (old mid new : S)
-    → Stays g old mid → Stays g mid new → Stays g old new
-Stays-then g old mid new first second = record {
-  totals = λ id. second.totals id ∙ first.totals id;
-  texts = λ keeps id. second.texts keeps id ∙ first.texts (second.word keeps) id;
-  word = λ keeps. first.word (second.word keeps);
-  goes_on = λ always keeps. second.goes_on always (first.goes_on always keeps);
-}

@@ -1,6 +1,6 @@
 use Rattle.std.proofs.Common.{ℕ, inr, subst}
 use Rattle.std.proofs.lemmas.Result.{IfErr-weaker, IfOk-weaker}
-use Rattle.image_jobs.specs.Loading.{IsLoadJournal, RefusesLoad}
+use Rattle.c_library.specs.Loading.{IsLoadJournal, RefusesLoad}
 use Rattle.c_library.proofs.changes.load_rows.Goals as goal
 
 pub returns-clause-loads : goal.returns-clause-loads

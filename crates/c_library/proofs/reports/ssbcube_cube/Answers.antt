@@ -1,6 +1,6 @@
 use Rattle.std.proofs.Common.{rules, w64, ℤ, FitsSigned, to_z, of_z, to_z-of_z, inr, ◌≡◌, ◌∙◌, refl, subst}
 use Rattle.c_library.specs.Reports.{RefusesReport}
-use Rattle.report_words.specs.Words.{cube_words}
+use Rattle.c_library.specs.Words.{cube_words}
 use Rattle.c_library.proofs.reports.ssbcube_cube.Goals as goal
 
 pub returns-in-Err : goal.returns-in-Err

@@ -1,5 +1,5 @@
 use Rattle.cube_model.proofs.AnswerLaws.{key_cmp-ties}
-use Rattle.cube_model.specs.Order.{key_cmp_total}
+use Rattle.cube_model.proofs.KeyOrder.{key_cmp_total}
 use Rattle.cube_model.proofs.laws.keys_are_in_total_order.Goals as goal
 
 pub returns : goal.returns

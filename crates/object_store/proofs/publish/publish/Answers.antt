@@ -1,5 +1,5 @@
 use Rattle.std.proofs.lemmas.Result.{on_ok_weaker}
-use Rattle.sector_device.specs.Moments.{synced_within}
+use Rattle.sector_device.proofs.WriteRuns.{synced_within}
 use Rattle.extents.specs.Extents.{SomeHolds}
 use Rattle.object_store.specs.Commit.{puts_of}
 use Rattle.object_store.specs.Publish.{written_by}

@@ -2,7 +2,7 @@ use Rattle.std.proofs.Common.{◌≡◌, ◌++◌, ℕ, List, length, map}
 use Rattle.std.specs.List.{AllByRecursion}
 use Rattle.std.specs.Option.{option_map}
 use Rattle.cube_model.specs.declared.answer.Member.{Member}
-use Rattle.answer_merge.specs.Readable.{IsPlainMember}
+use Rattle.partial_reports.specs.Readable.{IsPlainMember}
 use Rattle.ssb_reports.specs.Report.{member_text}
 use Rattle.partial_reports.specs.Reading.{FieldsAreLeft}
 use Rattle.partial_reports.proofs.FieldsLeft.{KeyLeft}

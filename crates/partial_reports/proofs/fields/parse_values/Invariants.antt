@@ -2,7 +2,7 @@ use Rattle.std.proofs.Common.{◌≡◌, ℕ, List, length, map}
 use Rattle.std.specs.List.{AllByRecursion}
 use Rattle.std.specs.Option.{option_map}
 use Rattle.cube_model.specs.declared.answer.Value.{Value}
-use Rattle.answer_merge.specs.Readable.{IsWholeNumber}
+use Rattle.partial_reports.specs.Readable.{IsWholeNumber}
 use Rattle.ssb_reports.specs.Report.{value_text}
 use Rattle.partial_reports.specs.Reading.{FieldsAreLeft}
 use Rattle.partial_reports.proofs.FieldsLeft.{ValuesLeft}

@@ -1,7 +1,7 @@
 use Rattle.std.proofs.Common.{◌≡◌, ◌∙◌, sym, ap, ◌++◌, List, ℕ, rules, arith}
 use Rattle.std.proofs.lemmas.Grind.{common_steps}
 use Rattle.std.proofs.lemmas.List.{append_cancel_left}
-use Rattle.answer_merge.specs.Readable.{IsReadableLine}
+use Rattle.partial_reports.specs.Readable.{IsReadableLine}
 use Rattle.ssb_reports.specs.Report.{line_text}
 use Rattle.partial_reports.proofs.Rising.{all_and}
 use Rattle.partial_reports.proofs.reading.after_line.Goals as goal

@@ -1,5 +1,5 @@
 use Rattle.std.proofs.Common.{◌≡◌, map}
-use Rattle.answer_merge.specs.Wide.{narrow_lines}
+use Rattle.partial_reports.specs.Wide.{narrow_lines}
 use Rattle.report_merge.specs.Finishing.{recounted_line}
 use Rattle.report_merge.proofs.finishing.recounted.Given as goal
 

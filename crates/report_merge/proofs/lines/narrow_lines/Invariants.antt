@@ -1,5 +1,5 @@
 use Rattle.std.proofs.Common.{◌≡◌, take}
-use Rattle.answer_merge.specs.Wide.{narrow_lines}
+use Rattle.partial_reports.specs.Wide.{narrow_lines}
 use Rattle.report_merge.proofs.lines.narrow_lines.Given as goal
 
 abbrev pub invariant-loop-line : goal.invariant-loop-line

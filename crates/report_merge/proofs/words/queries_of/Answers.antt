@@ -1,5 +1,5 @@
 use Rattle.std.proofs.Common.{◌∙◌, ap}
-use Rattle.answer_merge.specs.Parts.{partial_query}
+use Rattle.partial_reports.specs.Parts.{partial_query}
 use Rattle.report_merge.proofs.Given.{one_query}
 use Rattle.report_merge.proofs.words.queries_of.Goals as goal
 

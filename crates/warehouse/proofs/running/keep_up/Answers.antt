@@ -1,5 +1,5 @@
 use Rattle.std.proofs.Common.{Err, ap}
-use Rattle.cuboid_commits.proofs.CallerLemmas.{kept_same}
+use Rattle.stored_cuboids.proofs.CallerLemmas.{kept_same}
 use Rattle.warehouse.proofs.Performing.{upkeep_done, upkeep_refused}
 use Rattle.warehouse.proofs.running.keep_up.Goals as goal
 

@@ -1,7 +1,7 @@
 use Rattle.std.proofs.Common.{◌≤◌, ◌<◌, arith, ap, subst, Err, inl, inr, refl}
 use Rattle.std.proofs.lemmas.Result.{err_from_is_err_and}
 use Rattle.cube_model.specs.declared.rows.DimRows.{DimRows}
-use Rattle.added_rows.specs.Among.{ContainsRows}
+use Rattle.stored_rows.specs.Among.{ContainsRows}
 use Rattle.warehouse_jobs.proofs.Additions.{only-looked, refuses-rows, takes-added, takes-skipped}
 use Rattle.warehouse_jobs.proofs.Turns.{still}
 use Rattle.warehouse_jobs.proofs.adding.take_rows.Goals as goal

@@ -1,7 +1,7 @@
 use Rattle.std.proofs.lemmas.Result.{err_from_is_err_and}
 use Rattle.std.proofs.Common.{refl, ap, Err}
 use Rattle.report_formats.specs.Fields.{formatted}
-use Rattle.warehouse_jobs.proofs.Reported.{moded-formatted, moded-refused}
+use Rattle.warehouse_jobs.proofs.Reports.{moded-formatted, moded-refused}
 use Rattle.warehouse_jobs.proofs.formatting.formatted_over.Goals as goal
 
 pub returns-in_err-found-clause-ends : goal.returns-in_err-found-clause-ends

@@ -1,7 +1,7 @@
 use Rattle.std.proofs.lemmas.Result.{err_from_is_err_and}
 use Rattle.std.proofs.Common.{refl, ap, Err}
 use Rattle.ssb_reports.specs.Report.{report_of}
-use Rattle.warehouse_jobs.proofs.Reported.{report-refused, report-written}
+use Rattle.warehouse_jobs.proofs.Reports.{report-refused, report-written}
 use Rattle.warehouse_jobs.proofs.reporting.report_over.Goals as goal
 
 pub returns-in_err-found-clause-ends : goal.returns-in_err-found-clause-ends

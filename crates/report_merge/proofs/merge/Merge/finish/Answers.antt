@@ -1,7 +1,7 @@
 use Rattle.std.proofs.Common.{◌≡◌, ◌∙◌, ap, sym, subst}
 use Rattle.std.proofs.lemmas.Result.{err_from_is_err_and}
-use Rattle.answer_merge.specs.Wide.{narrow_lines}
-use Rattle.answer_merge.specs.Finishing.{CanBeFinished, FinishRefuses}
+use Rattle.partial_reports.specs.Wide.{narrow_lines}
+use Rattle.partial_reports.specs.Finishing.{CanBeFinished, FinishRefuses}
 use Rattle.mode_queries.specs.declared.query.ModeQuery.{ModeQuery}
 use Rattle.report_formats.specs.declared.asked.Asked.{Asked}
 use Rattle.report_formats.specs.Asked.{query_for}

@@ -1,6 +1,6 @@
 use Rattle.std.proofs.Common.{◌∙◌, ap, subst, sym, List}
 use Rattle.std.proofs.lemmas.Result.{err_from_is_err_and}
-use Rattle.answer_merge.specs.Parts.{partial_query}
+use Rattle.partial_reports.specs.Parts.{partial_query}
 use Rattle.partial_reports.specs.declared.head.Head.{Head}
 use Rattle.partial_reports.specs.declared.words.Word.{Word}
 use Rattle.partial_reports.specs.HeadReading.{IsDigest}

@@ -1,7 +1,7 @@
 use Rattle.std.proofs.Common.{◌∙◌, ◌++◌, ap, subst}
 use Rattle.std.proofs.lemmas.Result.{err_from_is_err_and}
-use Rattle.answer_merge.specs.Parts.{partial_query}
-use Rattle.answer_merge.specs.Wide.{narrow_lines}
+use Rattle.partial_reports.specs.Parts.{partial_query}
+use Rattle.partial_reports.specs.Wide.{narrow_lines}
 use Rattle.partial_reports.specs.Head.{head_text}
 use Rattle.ssb_reports.specs.Report.{report_of}
 use Rattle.report_merge.specs.Merging.{Part}

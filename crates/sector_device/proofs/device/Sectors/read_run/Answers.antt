@@ -1,5 +1,5 @@
 use Rattle.std.proofs.Common.{◌∙◌}
-use Rattle.sector_device.specs.Moments.{stays_then}
+use Rattle.sector_device.proofs.WriteRuns.{stays_then}
 use Rattle.sector_device.proofs.Runs.{run_grows}
 use Rattle.sector_device.proofs.device.Sectors.read_run.Goals as goal
 

@@ -1,7 +1,7 @@
 use Rattle.std.proofs.Common.{length, refl, sym, ◌∙◌, ap}
 use Rattle.cube_model.specs.declared.rows.DimRows.{DimRows}
-use Rattle.mode_answers.specs.Answers.{moded_answer_as_of}
-use Rattle.mode_answers.specs.Planned.{looks_at_modes}
+use Rattle.planned_queries.specs.ModeAnswers.{moded_answer_as_of}
+use Rattle.planned_queries.specs.ModesPlanned.{looks_at_modes}
 use Rattle.mode_queries.specs.declared.query.ModeQuery.{ModeQuery}
 use Rattle.warehouse.proofs.Asking.{asked_within, check_refuses, counted_at, read_refuses}
 use Rattle.warehouse.proofs.Cuboids.{agrees, members_at}

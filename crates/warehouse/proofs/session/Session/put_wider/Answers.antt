@@ -1,7 +1,7 @@
 use Rattle.std.proofs.Common.{◌≡◌, ◌≤◌, ℕ, true, false, Err, List, [], inl, inr, length, sym, ◌∙◌, ap, subst}
 use Rattle.cube_model.specs.declared.rows.DimRows.{DimRows}
 use Rattle.wire.specs.Limits.{most_root_bytes}
-use Rattle.added_rows.specs.Added.{widened, widening_puts}
+use Rattle.stored_rows.specs.Added.{widened, widening_puts}
 use Rattle.object_store.specs.Content.{Content}
 use Rattle.object_store.specs.Moments.{leaves_weaker}
 use Rattle.object_store.specs.Commit.{ArePuts, committed, puts_of}

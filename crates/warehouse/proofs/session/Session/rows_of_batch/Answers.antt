@@ -1,7 +1,7 @@
 use Rattle.std.proofs.Common.{◌∙◌, Err, ap, sym}
 use Rattle.cube_model.specs.declared.fault.Fault.{Fault}
 use Rattle.object_store.specs.Store as stores
-use Rattle.batch_rows.proofs.CallerLemmas.{only_memory}
+use Rattle.stored_rows.proofs.CallerLemmas.{only_memory}
 use Rattle.warehouse.proofs.OnlyReading.{call_reads}
 use Rattle.warehouse.proofs.session.Session.rows_of_batch.Goals as goal
 

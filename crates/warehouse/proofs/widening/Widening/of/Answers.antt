@@ -1,6 +1,6 @@
 use Rattle.std.proofs.Common.{◌∙◌, subst}
 use Rattle.dimensions.specs.Added.{joined}
-use Rattle.added_rows.proofs.CallerLemmas.{puts_widened}
+use Rattle.stored_rows.proofs.CallerLemmas.{puts_widened}
 use Rattle.warehouse_objects.specs.Warehouse.{AreStorable}
 use Rattle.warehouse.proofs.Numbering.{valid_allows}
 use Rattle.warehouse.proofs.widening.Widening.of.Goals as goal

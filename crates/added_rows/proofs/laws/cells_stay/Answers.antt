@@ -1,5 +1,0 @@
-use Rattle.added_rows.proofs.Cells.{cells_kept}
-use Rattle.added_rows.proofs.laws.cells_stay.Goals as goal
-
-pub returns : goal.returns
-returns c = cells_kept

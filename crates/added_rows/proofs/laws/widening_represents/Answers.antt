@@ -1,5 +1,0 @@
-use Rattle.added_rows.proofs.Widened.{represents_widened}
-use Rattle.added_rows.proofs.laws.widening_represents.Goals as goal
-
-pub returns : goal.returns
-returns c = represents_widened

@@ -1,5 +1,0 @@
-use Rattle.std.proofs.Common.{length}
-use Rattle.answer_merge.proofs.finishing.+push_values.Given as goal
-
-abbrev pub decreases-push_values : goal.decreases-push_values
-decreases-push_values l = length l.aggs.now

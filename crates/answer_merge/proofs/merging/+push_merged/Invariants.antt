@@ -1,5 +1,0 @@
-use Rattle.std.proofs.Common.{length}
-use Rattle.answer_merge.proofs.merging.+push_merged.Given as goal
-
-abbrev pub decreases-push_merged : goal.decreases-push_merged
-decreases-push_merged l = length l.aggs.now

@@ -1,6 +1,0 @@
-use Rattle.std.proofs.Common.{◌≡◌}
-use Rattle.answer_merge.specs.Wide.{narrow_lines}
-use Rattle.answer_merge.proofs.wide.widened.Given as goal
-
-abbrev pub invariant-loop-line : goal.invariant-loop-line
-invariant-loop-line l = narrow_lines l.wide.items ≡ l.yielded

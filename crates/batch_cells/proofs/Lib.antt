@@ -1,4 +1,0 @@
-mod Spans
-mod Members
-mod Read
-mod Faults

@@ -1,6 +1,0 @@
-use Rattle.std.proofs.Common.{◌≡◌, take}
-use Rattle.cuboid_commits.specs.Replacing.{dropped_of}
-use Rattle.cuboid_commits.proofs.viewing.dropped.Given as goal
-
-abbrev pub invariant-loop-cuboid : goal.invariant-loop-cuboid
-invariant-loop-cuboid l = l.drops.items ≡ dropped_of l.views (take l.cuboid-index l.cuboids)

@@ -1,6 +1,0 @@
-use Rattle.std.proofs.Common.{◌≡◌}
-use Rattle.warehouse_objects.specs.Represents.{said_below}
-use Rattle.cuboid_commits.proofs.viewing.said_below.Given as goal
-
-abbrev pub invariant-loop-number : goal.invariant-loop-number
-invariant-loop-number l = l.said.items ≡ said_below l.number l.views l.cuboids

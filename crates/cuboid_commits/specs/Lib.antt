@@ -1,4 +1,0 @@
-pub mod Keeping
-pub mod Nexts
-pub mod Replacing
-pub mod Upkeep

@@ -1,7 +1,0 @@
-mod Averages
-mod Comparisons
-mod Inserted
-mod KeyLoop
-mod Places
-mod SizeOrder
-mod SortedAnswers

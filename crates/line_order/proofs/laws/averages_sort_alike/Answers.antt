@@ -1,5 +1,0 @@
-use Rattle.line_order.proofs.Averages.{averages_sort_alike}
-use Rattle.line_order.proofs.laws.averages_sort_alike.Goals as goal
-
-pub returns : goal.returns
-returns c = averages_sort_alike c.fraction_is_the_one.ensures

@@ -1,5 +1,0 @@
-pub mod Arranging
-pub mod Lawful
-pub mod Named
-pub mod Shown
-pub mod Sorting

@@ -1,4 +1,0 @@
-pub mod Lawful
-pub mod Planned
-pub mod Answers
-pub mod Counted

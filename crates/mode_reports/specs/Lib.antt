@@ -1,3 +1,0 @@
-pub mod Forms
-pub mod Lawful
-pub mod Lines

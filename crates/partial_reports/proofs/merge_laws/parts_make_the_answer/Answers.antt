@@ -1,0 +1,5 @@
+use Rattle.partial_reports.proofs.MergeLaws.{parts_make_the_answer}
+use Rattle.partial_reports.proofs.merge_laws.parts_make_the_answer.Goals as goal
+
+pub returns : goal.returns
+returns c = parts_make_the_answer

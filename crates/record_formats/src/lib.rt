@@ -1,8 +1,0 @@
-//! Records of numbers and words for other programs: csv, tsv and json.
-#![tactic(auto)]
-
-mod cell;
-mod records;
-
-pub use cell::Cell;
-pub use records::Records;

@@ -1,0 +1,5 @@
+use Rattle.report_formats.proofs.SortedAnswers.{answers_are_sorted}
+use Rattle.report_formats.proofs.order_laws.answers_are_sorted.Goals as goal
+
+pub returns : goal.returns
+returns c = answers_are_sorted c.answer_is_the_one.ensures

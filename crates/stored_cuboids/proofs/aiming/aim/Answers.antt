@@ -1,0 +1,55 @@
+use Rattle.std.proofs.Common.{[], refl, sym, ap, ◌∙◌, subst}
+use Rattle.object_store.specs.Content.{Content}
+use Rattle.object_store.specs.Store as stores
+use Rattle.warehouse_root.specs.Root.{PlainRoot}
+use Rattle.warehouse_objects.specs.Warehouse.{aimed}
+use Rattle.stored_cuboids.specs.Keeping.{StoreAt}
+use Rattle.stored_cuboids.proofs.Replaced.{before_at, before_leaves, generation_replaced, makes_target, replaced_at}
+use Rattle.stored_cuboids.proofs.Replaced.{replaced_causes, replaced_leaves}
+use Rattle.stored_cuboids.proofs.aiming.aim.Goals as goal
+
+pub returns-in-Ok-replace_root-clause-leaves : goal.returns-in-Ok-replace_root-clause-leaves
+returns-in-Ok-replace_root-clause-leaves g c w at =
+    replaced_leaves g.D.Sectors c.args.store.now c.replace_root.new.store w (aimed w) c.args.root.now c.in-Ok.next [] at
+    (makes_target (stores.content_of g.D.Sectors c.args.store.now) c.args.root.now c.in-Ok.next w c.batches.result.now
+    c.in-Ok.ensures.ok c.batches.ensures)
+    c.replace_root.ensures.leaves
+
+pub returns-in-Ok-replace_root-clause-ok : goal.returns-in-Ok-replace_root-clause-ok
+returns-in-Ok-replace_root-clause-ok g c w at =
+    subst (λ (r : PlainRoot). StoreAt g.D.Sectors c.replace_root.new.store r (aimed w))
+    (sym c.in-Ok-replace_root.ensures.root)
+    (replaced_at g.D.Sectors c.args.store.now c.replace_root.new.store w (aimed w) c.args.root.now c.in-Ok.next [] at
+    (makes_target (stores.content_of g.D.Sectors c.args.store.now) c.args.root.now c.in-Ok.next w c.batches.result.now
+    c.in-Ok.ensures.ok c.batches.ensures)
+    c.in-Ok-replace_root.ensures.fine c.replace_root.ensures.word c.in-Ok-replace_root.ensures.ok)
+
+pub returns-in-Ok-replace_root-clause-once : goal.returns-in-Ok-replace_root-clause-once
+returns-in-Ok-replace_root-clause-once g c k =
+    ap (λ (x : Content). x.generation) (c.in-Ok-replace_root.ensures.ok k)
+    ∙ generation_replaced (stores.content_of g.D.Sectors c.args.store.now) [] c.in-Ok.next
+
+pub returns-in-Err-replace_root-clause-leaves : goal.returns-in-Err-replace_root-clause-leaves
+returns-in-Err-replace_root-clause-leaves g c w at =
+    replaced_leaves g.D.Sectors c.args.store.now c.replace_root.new.store w (aimed w) c.args.root.now c.in-Ok.next [] at
+    (makes_target (stores.content_of g.D.Sectors c.args.store.now) c.args.root.now c.in-Ok.next w c.batches.result.now
+    c.in-Ok.ensures.ok c.batches.ensures)
+    c.replace_root.ensures.leaves
+
+pub returns-in-Err-replace_root-clause-refused : goal.returns-in-Err-replace_root-clause-refused
+returns-in-Err-replace_root-clause-refused g c cause w at =
+    let same = c.in-Err-replace_root.ensures.refused cause in (
+      subst (λ (r : PlainRoot). StoreAt g.D.Sectors c.replace_root.new.store r w)
+          (sym c.in-Err-replace_root.ensures.kept)
+          (before_at g.D.Sectors c.args.store.now c.replace_root.new.store w c.args.root.now at same),
+      before_leaves g.D.Sectors c.args.store.now c.replace_root.new.store w c.args.root.now at same
+          (c.is_broken-usable.ensures.leaves at.fine),
+    )
+
+pub returns-in-Err-replace_root-clause-causes : goal.returns-in-Err-replace_root-clause-causes
+returns-in-Err-replace_root-clause-causes g c cause w at k =
+    replaced_causes g.D.Sectors c.args.store.now c.replace_root.new.store w (aimed w) c.args.root.now c.in-Ok.next [] at
+    (makes_target (stores.content_of g.D.Sectors c.args.store.now) c.args.root.now c.in-Ok.next w c.batches.result.now
+    c.in-Ok.ensures.ok c.batches.ensures)
+    [] c.in-Err-replace_root.fault (λ same. refl)
+    (c.replace_root.ensures.word k) (c.in-Err-replace_root.ensures.causes cause)

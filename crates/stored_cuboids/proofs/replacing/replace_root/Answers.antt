@@ -1,0 +1,31 @@
+use Rattle.std.proofs.Common.{◌≤◌, List, ℕ, length, sym, ◌∙◌, subst, arith, ap}
+use Rattle.wire.specs.Limits.{most_root_bytes}
+use Rattle.object_store.specs.Content.{Content}
+use Rattle.object_store.specs.Store as stores
+use Rattle.warehouse_root.specs.Layouts.{layout_number}
+use Rattle.warehouse_root.proofs.CallerLemmas.{root_is_short}
+use Rattle.warehouse_objects.specs.Loaded.{IsLoaded}
+use Rattle.stored_cuboids.proofs.Replaced.{few_replaced, loaded_replaced, replaced_by}
+use Rattle.stored_cuboids.proofs.replacing.replace_root.Goals as goal
+
+pub commit-requires-clause-root : goal.commit-requires-clause-root
+commit-requires-clause-root g c =
+    subst (λ (b : List ℕ). length b ≤ most_root_bytes) (sym c.as_slice.ensures.value)
+    (root_is_short c.in-Ok.bytes.items c.args.next c.in-Ok.ensures.ok)
+
+pub commit-requires-clause-few : goal.commit-requires-clause-few
+commit-requires-clause-few g c =
+    few_replaced (stores.content_of g.D.Sectors c.args.store.now) c.args.drops.now c.as_slice.result.now
+    c.number-layout.result
+    (omega (arith, c.objects.ensures, c.if-objects-gt-MOST_OBJECTS.false))
+
+pub returns-in-Ok-commit-clause-loaded : goal.returns-in-Ok-commit-clause-loaded
+returns-in-Ok-commit-clause-loaded g c k rows modes is =
+    let before = stores.content_of g.D.Sectors c.args.store.now in
+    let after = c.in-Ok-commit.ensures.ok k
+    ∙ replaced_by before c.args.drops.now c.as_slice.result.now c.number-layout.result c.args.next
+    (c.as_slice.ensures.value ∙ c.in-Ok.ensures.ok.spelled)
+    (c.number-layout.ensures ∙ ap layout_number c.layout.ensures.value) in
+    subst (λ (x : Content). IsLoaded x rows modes c.args.next) (sym after)
+    (loaded_replaced before c.args.drops.now c.args.next c.requires.runs rows modes c.args.root.now c.requires.layout
+    is)

@@ -1,0 +1,72 @@
+use Rattle.std.proofs.Common.{◌≤◌, ℕ, List, All, sym, ap, ◌∙◌, subst}
+use Rattle.object_store.specs.Content.{Content}
+use Rattle.object_store.specs.Store as stores
+use Rattle.warehouse_root.specs.Root.{PlainRoot}
+use Rattle.warehouse_objects.specs.Warehouse.{dropped_ids, with_views}
+use Rattle.stored_cuboids.specs.Keeping.{StoreAt}
+use Rattle.stored_cuboids.specs.Nexts.{first_run}
+use Rattle.stored_cuboids.specs.Replacing.{dropped_of}
+use Rattle.stored_cuboids.proofs.Replaced.{before_at, before_leaves, drops_high, generation_replaced, makes_views}
+use Rattle.stored_cuboids.proofs.Replaced.{replaced_at, replaced_causes, replaced_leaves, viewed_drops}
+use Rattle.stored_cuboids.proofs.viewing.set_views.Goals as goal
+
+pub replace_root-requires-clause-runs : goal.replace_root-requires-clause-runs
+replace_root-requires-clause-runs g c =
+    subst (λ (l : List ℕ). All (λ id. first_run ≤ id) l) (sym (c.as_slice.ensures.value ∙ c.in-Ok.ensures.ok))
+    (drops_high c.args.views.now c.cuboids.result.now)
+
+pub returns-in-Ok-replace_root-clause-leaves : goal.returns-in-Ok-replace_root-clause-leaves
+returns-in-Ok-replace_root-clause-leaves g c w at =
+    replaced_leaves g.D.Sectors c.args.store.now c.replace_root.new.store w (with_views w c.args.views.now)
+    c.args.root.now c.in-Ok-viewed.next c.as_slice.result.now at
+    (makes_views (stores.content_of g.D.Sectors c.args.store.now) c.args.root.now c.in-Ok-viewed.next w c.args.views.now
+    c.as_slice.result.now c.requires.few c.in-Ok-viewed.ensures.ok
+    (c.as_slice.ensures.value ∙ c.in-Ok.ensures.ok ∙ ap (dropped_of c.args.views.now) c.cuboids.ensures))
+    c.replace_root.ensures.leaves
+
+pub returns-in-Ok-replace_root-clause-ok : goal.returns-in-Ok-replace_root-clause-ok
+returns-in-Ok-replace_root-clause-ok g c w at =
+    subst (λ (r : PlainRoot). StoreAt g.D.Sectors c.replace_root.new.store r (with_views w c.args.views.now))
+    (sym c.in-Ok-replace_root.ensures.root)
+    (replaced_at g.D.Sectors c.args.store.now c.replace_root.new.store w (with_views w c.args.views.now) c.args.root.now
+    c.in-Ok-viewed.next c.as_slice.result.now at
+    (makes_views (stores.content_of g.D.Sectors c.args.store.now) c.args.root.now c.in-Ok-viewed.next w c.args.views.now
+    c.as_slice.result.now c.requires.few c.in-Ok-viewed.ensures.ok
+    (c.as_slice.ensures.value ∙ c.in-Ok.ensures.ok ∙ ap (dropped_of c.args.views.now) c.cuboids.ensures))
+    c.in-Ok-replace_root.ensures.fine c.replace_root.ensures.word c.in-Ok-replace_root.ensures.ok)
+
+pub returns-in-Ok-replace_root-clause-once : goal.returns-in-Ok-replace_root-clause-once
+returns-in-Ok-replace_root-clause-once g c k =
+    ap (λ (x : Content). x.generation) (c.in-Ok-replace_root.ensures.ok k)
+    ∙ generation_replaced (stores.content_of g.D.Sectors c.args.store.now) c.as_slice.result.now c.in-Ok-viewed.next
+
+pub returns-clause-leaves : goal.returns-clause-leaves
+returns-clause-leaves g c w at =
+    replaced_leaves g.D.Sectors c.args.store.now c.replace_root.new.store w (with_views w c.args.views.now)
+    c.args.root.now c.in-Ok-viewed.next c.as_slice.result.now at
+    (makes_views (stores.content_of g.D.Sectors c.args.store.now) c.args.root.now c.in-Ok-viewed.next w c.args.views.now
+    c.as_slice.result.now c.requires.few c.in-Ok-viewed.ensures.ok
+    (c.as_slice.ensures.value ∙ c.in-Ok.ensures.ok ∙ ap (dropped_of c.args.views.now) c.cuboids.ensures))
+    c.replace_root.ensures.leaves
+
+pub returns-clause-refused : goal.returns-clause-refused
+returns-clause-refused g c cause w at =
+    let same = c.in-Err-replace_root.ensures.refused cause in (
+      subst (λ (r : PlainRoot). StoreAt g.D.Sectors c.replace_root.new.store r w)
+          (sym c.in-Err-replace_root.ensures.kept)
+          (before_at g.D.Sectors c.args.store.now c.replace_root.new.store w c.args.root.now at same),
+      before_leaves g.D.Sectors c.args.store.now c.replace_root.new.store w c.args.root.now at same
+          (c.is_broken-usable.ensures.leaves at.fine),
+    )
+
+pub returns-clause-causes : goal.returns-clause-causes
+returns-clause-causes g c cause w at k =
+    replaced_causes g.D.Sectors c.args.store.now c.replace_root.new.store w (with_views w c.args.views.now)
+    c.args.root.now c.in-Ok-viewed.next c.as_slice.result.now at
+    (makes_views (stores.content_of g.D.Sectors c.args.store.now) c.args.root.now c.in-Ok-viewed.next w c.args.views.now
+    c.as_slice.result.now c.requires.few c.in-Ok-viewed.ensures.ok
+    (c.as_slice.ensures.value ∙ c.in-Ok.ensures.ok ∙ ap (dropped_of c.args.views.now) c.cuboids.ensures))
+    (dropped_ids w c.args.views.now) c.in-Err-replace_root.fault
+    (λ same. c.as_slice.ensures.value ∙ c.in-Ok.ensures.ok ∙ ap (dropped_of c.args.views.now) c.cuboids.ensures
+    ∙ viewed_drops c.args.root.now w c.args.views.now same)
+    (c.replace_root.ensures.word k) (c.in-Err-replace_root.ensures.causes cause)

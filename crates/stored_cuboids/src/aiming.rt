@@ -1,0 +1,71 @@
+//! The commit that sets the target of the stored cuboids.
+ghost use Rattle.std.specs.Prelude.{◌≡◌, ◌≢◌, ◌⊎◌, ◌+◌, [], false, IfErr, IsErrOf, OnErr, OnOk, List, ℕ};
+ghost use Rattle.cube_model.specs.declared.fault.Fault.TheVariants.{Device, Failed};
+ghost use Rattle.cube_model.specs.declared.rows.DimRows.{DimRows};
+ghost use Rattle.object_store.specs.Disk.{Leaves};
+ghost use Rattle.object_store.specs.Store.{Breaks, IsAsBefore, Refuses, content_of, device_of, disk_of, has_failed};
+ghost use Rattle.object_store.specs.Store.{room_of};
+ghost use Rattle.warehouse_root.specs.Root as roots;
+ghost use Rattle.warehouse_objects.specs.Loaded.{IsLoaded};
+ghost use Rattle.warehouse_objects.specs.Represents.{Represents, root_of};
+ghost use Rattle.warehouse_objects.specs.Warehouse.{Warehouse, aimed};
+ghost use Rattle.stored_cuboids.specs.Keeping.{StoreAt};
+
+use crate::replacing::replace_root;
+use cube_model::Fault;
+use object_store::Store;
+use sector_device::Sectors;
+use std::alloc::Global;
+use warehouse_root::Root;
+
+/// Makes all batches the target of the stored cuboids, in one commit.
+///
+/// `Full` where the store has no room, and `Worn` at the last generation: then all is as before, as it is where memory
+/// is missing. `Device` where the device fails.
+pub fn aim<D: Sectors>(alloc: Global, store: &mut Store<D>, root: &mut Root) -> Result<(), Fault>
+    requires fine { has_failed store.old ≡ false }
+
+    // A crash at any point leaves the warehouse before or after.
+    ensures leaves { (w : Warehouse) → StoreAt D.Sectors store.old root.old w
+        → Leaves (disk_of D.Sectors store.old) (disk_of D.Sectors store.new)
+        (λ c. Represents c w ⊎ Represents c (aimed w)) }
+
+    // Then the warehouse after.
+    ensures ok { OnOk result ((w : Warehouse) → StoreAt D.Sectors store.old root.old w
+        → StoreAt D.Sectors store.new root.new (aimed w)) }
+    ensures once { OnOk result (D.keeps_word (device_of store.new)
+        → (content_of D.Sectors store.new).generation ≡ (content_of D.Sectors store.old).generation + 1) }
+    ensures fine { OnOk result (has_failed store.new ≡ false) }
+    ensures failures { OnOk result ((disk_of D.Sectors store.new).failures ≡ (disk_of D.Sectors store.old).failures) }
+
+    // What a refusal leaves, and when it comes.
+    ensures refused { IfErr result (λ fault. fault ≢ Device → (w : Warehouse) → StoreAt D.Sectors store.old root.old w
+        → StoreAt D.Sectors store.new root.new w
+        × Leaves (disk_of D.Sectors store.old) (disk_of D.Sectors store.new) (λ c. Represents c w)) }
+    ensures kept { OnErr result (root.new ≡ root.old) }
+    ensures as_before { IfErr result (λ fault. fault ≢ Device → IsAsBefore D.Sectors store.old store.new) }
+    ensures causes { IfErr result (λ fault. fault ≢ Device → (w : Warehouse) → StoreAt D.Sectors store.old root.old w
+        → D.keeps_word (device_of store.new)
+        → Refuses (content_of D.Sectors store.old) (room_of store.old) [] [] (roots.root_spelling (root_of (aimed w)))
+        fault) }
+    ensures failed { IsErrOf result Failed → ⊥ }
+    ensures device { IsErrOf result Device → Breaks D.Sectors store.old store.new }
+
+    // Also after an error.
+    ensures loaded { has_failed store.new ≡ false → D.keeps_word (device_of store.new)
+        → (rows : DimRows) (modes : List (List ℕ))
+        → IsLoaded (content_of D.Sectors store.old) rows modes root.old
+        → IsLoaded (content_of D.Sectors store.new) rows modes root.new }
+    ensures word { D.keeps_word (device_of store.new) → D.keeps_word (device_of store.old) }
+{
+    let _usable = store.is_broken();
+    let _layout = root.layout();
+    let next = match root.with_target(alloc, root.batches().len() as u32) {
+        Ok(next) => next,
+        Err(fault) => return Err(fault),
+    };
+    match replace_root(alloc, store, root, next, &[]) {
+        Ok(()) => Ok(()),
+        Err(fault) => Err(fault),
+    }
+}

@@ -1,0 +1,84 @@
+//! Bringing stored cuboids to their target.
+ghost use Rattle.std.specs.Prelude.{◌≡◌, ◌≢◌, ◌<◌, ◌+◌, ◌-◌, ◌^◌, min, false, true, Some, length, slice_get, IfErr};
+ghost use Rattle.std.specs.Prelude.{IfOk, IsErrOf, List, ℕ};
+ghost use Rattle.cube_model.specs.declared.fault.Fault.TheVariants.{BadLayout, Device, Failed, Memory};
+ghost use Rattle.cube_model.specs.declared.rows.DimRows.{DimRows};
+ghost use Rattle.object_store.specs.Disk.{Leaves};
+ghost use Rattle.object_store.specs.Store.{content_of, device_of, disk_of, has_failed};
+ghost use Rattle.warehouse_objects.specs.Loaded.{IsLoaded};
+ghost use Rattle.warehouse_objects.specs.Represents.{AreItsMembers, Represents};
+ghost use Rattle.warehouse_objects.specs.Warehouse.{Warehouse};
+ghost use Rattle.stored_cuboids.specs.Keeping.{IsCaughtUp, IsDone, StoreAt};
+ghost use Rattle.stored_cuboids.specs.Nexts.{EndsBringing, RefusesLeast};
+
+use crate::bringing::bring_on;
+use cube_model::Fault;
+use dimensions::Dims;
+use lattice::View;
+use object_store::Store;
+use sector_device::Sectors;
+use std::alloc::Global;
+use warehouse_objects::ShipModes;
+use warehouse_root::Root;
+
+/// Brings each stored cuboid to the target, by ascending view and in one commit each. A view whose cuboid would have
+/// more than 262,144 cells is passed over; the answer is the first of these.
+///
+/// `Full` where the store has no room for the next run, and `Worn` at the last generation: the cuboids brought on until
+/// then stay, as they do where memory is missing. `Device` where the device fails. `BadLayout` where the content is
+/// that of no warehouse.
+pub fn catch_up<D: Sectors>(
+    alloc: Global,
+    store: &mut Store<D>,
+    dims: &Dims,
+    modes: &ShipModes,
+    root: &mut Root,
+) -> Result<Option<View>, Fault>
+    requires fine { has_failed store.old ≡ false }
+
+    // A crash at any point leaves the warehouse with the cuboids that were brought on until then.
+    ensures leaves { (w : Warehouse) → StoreAt D.Sectors store.old root.old w
+        → (D.keeps_word (device_of store.old) → AreItsMembers w dims.now modes.now)
+        → Leaves (disk_of D.Sectors store.old) (disk_of D.Sectors store.new)
+        (λ c. (v : Warehouse) × IsCaughtUp w v × Represents c v) }
+    ensures stays { (IsErrOf result Device → ⊥) → (w : Warehouse) → StoreAt D.Sectors store.old root.old w
+        → (D.keeps_word (device_of store.old) → AreItsMembers w dims.now modes.now)
+        → (v : Warehouse) × IsCaughtUp w v × StoreAt D.Sectors store.new root.new v }
+    ensures ok { IfOk result (λ passed. (w : Warehouse) → StoreAt D.Sectors store.old root.old w
+        → (D.keeps_word (device_of store.old) → AreItsMembers w dims.now modes.now)
+        → (v : Warehouse) × IsCaughtUp w v × StoreAt D.Sectors store.new root.new v
+        × (D.keeps_word (device_of store.new) → IsDone v passed)) }
+
+    // The store refused the commit that brings the least of the others on.
+    ensures reason { IfErr result (λ fault. fault ≢ Device → fault ≢ Memory → (w : Warehouse)
+        → StoreAt D.Sectors store.old root.old w
+        → (D.keeps_word (device_of store.old) → AreItsMembers w dims.now modes.now)
+        → (v : Warehouse) × IsCaughtUp w v × StoreAt D.Sectors store.new root.new v
+        × (D.keeps_word (device_of store.new) → RefusesLeast D.Sectors store.new v fault)) }
+    ensures readable { IsErrOf result BadLayout → D.keeps_word (device_of store.new) → (w : Warehouse)
+        → StoreAt D.Sectors store.old root.old w
+        → (D.keeps_word (device_of store.old) → AreItsMembers w dims.now modes.now) → ⊥ }
+    ensures causes { IfErr result EndsBringing }
+    ensures failed { IsErrOf result Failed → ⊥ }
+    ensures device { IsErrOf result Device → (has_failed store.new ≡ true)
+        × ((disk_of D.Sectors store.new).failures ≡ min ((disk_of D.Sectors store.old).failures + 1) (2 ^ 64 - 1)) }
+
+    // What is kept in memory stays that of the content.
+    ensures loaded { has_failed store.new ≡ false → D.keeps_word (device_of store.new)
+        → (rows : DimRows) (kept : List (List ℕ))
+        → IsLoaded (content_of D.Sectors store.old) rows kept root.old
+        → IsLoaded (content_of D.Sectors store.new) rows kept root.new }
+    ensures word { D.keeps_word (device_of store.new) → D.keeps_word (device_of store.old) }
+{
+    let _usable = store.is_broken();
+    let _layout = root.layout();
+    let count = root.cuboids().len();
+    let mut first = None;
+    for place in 0..count {
+        match bring_on(alloc, store, dims, modes, root, place) {
+            Ok(passed) => first = first.or(passed),
+            Err(fault) => return Err(fault),
+        }
+    }
+    Ok(first)
+}

@@ -1,6 +1,0 @@
-use Rattle.std.proofs.Common.{map, take}
-use Rattle.view_words.specs.Words.{ViewsAreNamed}
-use Rattle.view_words.proofs.reading.read_views.Given as goal
-
-abbrev pub invariant-loop-place : goal.invariant-loop-place
-invariant-loop-place l = ViewsAreNamed (map (λ word. word.now) (take l.place l.words)) l.views.items
