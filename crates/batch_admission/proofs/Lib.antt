@@ -1,4 +1,4 @@
 pub mod AcceptedLaws
 pub mod CallerLemmas
 pub mod FoundLaws
-pub mod ModeLaws
+pub mod ShipModesLemmas

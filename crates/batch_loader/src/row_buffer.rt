@@ -57,7 +57,7 @@ impl<T> RowBuffer<T> {
 }
 
 // Puts a row at a place, over the one there or after the last.
-#[tactic(auto, using(crate::proofs::RowBuffers::put_over, crate::proofs::RowBuffers::put_after))]
+#[tactic(auto, using(crate::proofs::RowBufferLemmas::put_over, crate::proofs::RowBufferLemmas::put_after))]
 fn put<T: Drop>(rows: &mut Vec<T>, place: usize, row: T) -> Result<(), Fault>
     requires { place ≤ length rows.old.items }
     ensures ok { OnOk result (take (place + 1) rows.new.items ≡ take place rows.old.items ++ row ∷ []) }

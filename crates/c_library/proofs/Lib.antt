@@ -1,7 +1,6 @@
 pub mod Ends
 pub mod Files
 pub mod Found
-pub mod LoadSteps
-pub mod Named
-pub mod Over
-pub mod Reported
+pub mod LoadingLemmas
+pub mod AnsweringLemmas
+pub mod ReportsLemmas

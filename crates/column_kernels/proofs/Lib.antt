@@ -2,8 +2,7 @@ mod Bits
 mod Blocks
 pub mod CallerLemmas
 mod Chunks
-mod Halves
-mod Keeping
-mod MaskBits
-mod Powers
+mod LanesLemmas
+mod ExtremesLemmas
+mod BlockLemmas
 mod Selecting

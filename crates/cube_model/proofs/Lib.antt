@@ -1,8 +1,4 @@
-mod AnswerLaws
+mod LawsLemmas
 pub mod Ascending
 pub mod Entries
-mod FractionLaws
-mod GroupingLaws
 pub mod KeyOrder
-mod MemberCounts
-mod ValidityLaws

@@ -1,6 +1,8 @@
 -- What a fold has in hand: tallies by the numbers of groups. Our own.
-use Rattle.std.specs.Prelude.{◌≡◌, ℕ, ◌<◌, List, [], ◌++◌, slice_index_or}
+use Rattle.std.specs.Prelude.{◌≡◌, ◌⊎◌, ℕ, ◌<◌, List, [], ◌++◌, Err, IfErr, OnErr, OnOk, Result, slice_index_or}
 use Rattle.cube_model.specs.declared.answer.Member.{Member}
+use Rattle.cube_model.specs.declared.fault.Fault.{Fault}
+use Rattle.cube_model.specs.declared.fault.Fault.TheVariants.{BadLayout, Memory}
 use Rattle.cube_model.specs.declared.query.Query.{Query}
 use Rattle.cube_model.specs.declared.rows.DimRows.{DimRows}
 use Rattle.cube_model.specs.declared.rows.LineOrder.{LineOrder}
@@ -59,3 +61,14 @@ pub record Takes (dimensions : DimRows) (old : FoldState) (rows : List LineOrder
   pub query : new.query ≡ old.query
   pub represents : (so_far : List LineOrder) → RepresentsRows dimensions old so_far
       → RepresentsRows dimensions new (so_far ++ rows)
+
+-- What a call that counts fact rows into a fold leaves of it, where P is all that is known of the rows: it represents
+-- them too. A refusal leaves it as it was, and BadLayout says that it can take no such rows.
+pub record CountsRowsIn {A : Type 0} (dimensions : DimRows) (P : List LineOrder → Type 0) (old new : FoldState)
+    (result : Result A Fault) : Type 0 where
+  pub over : IsOver dimensions new
+  pub query : new.query ≡ old.query
+  pub ok : OnOk result ((rows : List LineOrder) → P rows → Takes dimensions old rows new)
+  pub err : OnErr result (new ≡ old)
+  pub refused : result ≡ Err BadLayout → (rows : List LineOrder) → P rows → CanTake dimensions old rows → ⊥
+  pub only : IfErr result (λ fault. (fault ≡ Memory) ⊎ (fault ≡ BadLayout))

@@ -14,7 +14,6 @@ use group_tallies::{LIMIT, Tally, TooLarge, lengthen};
 /// Merges a cell in at a slot of each column. A column that does not reach the slot is made longer.
 ///
 /// `BadLayout` says that a tally cannot take the cell. What the columns have at the slot after a refusal is not said.
-#[inline]
 pub fn merge_cell(
     columns: &mut [Vec<Tally>],
     aggs: &[Agg],
@@ -36,7 +35,6 @@ pub fn merge_cell(
 }
 
 // Merges a cell in at a slot of a column, which is made longer if it does not reach the slot.
-#[inline]
 fn merge_in_column(column: &mut Vec<Tally>, agg: Agg, cell: &Cell, slot: u32) -> Result<(), Fault>
     ensures merged { OnOk result (MergesCells agg (cell.now ∷ []) (Some slot ∷ []) column.old.items column.new.items) }
     ensures refused { result ≡ Err Fault.BadLayout
@@ -53,7 +51,6 @@ fn merge_in_column(column: &mut Vec<Tally>, agg: Agg, cell: &Cell, slot: u32) ->
 }
 
 // Merges a cell in at a slot of a column that reaches the slot.
-#[inline]
 fn merge_at(column: &mut [Tally], agg: Agg, cell: &Cell, slot: u32) -> Result<(), TooLarge>
     requires { slot < length column.old }
     ensures ok { OnOk result (column.new
@@ -67,7 +64,6 @@ fn merge_at(column: &mut [Tally], agg: Agg, cell: &Cell, slot: u32) -> Result<()
 }
 
 // The tally of the rows of a cell, unless they are too many.
-#[inline]
 fn cell_tally(agg: Agg, cell: &Cell) -> Result<Tally, TooLarge>
     ensures ok { IfOk result (λ tally. tally ≡ cell_tally agg cell.now) }
     ensures err { OnErr result (2 ^ 63 ≤ cell.now.count) }

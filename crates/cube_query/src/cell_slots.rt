@@ -81,7 +81,6 @@ pub fn merge_cells(
 }
 
 // Merges a cell in at the slot of its group, if its rows are selected.
-#[inline]
 fn merge_one(
     numbers: &CellNumbers,
     slots: &mut Slots,
@@ -115,7 +114,6 @@ fn merge_one(
 }
 
 // The slot of the group of a cell, if its rows are selected.
-#[inline]
 fn cell_slot_of(numbers: &CellNumbers, slots: &mut Slots, cell: &Cell) -> Result<Option<u32>, Fault>
     requires cell { IsCellOf numbers.now.view cell.now }
     requires cover { Cover (group_count numbers.now.dimensions numbers.now.query.columns) slots.old }

@@ -17,7 +17,7 @@ ghost use Rattle.cube_query.specs.CellSlots.{AreMergedIn, HaveNoRepresentative, 
 ghost use Rattle.cube_query.specs.CellTallies.{GroupsHaveRoomFor};
 ghost use Rattle.group_tallies.specs.Columns.{tallies_at};
 ghost use Rattle.group_tallies.specs.GroupLines.{AreGroupsOver, answer_over};
-ghost use Rattle.cube_query.specs.Groups.{RepresentsRows, Begins, CanTake, IsFoldable, IsOver, Takes};
+ghost use Rattle.cube_query.specs.Groups.{RepresentsRows, Begins, CanTake, CountsRowsIn, IsFoldable, IsOver, Takes};
 ghost use Rattle.group_plan.specs.Numbers.{group_count, IsKnown};
 ghost use Rattle.group_plan.specs.Parts.{IsKnownFor};
 ghost use Rattle.group_plan.specs.Plans.{IsGroupPlanOver, query_of};
@@ -123,11 +123,7 @@ impl Fold {
     /// the time of the call some for each row.
     pub fn add_rows(&mut self, dims: &Dims, rows: &[LineOrder]) -> Result<(), Fault>
         requires { IsOver dims.now self.old }
-        ensures over { IsOver dims.now self.new }
-        ensures ok { OnOk result (Takes dims.now self.old rows.now self.new) }
-        ensures err { OnErr result (self.new ≡ self.old) }
-        ensures refused { result ≡ Err Fault.BadLayout → CanTake dims.now self.old rows.now → ⊥ }
-        ensures only { IfErr result (λ fault. (fault ≡ Fault.Memory) ⊎ (fault ≡ Fault.BadLayout)) }
+        ensures { CountsRowsIn dims.now (λ counted. counted ≡ rows.now) self.old self.new result }
     {
         self.add(dims, &RowSlice(rows))
     }
@@ -137,11 +133,7 @@ impl Fold {
     /// It asks nothing of the rows, and refuses them as `add_rows` does.
     pub fn add_segment(&mut self, dims: &Dims, segment: &Segment) -> Result<(), Fault>
         requires { IsOver dims.now self.old }
-        ensures over { IsOver dims.now self.new }
-        ensures ok { OnOk result (Takes dims.now self.old segment.now.rows self.new) }
-        ensures err { OnErr result (self.new ≡ self.old) }
-        ensures refused { result ≡ Err Fault.BadLayout → CanTake dims.now self.old segment.now.rows → ⊥ }
-        ensures only { IfErr result (λ fault. (fault ≡ Fault.Memory) ⊎ (fault ≡ Fault.BadLayout)) }
+        ensures { CountsRowsIn dims.now (λ counted. counted ≡ segment.now.rows) self.old self.new result }
     {
         self.add_batch(dims, segment.columns())
     }
@@ -154,15 +146,7 @@ impl Fold {
     /// at once, by sums over the columns.
     pub fn add_columns(&mut self, dims: &Dims, batch: FactColumns) -> Result<(), Fault>
         requires { IsOver dims.now self.old }
-        ensures over { IsOver dims.now self.new }
-        ensures query { self.new.query ≡ self.old.query }
-        ensures ok { OnOk result ((rows : List LineOrder) → AgreeOn (asked_columns self.old.query) batch.entry rows
-            → Takes dims.now self.old rows self.new) }
-        ensures err { OnErr result (self.new ≡ self.old) }
-        ensures refused { result ≡ Err Fault.BadLayout → (rows : List LineOrder)
-            → AgreeOn (asked_columns self.old.query) batch.entry rows
-            → CanTake dims.now self.old rows → ⊥ }
-        ensures only { IfErr result (λ fault. (fault ≡ Fault.Memory) ⊎ (fault ≡ Fault.BadLayout)) }
+        ensures { CountsRowsIn dims.now (AgreeOn (asked_columns self.old.query) batch.entry) self.old self.new result }
     {
         self.add_batch(dims, batch)
     }
@@ -181,16 +165,9 @@ impl Fold {
     ) -> Result<(), Fault>
         requires over { IsOver dims.now self.old }
         requires serves { Serves cells.now.view self.old.query }
-        ensures over { IsOver dims.now self.new }
-        ensures query { self.new.query ≡ self.old.query }
-        ensures ok { OnOk result ((rows : List LineOrder)
-            → RepresentRows dims.now (modes_of (option_map (λ modes. modes.now) modes.entry)) rows cells.now
-            → Takes dims.now self.old rows self.new) }
-        ensures err { OnErr result (self.new ≡ self.old) }
-        ensures refused { result ≡ Err Fault.BadLayout → (rows : List LineOrder)
-            → RepresentRows dims.now (modes_of (option_map (λ modes. modes.now) modes.entry)) rows cells.now
-            → CanTake dims.now self.old rows → ⊥ }
-        ensures only { IfErr result (λ fault. (fault ≡ Fault.Memory) ⊎ (fault ≡ Fault.BadLayout)) }
+        ensures { CountsRowsIn dims.now (λ rows.
+            RepresentRows dims.now (modes_of (option_map (λ modes. modes.now) modes.entry)) rows cells.now)
+            self.old self.new result }
     {
         one_key_one_group(dims);
         let slots = &mut self.slots;

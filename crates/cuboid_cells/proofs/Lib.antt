@@ -3,6 +3,6 @@ mod Climbing
 pub mod Continuing
 mod Decoded
 mod Fields
-mod Passing
-mod Underway
+mod PiecesLemmas
+mod MergingLemmas
 mod After

@@ -1,26 +1,23 @@
 mod Merged
 mod Found
-mod Grouped
+mod GroupingLemmas
 mod Sorted
 mod Added
 mod OneList
 mod Coded
 mod InRange
-mod Determined
-mod OneGroup
+mod LawsLemmas
 pub mod Represented
-mod Keyed
-mod Leading
+mod MemberKeysLemmas
+mod CodesLemmas
 mod Modes
-mod Taken
 mod Existing
 mod Ascending
 mod Members
 mod OwnModes
-mod NoModes
+mod TableLemmas
 mod Rows
 mod Slots
 mod Tables
-mod TakenRows
 mod Unwanted
 pub mod CallerLemmas

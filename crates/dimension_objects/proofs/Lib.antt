@@ -1,8 +1,6 @@
 pub mod Front
-pub mod Header
-pub mod Numbers
-pub mod Objects
+pub mod ReadingLemmas
+pub mod DecodingLemmas
 pub mod Refused
 pub mod SpelledLaws
-pub mod Stages
 pub mod Steps

@@ -1,2 +1,2 @@
 pub mod CallerLemmas
-pub mod Validity
+pub mod ReadingLemmas

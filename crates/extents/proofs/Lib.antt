@@ -1,8 +1,4 @@
-mod FirstFit
+mod FreeLemmas
 mod Gap
-mod GivenBack
-mod Joined
-mod Reordered
 mod Sectors
-mod Taken
-mod Walk
+mod GapsLemmas

@@ -3,12 +3,12 @@ pub mod DigitsOn
 pub mod EachDigit
 pub mod Extending
 pub mod Filtering
-pub mod FirstPlaces
+pub mod KindsLemmas
 pub mod Keys
-pub mod MemberPlaces
+pub mod MemberRowsLemmas
 pub mod Members
 pub mod Numbers
 pub mod OneKind
 pub mod Outcomes
-pub mod Room
+pub mod DigitsLemmas
 pub mod Split

@@ -1,5 +1,3 @@
-pub mod Cut
-pub mod Prefixes
-pub mod Spelled
-pub mod Steps
-pub mod Within
+pub mod ImageDiskLemmas
+pub mod LawsLemmas
+pub mod DiskLemmas

@@ -1,6 +1,4 @@
-pub mod Hierarchy
-pub mod Order
+pub mod LawsLemmas
 pub mod Places
-pub mod Serving
-pub mod Products
+pub mod ViewLemmas
 pub mod Needing

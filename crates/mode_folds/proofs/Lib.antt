@@ -1,13 +1,11 @@
 mod Adding
-mod ByCode
+mod CellPartsLemmas
 mod CellParts
 mod Chosen
 pub mod Counted
 mod Divides
 mod Finish
 mod Foldables
-mod Gather
-mod Modes
-mod OneMode
+mod JoiningLemmas
 mod Takes
 mod Whole

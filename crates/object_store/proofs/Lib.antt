@@ -1,21 +1,18 @@
 mod Catalogues
-mod CatalogueDecoded
-mod CataloguePlaces
-mod CatalogueRead
+mod CatalogueLemmas
 pub mod Lists
 pub mod Extents
-pub mod Written
+pub mod ExtentLemmas
 pub mod Frame
 pub mod After
-pub mod Placing
-pub mod Publishing
+pub mod PublishLemmas
 pub mod Fits
-pub mod Keyed
-pub mod Planned
+pub mod EntriesLemmas
+pub mod PlanLemmas
 pub mod Pieces
 pub mod DeviceCalls
 pub mod Looking
 pub mod Committing
 pub mod CallerLemmas
 pub mod Contents
-pub mod Creating
+pub mod CreateLemmas

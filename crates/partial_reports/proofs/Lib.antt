@@ -1,27 +1,20 @@
-mod Bytes
+mod MergeLawsLemmas
 pub mod CallerLemmas
 mod Cuts
 mod Cutting
-mod FieldsLeft
-mod Finishable
-mod Fits
+mod FieldsLemmas
 mod HeadTexts
-mod LinesLeft
+pub mod ReadingLemmas
 mod MergeLaws
 mod NumberTexts
 mod NumbersLeft
-mod PartLines
-mod Places
-pub mod Plain
-pub mod Pushed
-mod Ranges
-pub mod Read
+mod HeadReadingLemmas
+pub mod ReadableLemmas
+pub mod TextsLemmas
 mod ReadBack
-mod ReadableAnswers
 pub mod Rising
-pub mod Steps
+pub mod MergingLemmas
 mod TheOne
-mod Unfinished
-mod VersionLines
+mod FinishingLemmas
 mod WordLines
 mod WordTexts

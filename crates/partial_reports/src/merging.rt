@@ -16,7 +16,7 @@ use std::collections::VecDeque;
 /// alone is copied.
 ///
 /// `Memory`; and `TooManyRows` where a number would pass 128 bits, which those of 1,024 parts do not.
-#[tactic(auto, using(crate::proofs::Steps::went_on, crate::proofs::Steps::all_merged, crate::proofs::Steps::merged_rise))]
+#[tactic(auto, using(crate::proofs::MergingLemmas::lines_merged))]
 pub fn merge(
     alloc: Global,
     aggs: &[Agg],
@@ -46,7 +46,7 @@ pub fn merge(
 /// The lines of some partial answers merged, and of one more. The answer's lines are in the order of their keys.
 ///
 /// `Memory`; `BadLayout` where a value is no whole number; and `TooManyRows` where a number would pass 128 bits.
-#[tactic(auto, using(crate::proofs::Steps::same_rise))]
+#[tactic(auto, using(crate::proofs::MergingLemmas::same_rise))]
 pub fn merge_in(
     alloc: Global,
     query: &Query,

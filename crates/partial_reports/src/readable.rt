@@ -14,7 +14,7 @@ use std::cmp::Ordering;
 
 /// Checks that a line has a member for each column and a whole number for each aggregate, and its members can be read
 /// back.
-#[tactic(auto, using(crate::proofs::Plain::plain_members))]
+#[tactic(auto, using(crate::proofs::ReadableLemmas::plain_members))]
 pub(crate) fn check_readable(number: u64, query: &Query, line: &Line) -> Result<(), Refused>
     ensures ok { OnOk result (IsReadableLine query.now line.now) }
     ensures refused { OnErr result (IsReadableLine query.now line.now → ⊥) }

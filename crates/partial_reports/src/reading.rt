@@ -61,7 +61,7 @@ fn after_names<'a>(
 }
 
 // The lines up to their number, which ends the text. Each line takes a byte at least, so the loop does not end before.
-#[tactic(auto, using(crate::proofs::Read::no_lines, crate::proofs::Read::no_text, crate::proofs::Read::one_more, crate::proofs::Read::all_read))]
+#[tactic(auto, using(crate::proofs::ReadingLemmas::lines_taken))]
 fn read_lines(alloc: Global, query: &Query, first: u64, text: &[u8]) -> Result<Items<Line>, Refused>
     ensures spelled { IfOk result (SpellsPartLines query.now text.now) }
     ensures complete { (lines : List Line) → SpellsPartLines query.now text.now lines

@@ -3,6 +3,6 @@ mod Faults
 mod Folding
 mod Members
 pub mod ModesPlanned
-mod Reading
-mod Steps
+mod ModeBatchesLemmas
+mod SteppingLemmas
 mod Views

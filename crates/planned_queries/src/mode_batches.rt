@@ -1,4 +1,4 @@
-//! Batches of a store that are counted into a fold, one after another.
+//! Batches of a store that are counted into the folds by ship mode, one after another.
 ghost use Rattle.std.specs.Prelude.{◌≡◌, ◌⊎◌, ◌<◌, ◌≤◌, ◌+◌, List, false, Some, length, slice_get, take};
 ghost use Rattle.std.specs.Prelude.{IfErr, IfSome, IsErrOf, OnOk};
 ghost use Rattle.cube_model.specs.declared.fault.Fault.TheVariants.{BadLayout, Device, Memory};

@@ -1,4 +1,4 @@
-//! Counting a batch into a fold, through its cells where a view serves the query.
+//! Counting a batch into the folds by ship mode, through its cells where a view serves the query.
 ghost use Rattle.std.specs.Prelude.{◌≡◌, ◌⊎◌, Err, IfErr, IfOk, IfSome, OnOk};
 ghost use Rattle.mode_folds.specs.States.{CanTakeByModes, IsOverByModes, TakesByModes};
 ghost use Rattle.planned_queries.specs.ModesCounted.{AreCellsOf, ServesWithModes};

@@ -1,4 +1,4 @@
-//! An answer that was found, with the dimensions that have its texts.
+//! An answer to a query that looks at ship modes, with the dimensions that have its texts.
 ghost use Rattle.std.specs.Prelude.{◌≡◌};
 ghost use Rattle.mode_folds.specs.Answered.{IsAnsweredOver, answered_over, lines_in};
 

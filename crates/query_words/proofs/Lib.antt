@@ -1,8 +1,8 @@
 pub mod Apart
 pub mod Cutting
-pub mod Divided
+pub mod WordsLemmas
 pub mod Ends
-mod Least
+mod NearnessLemmas
 pub mod Limited
 pub mod Listed
 mod NamedViews
@@ -11,4 +11,3 @@ pub mod Placed
 pub mod Refusals
 pub mod Shapes
 pub mod Signs
-pub mod Whole

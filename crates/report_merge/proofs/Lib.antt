@@ -1,15 +1,13 @@
-mod Apart
+mod NumbersLemmas
 mod Ascent
 mod Counted
-mod Finished
+mod MergeLemmas
 mod Gaps
 mod Given
 mod Grown
 mod Refusing
-mod Remaining
-pub mod Rising
-mod Sorted
-mod Takings
-mod Whole
-mod Writing
-mod Written
+mod ReadersLemmas
+pub mod FinishingLemmas
+mod OrderingLemmas
+mod WordsLemmas
+mod LawsLemmas

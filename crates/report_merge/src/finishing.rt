@@ -37,7 +37,7 @@ fn has_average(aggregates: &[Agg]) -> bool
 
 /// The lines of a partial answer as they are, or with the count of each once more after all numbers. It can only fail
 /// when out of memory.
-#[tactic(auto, using(crate::proofs::Rising::recounted_rise))]
+#[tactic(auto, using(crate::proofs::FinishingLemmas::recounted_rise))]
 pub(crate) fn counted_lines(
     alloc: Global,
     counts: bool,
@@ -94,7 +94,7 @@ fn count_in(numbers: &[i128]) -> Option<i128>
 /// The answer to a query over all rows, of the lines of its partial answer. They are in the order of their keys.
 ///
 /// `SumRange` and `TooManyRows` where a number passes 64 bits, `BadLayout` where a line counts no row; or `Memory`.
-#[tactic(auto, using(crate::proofs::Rising::finished_rise))]
+#[tactic(auto, using(crate::proofs::FinishingLemmas::finished_rise))]
 pub(crate) fn finished(alloc: Global, query: &Query, lines: Vec<WideLine>) -> Result<Answer, Fault>
     requires { Rise lines.items }
     ensures ok { IfOk result (λ answer. answer ≡ finished query.now (record { lines = narrow_lines lines.items })) }

@@ -1,1 +1,1 @@
-pub mod LookUps
+pub mod KeptLemmas

@@ -2,8 +2,7 @@ pub mod Admitting
 pub mod Batches
 pub mod Endings
 pub mod Modes
-pub mod Partly
-pub mod Pieces
-pub mod WholeText
-pub mod Taking
+pub mod PartialLemmas
+pub mod FactsLemmas
+pub mod LawsLemmas
 pub mod KeptLines

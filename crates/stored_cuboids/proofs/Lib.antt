@@ -1,22 +1,18 @@
 pub mod Auditing
-mod BatchSpans
-mod Brought
+mod BatchesLemmas
+mod BringingLemmas
 pub mod CallerLemmas
 pub mod CountedRuns
-mod Faults
 mod LaterReads
 mod Made
-mod Members
 pub mod Merging
-mod OneMore
 mod Places
-mod Read
 mod Replaced
 pub mod Represented
-pub mod SameCells
+pub mod AuditLemmas
 mod Spans
-mod Stepping
+mod KeepingLemmas
 pub mod StoredRuns
-mod Tails
+mod NextsLemmas
 mod Turns
-mod Upkept
+mod UpkeepLemmas

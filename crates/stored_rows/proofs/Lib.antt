@@ -3,14 +3,14 @@ pub mod CallerLemmas
 pub mod Cells
 pub mod Codes
 mod Firsts
-mod Fitting
+mod OwnModesLemmas
 pub mod Known
 mod MoreReads
 mod OneBatchMore
 mod PassedTexts
 mod Puts
 mod Rows
-mod RowsAmong
+mod AmongLemmas
 mod TextColumns
-mod TextPart
+mod TextPartLemmas
 mod Widened

@@ -1,10 +1,6 @@
-pub mod CarriageReturns
+pub mod LawsLemmas
 pub mod Counting
-pub mod Decimals
-pub mod DimensionsBack
-pub mod FactsBack
-pub mod Lines
-pub mod Places
+pub mod ListingLemmas
+pub mod DimensionLemmas
 pub mod Ranks
-pub mod ReadBack
 pub mod Written

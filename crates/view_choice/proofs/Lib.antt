@@ -3,7 +3,7 @@ mod BenefitLaws
 mod Members
 mod Shrinking
 mod Guarantee
-mod Kept
-mod Greatest
+mod ChoiceLemmas
+mod CostsLemmas
 mod Steps
-mod Existence
+mod LawsLemmas

@@ -1,26 +1,21 @@
 pub mod Added
 mod Additions
 pub mod CallerLemmas
-mod CopiedCuboids
-mod CopiedNoRows
+mod CopiedCuboidsLemmas
+mod CopiedTablesLemmas
 mod CopiedParts
-mod CopiedStored
-mod CopyAnswers
-mod CopyBegins
+mod CopyLawsLemmas
+mod CopyingLemmas
 mod CopyCauses
 mod Cuboids
-pub mod Cuts
-mod Dumped
-pub mod Endings
-mod Explained
-mod Migrations
-pub mod PartlyReported
-pub mod Performed
-mod PlanLines
+pub mod LoadingLemmas
+mod DumpingLemmas
+mod ExplainingLemmas
+mod MigratingLemmas
+pub mod PartialLemmas
+pub mod PerformingLemmas
+mod PlanLinesLemmas
 pub mod Reports
 pub mod ShipModes
-pub mod Stepping
-pub mod Through
 pub mod Turns
-pub mod UnknownKeys
 mod Written

@@ -5,6 +5,7 @@
 #![tactic(auto)]
 
 mod adding;
+mod answer_form;
 mod answer_laws;
 mod answering;
 mod checking;
@@ -17,7 +18,6 @@ mod copying;
 mod dump_laws;
 mod dumping;
 mod explaining;
-mod form;
 mod formatting;
 mod job;
 mod keeping;

@@ -2,7 +2,7 @@
 ghost use Rattle.std.specs.Prelude.{◌≡◌};
 ghost use Rattle.warehouse_jobs.specs.Lines.{reported_lines};
 
-use crate::form::Form;
+use crate::answer_form::AnswerForm;
 use cube_model::{Fault, Value};
 use group_tallies::GroupLines;
 use mode_folds::AnsweredLines;
@@ -13,7 +13,7 @@ use std::marker::Model;
 
 /// An answer that was found, with the dimensions that have its texts. Contracts see the answer.
 pub struct Reported {
-    form: Form,
+    form: AnswerForm,
 }
 
 // Written out, so that a proof has one call to follow where an answer is let go.
@@ -38,7 +38,7 @@ impl Reported {
         ensures { result ≡ found }
     {
         Reported {
-            form: Form::Plain(found),
+            form: AnswerForm::Plain(found),
         }
     }
 
@@ -47,7 +47,7 @@ impl Reported {
         ensures { result ≡ found }
     {
         Reported {
-            form: Form::ByModes(found),
+            form: AnswerForm::ByModes(found),
         }
     }
 
@@ -56,8 +56,8 @@ impl Reported {
         ensures { reported_lines result ≡ self.now.lines }
     {
         match &self.form {
-            Form::Plain(found) => ReportedLines::Plain(found.lines()),
-            Form::ByModes(found) => ReportedLines::ByModes(found.lines()),
+            AnswerForm::Plain(found) => ReportedLines::Plain(found.lines()),
+            AnswerForm::ByModes(found) => ReportedLines::ByModes(found.lines()),
         }
     }
 }

@@ -5,12 +5,11 @@ pub mod Batches
 pub mod CallerLemmas
 pub mod Chosen
 pub mod Contents
-pub mod Dimensions
+pub mod ReadingLemmas
 pub mod Folded
 pub mod Lengths
 pub mod ModesRead
-pub mod Numbers
+pub mod StorableLemmas
 pub mod OneMoreRead
-pub mod Roots
 pub mod Rows
 pub mod KeptModes

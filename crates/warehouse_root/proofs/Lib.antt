@@ -1,9 +1,8 @@
 pub mod CallerLemmas
 pub mod ModesLaws
-mod Climbs
-mod Decoded
+mod LawsLemmas
+mod ReadingLemmas
 mod Fields
-mod ModesRead
-mod Moved
-mod Numbers
-mod Placed
+mod ModesLemmas
+mod RootLemmas
+mod ObjectsLemmas

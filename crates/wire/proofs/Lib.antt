@@ -2,4 +2,4 @@ pub mod Ascending
 pub mod CallerLemmas
 mod FieldLemmas
 pub mod Stopped
-mod Together
+mod WholeLemmas

@@ -2,8 +2,8 @@ use Rattle.std.proofs.Common.{◌∙◌, ◌<◌, ◌+◌, ℕ, List, Option, So
 use Rattle.dictionary.specs.Columns.{text_of_code}
 use Rattle.dictionary.specs.Dictionary.{Adds}
 use Rattle.batch_admission.specs.ShipModes.{row_number_at}
-use Rattle.batch_admission.proofs.ModeLaws.{Adding, adding_again, adding_more, adding_none, code_below}
-use Rattle.batch_admission.proofs.ModeLaws.{mark_is, no_text, some_text}
+use Rattle.batch_admission.proofs.ShipModesLemmas.{Adding, adding_again, adding_more, adding_none, code_below, mark_is}
+use Rattle.batch_admission.proofs.ShipModesLemmas.{no_text, some_text}
 use Rattle.batch_admission.proofs.ship_modes.add_modes.Goals as goal
 
 pub index-requires : goal.index-requires

@@ -1,4 +1,4 @@
-use Rattle.batch_admission.proofs.ModeLaws.{Adding}
+use Rattle.batch_admission.proofs.ShipModesLemmas.{Adding}
 use Rattle.batch_admission.proofs.ship_modes.add_modes.Given as goal
 
 abbrev pub invariant-loop-place : goal.invariant-loop-place

@@ -1,8 +1,8 @@
 use Rattle.std.proofs.Common.{◌∙◌, ◌<◌, ℕ, codes, not, length, sym, ap, subst, arith, below_more}
 use Rattle.std.specs.Str.{bytes_eq}
 use Rattle.batch_admission.specs.ShipModes.{row_number_at, texts_by}
-use Rattle.batch_admission.proofs.ModeLaws.{code_below, length-texts_by, no_text, none_reserved, nowhere, position_at}
-use Rattle.batch_admission.proofs.ModeLaws.{text_matches}
+use Rattle.batch_admission.proofs.ShipModesLemmas.{code_below, length-texts_by, no_text, none_reserved, nowhere}
+use Rattle.batch_admission.proofs.ShipModesLemmas.{position_at, text_matches}
 use Rattle.batch_admission.proofs.ship_modes.reserved_row.Goals as goal
 
 pub returns-then-is_none : goal.returns-then-is_none

@@ -1,4 +1,4 @@
-use Rattle.batch_loader.proofs.Spelling.{fields-spelled, spelled-fields}
+use Rattle.batch_loader.proofs.LawsLemmas.{fields-spelled, spelled-fields}
 use Rattle.batch_loader.proofs.laws.fields_are_spelled.Goals as goal
 
 pub returns : goal.returns

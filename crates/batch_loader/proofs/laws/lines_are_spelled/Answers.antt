@@ -1,4 +1,4 @@
-use Rattle.batch_loader.proofs.LineSpelling.{text-spells, spelled-lines}
+use Rattle.batch_loader.proofs.LawsLemmas.{text-spells, spelled-lines}
 use Rattle.batch_loader.proofs.laws.lines_are_spelled.Goals as goal
 
 pub returns : goal.returns

@@ -1,6 +1,6 @@
 use Rattle.std.proofs.Common.{◌∙◌, sym, arith, ◌+◌, ◌-◌, ◌*◌, get_or, drop}
-use Rattle.batch_loader.proofs.Digits.{number_from-large, number_from-digit, number_from-stop, number_from-past}
-use Rattle.batch_loader.proofs.Digits.{number_of-start}
+use Rattle.batch_loader.proofs.NumbersLemmas.{number_from-large, number_from-digit, number_from-stop, number_from-past}
+use Rattle.batch_loader.proofs.NumbersLemmas.{number_of-start}
 use Rattle.batch_loader.proofs.numbers.number.Goals as goal
 
 pub returns-in_default : goal.returns-in_default

@@ -1,6 +1,6 @@
 use Rattle.std.proofs.Common.{◌≡◌, ◌≤◌, drop}
 use Rattle.batch_loader.specs.Numbers.{number_spelled}
-use Rattle.batch_loader.proofs.Digits.{number_from}
+use Rattle.batch_loader.proofs.NumbersLemmas.{number_from}
 use Rattle.batch_loader.proofs.numbers.number.Given as goal
 
 abbrev pub invariant-loop-i : goal.invariant-loop-i

@@ -1,6 +1,6 @@
 use Rattle.std.proofs.Common.{◌≡◌, ◌+◌, ◌-◌, ◌∙◌, ap, arith, slice_range, rules}
 use Rattle.batch_loader.specs.Numbers.{digits_value}
-use Rattle.batch_loader.proofs.ShortNumbers.{number_of-within, number_of-above}
+use Rattle.batch_loader.proofs.NumbersLemmas.{number_of-within, number_of-above}
 use Rattle.batch_loader.proofs.numbers.number_between.Goals as goal
 
 pub returns-then-value-limit : goal.returns-then-value-limit

@@ -2,7 +2,7 @@ use Rattle.std.proofs.Common.{◌≡◌, ◌+◌, ◌-◌, subst, [], drop, take
 use Rattle.std.specs.Io.KnownBytes.{prepend_known}
 use Rattle.batch_loader.specs.Reading.{TakesLine}
 use Rattle.batch_loader.proofs.LineFronts.{IsFront-start}
-use Rattle.batch_loader.proofs.Pieces.{TakesLine-at}
+use Rattle.batch_loader.proofs.WindowLemmas.{TakesLine-at}
 use Rattle.batch_loader.proofs.window.line_at_front.Goals as goal
 
 pub returns-in-Some-clause-line : goal.returns-in-Some-clause-line

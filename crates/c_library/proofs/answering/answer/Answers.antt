@@ -1,7 +1,7 @@
 use Rattle.std.proofs.Common.{inr, None}
 use Rattle.std.proofs.lemmas.Result.{IfErr-weaker, IfOk-weaker}
 use Rattle.warehouse.specs.Found.{MayRepresent}
-use Rattle.c_library.proofs.Over.{over_sectors}
+use Rattle.c_library.proofs.AnsweringLemmas.{over_sectors}
 use Rattle.c_library.proofs.answering.answer.Goals as goal
 
 pub returns-clause-answers : goal.returns-clause-answers

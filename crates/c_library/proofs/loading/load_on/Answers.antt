@@ -2,7 +2,7 @@ use Rattle.std.proofs.Common.{None, subst, sym}
 use Rattle.cube_model.specs.declared.fault.Fault.{Fault}
 use Rattle.c_library.specs.Loading.{LoadRefuses, LoadsOn}
 use Rattle.warehouse.specs.Session.{device_of}
-use Rattle.c_library.proofs.LoadSteps.{loads_on, not_opened, refuses}
+use Rattle.c_library.proofs.LoadingLemmas.{loads_on, not_opened, refuses}
 use Rattle.c_library.proofs.loading.load_on.Goals as goal
 
 pub returns-in-Err-clause-refused : goal.returns-in-Err-clause-refused

@@ -1,7 +1,7 @@
 use Rattle.std.proofs.Common.{w64, to_z, of_z, to_z-of_z, ◌≡◌, ◌∙◌, ap}
 use Rattle.std.proofs.lemmas.Result.{IfErr-weaker, IfOk-weaker}
 use Rattle.c_library.specs.Reports.{prefix_of}
-use Rattle.c_library.proofs.Reported.{refuses, reports}
+use Rattle.c_library.proofs.ReportsLemmas.{refuses, reports}
 use Rattle.c_library.specs.Words.{cube_words}
 use Rattle.c_library.proofs.reports.cube_report.Goals as goal
 

@@ -1,6 +1,6 @@
 use Rattle.std.proofs.Common.{nat_le, arith}
 use Rattle.std.specs.Int.{w8}
-use Rattle.column_kernels.proofs.MaskBits.{bitmask_splat_left}
+use Rattle.column_kernels.proofs.BlockLemmas.{bitmask_splat_left}
 use Rattle.column_kernels.proofs.block.at_least.Goals as goal
 
 pub returns : goal.returns

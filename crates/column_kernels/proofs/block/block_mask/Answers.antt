@@ -1,6 +1,6 @@
 use Rattle.std.proofs.Common.{rules}
 use Rattle.std.proofs.Common.{ℕ, Bool, nat_le, ◌&&◌}
-use Rattle.column_kernels.proofs.MaskBits.{row_bits, few_bits}
+use Rattle.column_kernels.proofs.BlockLemmas.{row_bits, few_bits}
 use Rattle.column_kernels.proofs.block.block_mask.Goals as goal
 
 within : ℕ × ℕ → ℕ → Bool

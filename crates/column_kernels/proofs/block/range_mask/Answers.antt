@@ -1,5 +1,5 @@
 use Rattle.std.proofs.Common.{nat_le}
-use Rattle.column_kernels.proofs.MaskBits.{range_bits}
+use Rattle.column_kernels.proofs.BlockLemmas.{range_bits}
 use Rattle.column_kernels.proofs.block.range_mask.Goals as goal
 
 pub returns : goal.returns

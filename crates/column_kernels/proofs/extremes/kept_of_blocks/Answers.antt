@@ -2,7 +2,7 @@ use Rattle.std.proofs.Common.{◌≡◌, ◌<◌, ◌≤◌, ◌*◌, ℕ, ℤ, 
 use Rattle.std.specs.List.{flat_map}
 use Rattle.column_kernels.specs.Extremes.{kept_extremes}
 use Rattle.column_kernels.specs.Masks.{bits_of, selected_by}
-use Rattle.column_kernels.proofs.Keeping.{kept_block}
+use Rattle.column_kernels.proofs.ExtremesLemmas.{kept_block}
 use Rattle.column_kernels.proofs.extremes.kept_of_blocks.Goals as goal
 
 pub loop-i-preserved : goal.loop-i-preserved

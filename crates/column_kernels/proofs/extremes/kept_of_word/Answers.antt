@@ -6,7 +6,7 @@ use Rattle.std.specs.Int.{bit_at, w128}
 use Rattle.column_kernels.specs.declared.extremes.Extremes.{Extremes}
 use Rattle.column_kernels.specs.Extremes.{kept_extremes, kept_with}
 use Rattle.column_kernels.specs.Masks.{bits_of}
-use Rattle.column_kernels.proofs.Keeping.{kept_row}
+use Rattle.column_kernels.proofs.ExtremesLemmas.{kept_row}
 use Rattle.column_kernels.proofs.extremes.kept_of_word.Goals as goal
 
 pub loop-i-init : goal.loop-i-init

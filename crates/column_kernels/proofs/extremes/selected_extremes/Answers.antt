@@ -3,7 +3,7 @@ use Rattle.std.specs.List.{flat_map}
 use Rattle.column_kernels.specs.Extremes.{extremes_of}
 use Rattle.column_kernels.specs.Masks.{bits_of, selected_by}
 use Rattle.column_kernels.proofs.Blocks.{view_long}
-use Rattle.column_kernels.proofs.Keeping.{kept_whole}
+use Rattle.column_kernels.proofs.ExtremesLemmas.{kept_whole}
 use Rattle.column_kernels.proofs.extremes.selected_extremes.Goals as goal
 
 pub kept_of_blocks-kept-requires-clause-rows : goal.kept_of_blocks-kept-requires-clause-rows

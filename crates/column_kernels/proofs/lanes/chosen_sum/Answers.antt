@@ -4,7 +4,7 @@ use Rattle.std.specs.List.{sum}
 use Rattle.std.specs.Simd.Lanes.{Steps, fold_l, sel_l, sum_l}
 use Rattle.column_kernels.specs.Masks.{bits_of, selected_by}
 use Rattle.column_kernels.proofs.Bits.{length-bits_of}
-use Rattle.column_kernels.proofs.Powers.{chosen_lanes}
+use Rattle.column_kernels.proofs.LanesLemmas.{chosen_lanes}
 use Rattle.column_kernels.proofs.Selecting.{sum_is, chosen_sum, selected-le}
 use Rattle.column_kernels.proofs.lanes.chosen_sum.Goals as goal
 

@@ -1,6 +1,6 @@
 use Rattle.std.proofs.Common.{List, ℕ, ◌<◌, subst, sym}
 use Rattle.std.specs.Simd.Lanes.{Each1}
-use Rattle.column_kernels.proofs.Halves.{shifted_high, high_small}
+use Rattle.column_kernels.proofs.LanesLemmas.{shifted_high, high_small}
 use Rattle.column_kernels.proofs.lanes.high_halves.Goals as goal
 
 pub returns-clause-value : goal.returns-clause-value

@@ -1,6 +1,6 @@
 use Rattle.std.proofs.Common.{List, ℕ, ◌<◌, subst, sym}
 use Rattle.std.specs.Simd.Lanes.{Each1}
-use Rattle.column_kernels.proofs.Halves.{masked_low, low_small}
+use Rattle.column_kernels.proofs.LanesLemmas.{masked_low, low_small}
 use Rattle.column_kernels.proofs.lanes.low_halves.Goals as goal
 
 pub returns-clause-value : goal.returns-clause-value

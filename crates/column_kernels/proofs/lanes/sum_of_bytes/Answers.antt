@@ -1,6 +1,6 @@
 use Rattle.std.proofs.Common.{◌<◌, ◌^◌, ℕ, List, sym, subst}
 use Rattle.std.specs.Simd.Lanes.{sum_l}
-use Rattle.column_kernels.proofs.Halves.{bytes_sum, bytes_small}
+use Rattle.column_kernels.proofs.LanesLemmas.{bytes_sum, bytes_small}
 use Rattle.column_kernels.proofs.lanes.sum_of_bytes.Goals as goal
 
 pub chosen_sum-requires-clause-small : goal.chosen_sum-requires-clause-small

@@ -3,7 +3,7 @@ use Rattle.std.proofs.lemmas.List.{length-map}
 use Rattle.std.specs.List.{sum}
 use Rattle.column_kernels.specs.Masks.{bits_of, selected_by}
 use Rattle.column_kernels.specs.Sums.{low, high}
-use Rattle.column_kernels.proofs.Halves.{halves_sum}
+use Rattle.column_kernels.proofs.LanesLemmas.{halves_sum}
 use Rattle.column_kernels.proofs.Selecting.{sum_by_halves}
 use Rattle.column_kernels.proofs.lanes.sum_of_numbers.Goals as goal
 

@@ -1,6 +1,6 @@
 use Rattle.std.proofs.Common.{◌≡◌, ◌<◌, ℕ, Bool, List, map, sym, subst, ap, ◌∙◌, arith}
 use Rattle.std.specs.Simd.Lanes.{Each1}
-use Rattle.column_kernels.proofs.Halves.{bytes_small}
+use Rattle.column_kernels.proofs.LanesLemmas.{bytes_small}
 use Rattle.std.specs.List.{sum}
 use Rattle.column_kernels.specs.Masks.{bits_of, selected_by}
 use Rattle.column_kernels.specs.Sums.{numbers_of, products, low, high}

@@ -1,4 +1,4 @@
-use Rattle.column_kernels.proofs.Halves.{products_fit, products_sum}
+use Rattle.column_kernels.proofs.LanesLemmas.{products_fit, products_sum}
 use Rattle.column_kernels.proofs.lanes.times.Goals as goal
 
 pub overflow_mul-result : goal.overflow_mul-result

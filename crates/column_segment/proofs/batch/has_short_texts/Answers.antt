@@ -1,4 +1,4 @@
-use Rattle.column_segment.proofs.Short.{short_texts}
+use Rattle.column_segment.proofs.BatchLemmas.{short_texts}
 use Rattle.column_segment.proofs.batch.has_short_texts.Goals as goal
 
 pub returns : goal.returns

@@ -1,4 +1,4 @@
-use Rattle.column_segment.proofs.Short.{batch_of}
+use Rattle.column_segment.proofs.BatchLemmas.{batch_of}
 use Rattle.column_segment.proofs.batch.is_batch.Goals as goal
 
 pub returns : goal.returns

@@ -1,5 +1,5 @@
 use Rattle.std.proofs.Common.{arith}
-use Rattle.column_segment.proofs.CodesRead.{codes_read}
+use Rattle.column_segment.proofs.CodingLemmas.{codes_read}
 use Rattle.column_segment.proofs.coding.coded_column.Goals as goal
 
 pub returns : goal.returns

@@ -1,4 +1,4 @@
-use Rattle.column_segment.proofs.Extremal.{of_amounts}
+use Rattle.column_segment.proofs.ExtremesLemmas.{of_amounts}
 use Rattle.column_segment.proofs.extremes.extremes_of_amounts.Goals as goal
 
 pub returns : goal.returns

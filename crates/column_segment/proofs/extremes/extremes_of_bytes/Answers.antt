@@ -1,4 +1,4 @@
-use Rattle.column_segment.proofs.Extremal.{of_bytes}
+use Rattle.column_segment.proofs.ExtremesLemmas.{of_bytes}
 use Rattle.column_segment.proofs.extremes.extremes_of_bytes.Goals as goal
 
 pub returns : goal.returns

@@ -1,4 +1,4 @@
-use Rattle.column_segment.proofs.Extremal.{of_discounted}
+use Rattle.column_segment.proofs.ExtremesLemmas.{of_discounted}
 use Rattle.column_segment.proofs.extremes.extremes_of_discounted.Goals as goal
 
 pub returns : goal.returns

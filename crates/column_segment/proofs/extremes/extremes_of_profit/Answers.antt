@@ -1,4 +1,4 @@
-use Rattle.column_segment.proofs.Extremal.{of_profit}
+use Rattle.column_segment.proofs.ExtremesLemmas.{of_profit}
 use Rattle.column_segment.proofs.extremes.extremes_of_profit.Goals as goal
 
 pub returns : goal.returns

@@ -1,5 +1,5 @@
 use Rattle.std.proofs.Common.{◌∙◌, arith, sym, true≢false}
-use Rattle.column_segment.proofs.Front.{front_fits, front_found}
+use Rattle.column_segment.proofs.ProjectingLemmas.{front_fits, front_found}
 use Rattle.column_segment.proofs.Shared.{columns_there, numbers_there}
 use Rattle.column_segment.proofs.projecting.read_at_once.Goals as goal
 

@@ -3,7 +3,7 @@ use Rattle.std.specs.List.{AllByRecursion}
 use Rattle.wire.proofs.CallerLemmas.{HasRead-then}
 use Rattle.wire.specs.Runs.{HasRead}
 use Rattle.column_segment.specs.Projected.{FitsColumnIn, ShareColumn}
-use Rattle.column_segment.proofs.MoreReads.{ends_later, ends_word, err_later, one_more}
+use Rattle.column_segment.proofs.ProjectingLemmas.{ends_later, ends_word, err_later, one_more}
 use Rattle.column_segment.proofs.Shared.{columns_there, numbers_there}
 use Rattle.column_segment.proofs.projecting.read_columns.Goals as goal
 

@@ -1,4 +1,4 @@
-use Rattle.column_segment.proofs.Tests.{has_all}
+use Rattle.column_segment.proofs.ReadingLemmas.{has_all}
 use Rattle.column_segment.proofs.reading.has_numbers.Goals as goal
 
 pub returns : goal.returns

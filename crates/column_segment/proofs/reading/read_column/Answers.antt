@@ -4,7 +4,7 @@ use Rattle.cube_model.specs.Limits.{most_batch_rows}
 use Rattle.dictionary.specs.Spelling.{BeginsWithNone, ReadsTexts, texts_spelling}
 use Rattle.column_segment.specs.Reading.{BeginsWithCodes}
 use Rattle.column_segment.proofs.Passes.{left_at, no_codes, no_dictionary, within_left}
-use Rattle.column_segment.proofs.Refused.{refused}
+use Rattle.column_segment.proofs.ReadingLemmas.{refused}
 use Rattle.column_segment.proofs.reading.read_column.Goals as goal
 
 pub returns-in_err-texts-clause-refused : goal.returns-in_err-texts-clause-refused

@@ -1,6 +1,6 @@
 use Rattle.std.proofs.Common.{◌+◌, ◌*◌}
 use Rattle.column_segment.proofs.Passes.{none_first, none_second}
-use Rattle.column_segment.proofs.Refused.{refused}
+use Rattle.column_segment.proofs.ReadingLemmas.{refused}
 use Rattle.column_segment.proofs.reading.read_first_two.Goals as goal
 
 pub returns-in_err-orderpriority-clause-refused : goal.returns-in_err-orderpriority-clause-refused

@@ -1,6 +1,7 @@
 use Rattle.std.proofs.Common.{subst, List, ℕ, codes, refl}
 use Rattle.wire.specs.Reading.{TakesBytes}
-use Rattle.column_segment.proofs.Header.{header_is, none_many, none_name, none_number, none_rows, other_name, own_name}
+use Rattle.column_segment.proofs.ReadingLemmas.{header_is, none_many, none_name, none_number, none_rows, other_name}
+use Rattle.column_segment.proofs.ReadingLemmas.{own_name}
 use Rattle.column_segment.proofs.reading.read_header.Goals as goal
 
 pub returns-then-ne-clause-none : goal.returns-then-ne-clause-none

@@ -1,6 +1,6 @@
 use Rattle.std.proofs.Common.{inr, refl}
 use Rattle.column_segment.proofs.Passes.{none_end, none_fourth, none_third}
-use Rattle.column_segment.proofs.Refused.{refused}
+use Rattle.column_segment.proofs.ReadingLemmas.{refused}
 use Rattle.column_segment.proofs.reading.read_last_two.Goals as goal
 
 pub returns-in_err-commitdate-clause-refused : goal.returns-in_err-commitdate-clause-refused

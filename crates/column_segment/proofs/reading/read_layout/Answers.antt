@@ -1,6 +1,6 @@
 use Rattle.std.proofs.Common.{inr, refl, sym, true≢false, ◌∙◌}
 use Rattle.column_segment.proofs.Passes.{none_header, none_numbers, none_texts}
-use Rattle.column_segment.proofs.Refused.{refused}
+use Rattle.column_segment.proofs.ReadingLemmas.{refused}
 use Rattle.column_segment.proofs.Whole.{whole}
 use Rattle.column_segment.proofs.reading.read_layout.Goals as goal
 

@@ -1,6 +1,6 @@
 use Rattle.std.proofs.Common.{◌+◌, ◌*◌}
 use Rattle.column_segment.proofs.Passes.{none_last}
-use Rattle.column_segment.proofs.Refused.{refused}
+use Rattle.column_segment.proofs.ReadingLemmas.{refused}
 use Rattle.column_segment.proofs.reading.read_texts.Goals as goal
 
 pub returns-in_err-last-clause-refused : goal.returns-in_err-last-clause-refused

@@ -1,4 +1,4 @@
-use Rattle.cube_model.proofs.AnswerLaws.{answer-IsAnswer, answer-unique}
+use Rattle.cube_model.proofs.LawsLemmas.{answer-IsAnswer, answer-unique}
 use Rattle.cube_model.proofs.laws.answer_is_the_one.Goals as goal
 
 pub returns : goal.returns

@@ -1,5 +1,5 @@
 use Rattle.cube_model.specs.Fractions.{fraction_of}
-use Rattle.cube_model.proofs.FractionLaws.{fraction_of-IsFractionOf, IsFractionOf-unique}
+use Rattle.cube_model.proofs.LawsLemmas.{fraction_of-IsFractionOf, IsFractionOf-unique}
 use Rattle.cube_model.proofs.laws.fraction_is_the_one.Goals as goal
 
 pub returns : goal.returns

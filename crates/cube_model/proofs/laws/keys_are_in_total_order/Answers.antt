@@ -1,4 +1,4 @@
-use Rattle.cube_model.proofs.AnswerLaws.{key_cmp-ties}
+use Rattle.cube_model.proofs.LawsLemmas.{key_cmp-ties}
 use Rattle.cube_model.proofs.KeyOrder.{key_cmp_total}
 use Rattle.cube_model.proofs.laws.keys_are_in_total_order.Goals as goal
 

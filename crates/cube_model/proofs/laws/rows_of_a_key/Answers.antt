@@ -1,4 +1,4 @@
-use Rattle.cube_model.proofs.GroupingLaws.{rows_of_a_key}
+use Rattle.cube_model.proofs.LawsLemmas.{rows_of_a_key}
 use Rattle.cube_model.proofs.laws.rows_of_a_key.Goals as goal
 
 pub returns : goal.returns

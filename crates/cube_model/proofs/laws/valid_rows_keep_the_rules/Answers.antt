@@ -1,4 +1,4 @@
-use Rattle.cube_model.proofs.ValidityLaws.{valid_rows_keep_the_rules}
+use Rattle.cube_model.proofs.LawsLemmas.{valid_rows_keep_the_rules}
 use Rattle.cube_model.proofs.laws.valid_rows_keep_the_rules.Goals as goal
 
 pub returns : goal.returns

@@ -1,4 +1,4 @@
-use Rattle.std.proofs.Common.{◌≡◌, ◌∙◌, Err, ap, []}
+use Rattle.std.proofs.Common.{◌≡◌, ◌∙◌, Err, ap, refl, []}
 use Rattle.cube_model.specs.declared.fault.Fault.TheVariants.{BadLayout}
 use Rattle.std.proofs.lemmas.Result.{IfErr-weaker, IfOk-weaker, err_from_is_err_and}
 use Rattle.cube_model.specs.Answers.{answer}
@@ -11,8 +11,8 @@ add_rows-requires c = c.in_ok-state.ensures.represents.over
 pub returns-clause-answer : goal.returns-clause-answer
 returns-clause-answer c =
     let begun = c.in_ok-state.ensures in
-    let takes = c.in_ok-add_rows.ensures.ok in
     let rows = c.args.rows.now in
+    let takes = c.in_ok-add_rows.ensures.ok rows refl in
     let query : c.add_rows.new.self.query ≡ c.args.query.now = takes.query ∙ begun.query_is
     ∙ c.in_ok-query.ensures.ok in
     IfOk-weaker c.finish.result _ _ (λ found all. all rows (takes.represents [] begun.represents)
@@ -23,8 +23,10 @@ returns-clause-refused c = λ bad proper. never_improper c.finish.result c.finis
 
 pub returns-clause-unfolded : goal.returns-clause-unfolded
 returns-clause-unfolded c = λ bad foldable.
-    c.finish.ensures.refused bad
-    (c.args.rows.now, (c.in_ok-add_rows.ensures.ok.represents [] c.in_ok-state.ensures.represents, foldable))
+    c.finish.ensures.refused bad (
+      c.args.rows.now,
+      ((c.in_ok-add_rows.ensures.ok c.args.rows.now refl).represents [] c.in_ok-state.ensures.represents, foldable),
+    )
 
 pub returns-clause-only : goal.returns-clause-only
 returns-clause-only c = IfErr-weaker c.finish.result _ _ (λ fault either other. either) c.finish.ensures.only
@@ -34,4 +36,5 @@ returns-in_err-add_rows-clause-unfolded c =
     let p = err_from_is_err_and c.from_residual-in_err-add_rows.result c.from_residual-in_err-add_rows.ensures.1 in
     rw (p.1, p.2) (λ bad foldable.
     let fault : c.in_err-add_rows.field-0.0 ≡ BadLayout = cc bad in
-    c.in_err-add_rows.ensures.refused (ap (λ f. Err f) fault) ([], (c.in_ok-state.ensures.represents, foldable)))
+    c.in_err-add_rows.ensures.refused (ap (λ f. Err f) fault) c.args.rows.now refl
+    ([], (c.in_ok-state.ensures.represents, foldable)))

@@ -5,7 +5,7 @@ use Rattle.cuboid_cells.specs.declared.cell.Cell.{Cell}
 use Rattle.group_plan.specs.Numbers.{group_count}
 use Rattle.group_tallies.specs.Columns.{tallies_at}
 use Rattle.group_tallies.specs.Slots.{entries_of, Cover, Grow}
-use Rattle.cube_query.proofs.RunMerging.{AreMergedTo}
+use Rattle.cube_query.proofs.CellRunsLemmas.{AreMergedTo}
 use Rattle.cube_query.proofs.cell_runs.merge_run.Given as goal
 
 abbrev pub decreases-loop-source : goal.decreases-loop-source

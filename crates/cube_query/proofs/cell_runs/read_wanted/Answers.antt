@@ -4,7 +4,7 @@ use Rattle.cuboid_cells.specs.declared.cell.Cell.{Cell}
 use Rattle.cuboid_cells.proofs.Continuing.{on_ok}
 use Rattle.cuboid_upkeep.specs.CellNumbers.{AreUnwanted}
 use Rattle.cube_query.specs.CellRuns.{ReadsWanted}
-use Rattle.cube_query.proofs.RunMerging.{read_none, read_some, read_stays}
+use Rattle.cube_query.proofs.CellRunsLemmas.{read_none, read_some, read_stays}
 use Rattle.cube_query.proofs.cell_runs.read_wanted.Goals as goal
 
 pub returns-in_default-clause-ok : goal.returns-in_default-clause-ok

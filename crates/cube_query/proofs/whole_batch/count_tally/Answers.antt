@@ -2,7 +2,7 @@ use Rattle.std.proofs.Common.{◌≡◌, ◌∙◌, pos, rules}
 use Rattle.column_kernels.specs.Masks.{selected_by}
 use Rattle.column_kernels.proofs.CallerLemmas.{count_selected}
 use Rattle.group_tallies.specs.declared.tally.Tally.{Tally}
-use Rattle.cube_query.proofs.BatchTallies.{tally_noughts}
+use Rattle.cube_query.proofs.WholeBatchLemmas.{tally_noughts}
 use Rattle.cube_query.proofs.whole_batch.count_tally.Goals as goal
 
 pub returns : goal.returns

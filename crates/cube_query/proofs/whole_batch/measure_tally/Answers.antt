@@ -6,8 +6,8 @@ use Rattle.cube_model.specs.declared.rows.LineOrder.{LineOrder}
 use Rattle.column_kernels.specs.Masks.{selected_by}
 use Rattle.column_kernels.proofs.CallerLemmas.{count_selected}
 use Rattle.group_tallies.specs.Tallies.{tally_of}
-use Rattle.cube_query.proofs.BatchTallies.{err_from, greatest_fits, least_fits, ok_same, sum_fits, tally_none}
-use Rattle.cube_query.proofs.BatchTallies.{tally_some}
+use Rattle.cube_query.proofs.WholeBatchLemmas.{err_from, greatest_fits, least_fits, ok_same, sum_fits, tally_none}
+use Rattle.cube_query.proofs.WholeBatchLemmas.{tally_some}
 use Rattle.cube_query.proofs.whole_batch.measure_tally.Goals as goal
 
 pub returns-in-None-clause-ok : goal.returns-in-None-clause-ok

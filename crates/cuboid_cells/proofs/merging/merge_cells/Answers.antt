@@ -2,8 +2,8 @@ use Rattle.std.proofs.Common.{◌+◌, ◌≤◌, List, length, inl, inr, refl, 
 use Rattle.std.proofs.lemmas.Result.{err_from_is_err_and}
 use Rattle.cube_model.specs.declared.fault.Fault.TheVariants.{TooManyCells}
 use Rattle.cuboid_cells.specs.declared.cell.Cell.{Cell}
-use Rattle.cuboid_cells.proofs.Underway.{Merging, all_out, are_proper, at_first, cannot_go_on, goes_on, has_too_many}
-use Rattle.cuboid_cells.proofs.Underway.{leaves_less, none_left, stepped}
+use Rattle.cuboid_cells.proofs.MergingLemmas.{Merging, all_out, are_proper, at_first, cannot_go_on, goes_on}
+use Rattle.cuboid_cells.proofs.MergingLemmas.{has_too_many, leaves_less, none_left, stepped}
 use Rattle.cuboid_cells.proofs.merging.merge_cells.Goals as goal
 use Rattle.cuboid_cells.proofs.merging.merge_cells.Goals.{in-Some+in_ok-push, in_default}
 

@@ -1,5 +1,5 @@
 use Rattle.std.proofs.Common.{◌+◌, ◌≤◌, length}
-use Rattle.cuboid_cells.proofs.Underway.{Merging}
+use Rattle.cuboid_cells.proofs.MergingLemmas.{Merging}
 use Rattle.cuboid_cells.proofs.merging.merge_cells.Given as goal
 
 abbrev pub invariant-loop : goal.invariant-loop

@@ -6,7 +6,7 @@ use Rattle.cuboid_cells.specs.declared.cell.Cell.{Cell}
 use Rattle.cuboid_cells.specs.Cells.{key_as_number}
 use Rattle.cuboid_upkeep.specs.Steps.{AreKeyed, MergesAt, Overflows, OverflowsAt, TakesIn}
 use Rattle.cuboid_upkeep.proofs.Added.{err_through, ok_through}
-use Rattle.cuboid_upkeep.proofs.Taken.{keys_stay, merge_overflows, merged_keyed, merged_taken, taken_after}
+use Rattle.cuboid_upkeep.proofs.GroupingLemmas.{keys_stay, merge_overflows, merged_keyed, merged_taken, taken_after}
 use Rattle.cuboid_upkeep.proofs.grouping.take_in.Goals as goal
 
 pub returns-then-place-len-clause-ok : goal.returns-then-place-len-clause-ok

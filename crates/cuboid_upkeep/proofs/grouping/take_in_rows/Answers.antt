@@ -2,7 +2,7 @@ use Rattle.std.proofs.Common.{◌<◌, ◌≤◌, ◌∙◌, [], inl, inr, sym, 
 use Rattle.std.specs.List.{IsDistinct}
 use Rattle.std.proofs.lemmas.Result.{err_from_is_err_and}
 use Rattle.cuboid_cells.specs.Cells.{key_as_number}
-use Rattle.cuboid_upkeep.proofs.Grouped.{are_grouped, none_yet, one_more, row_overflows}
+use Rattle.cuboid_upkeep.proofs.GroupingLemmas.{are_grouped, none_yet, one_more, row_overflows}
 use Rattle.cuboid_upkeep.proofs.Rows.{none_fits}
 use Rattle.cuboid_upkeep.proofs.Tables.{own_key_in}
 use Rattle.cuboid_upkeep.proofs.grouping.take_in_rows.Goals as goal

@@ -4,7 +4,7 @@ use Rattle.lattice.specs.declared.view.View.{View}
 use Rattle.cuboid_upkeep.specs.declared.member_codes.ViewMembers.{ViewMembers}
 use Rattle.cuboid_upkeep.specs.Keys.{AreRowKeys}
 use Rattle.cuboid_upkeep.specs.Steps.{AreKeyed}
-use Rattle.cuboid_upkeep.proofs.Grouped.{Grouping}
+use Rattle.cuboid_upkeep.proofs.GroupingLemmas.{Grouping}
 use Rattle.cuboid_upkeep.proofs.grouping.take_in_rows.Given as goal
 
 abbrev pub invariant-loop-place : goal.invariant-loop-place

@@ -1,5 +1,5 @@
 use Rattle.std.proofs.Common.{refl, arith}
-use Rattle.cuboid_upkeep.proofs.Keyed.{first_known}
+use Rattle.cuboid_upkeep.proofs.MemberKeysLemmas.{first_known}
 use Rattle.cuboid_upkeep.proofs.member_keys.first_key.Goals as goal
 
 pub returns-in-len1-up-clause-some : goal.returns-in-len1-up-clause-some

@@ -1,5 +1,5 @@
 use Rattle.std.proofs.Common.{◌≡◌, ◌∙◌, sym, arith, None, get_or}
-use Rattle.cuboid_upkeep.proofs.Keyed.{nothing_at, one_found}
+use Rattle.cuboid_upkeep.proofs.MemberKeysLemmas.{nothing_at, one_found}
 use Rattle.cuboid_upkeep.proofs.member_keys.put_first.Goals as goal
 
 pub overflow_sub-result : goal.overflow_sub-result

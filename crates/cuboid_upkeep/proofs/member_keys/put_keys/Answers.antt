@@ -2,7 +2,7 @@ use Rattle.std.proofs.Common.{◌∙◌, ◌+◌, ◌<◌, sym, ap, subst, arith
 use Rattle.cube_model.specs.Places.{row_count_of}
 use Rattle.cuboid_upkeep.specs.Codes.{member_code}
 use Rattle.cuboid_upkeep.specs.Representatives.{missing_in}
-use Rattle.cuboid_upkeep.proofs.Keyed.{AreSoFar, at_first, none_left, one_more, row_total}
+use Rattle.cuboid_upkeep.proofs.MemberKeysLemmas.{AreSoFar, at_first, none_left, one_more, row_total}
 use Rattle.cuboid_upkeep.proofs.member_keys.put_keys.Goals as goal
 
 pub loop-place-init : goal.loop-place-init

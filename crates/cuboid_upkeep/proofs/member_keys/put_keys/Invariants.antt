@@ -1,4 +1,4 @@
-use Rattle.cuboid_upkeep.proofs.Keyed.{AreSoFar}
+use Rattle.cuboid_upkeep.proofs.MemberKeysLemmas.{AreSoFar}
 use Rattle.cuboid_upkeep.proofs.member_keys.put_keys.Given as goal
 
 abbrev pub invariant-loop-place : goal.invariant-loop-place

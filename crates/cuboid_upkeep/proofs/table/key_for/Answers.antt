@@ -1,5 +1,5 @@
 use Rattle.cuboid_upkeep.proofs.Slots.{in_use}
-use Rattle.cuboid_upkeep.proofs.TakenRows.{key_there}
+use Rattle.cuboid_upkeep.proofs.TableLemmas.{key_there}
 use Rattle.cuboid_upkeep.proofs.table.key_for.Goals as goal
 
 pub returns-then-slot-ge1 : goal.returns-then-slot-ge1

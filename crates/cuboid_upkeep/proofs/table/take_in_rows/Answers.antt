@@ -5,7 +5,7 @@ use Rattle.cuboid_upkeep.specs.Numbers.{key_place}
 use Rattle.cuboid_upkeep.specs.Slots.{IsTaken, PassesAt, TakesAt, taken}
 use Rattle.cuboid_upkeep.proofs.Rows.{none_fits}
 use Rattle.cuboid_upkeep.proofs.Slots.{own_slot}
-use Rattle.cuboid_upkeep.proofs.TakenRows.{none_taken, number_of_key, one_passes, one_taken}
+use Rattle.cuboid_upkeep.proofs.TableLemmas.{none_taken, number_of_key, one_passes, one_taken}
 use Rattle.cuboid_upkeep.proofs.table.take_in_rows.Goals as goal
 
 pub loop-place-init : goal.loop-place-init

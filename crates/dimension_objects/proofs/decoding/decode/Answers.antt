@@ -1,6 +1,6 @@
 use Rattle.std.proofs.lemmas.Result.{err_from_is_err_and}
-use Rattle.dimension_objects.proofs.Objects.{all_objects, none_customers, none_dates, none_parts, none_suppliers}
-use Rattle.dimension_objects.proofs.Objects.{no_objects}
+use Rattle.dimension_objects.proofs.DecodingLemmas.{all_objects, none_customers, none_dates, none_parts, none_suppliers}
+use Rattle.dimension_objects.proofs.DecodingLemmas.{no_objects}
 use Rattle.dimension_objects.proofs.Refused.{err_so, ok_so, refused_so}
 use Rattle.dimension_objects.proofs.decoding.decode.Goals as goal
 

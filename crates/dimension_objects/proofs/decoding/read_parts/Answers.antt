@@ -2,7 +2,7 @@ use Rattle.std.proofs.Common.{subst, ℕ, List}
 use Rattle.std.proofs.lemmas.Result.{err_from_is_err_and}
 use Rattle.dimension_objects.specs.Columns.{BeginsWithNoCodes, BeginsWithNoTexts, ReadsColumns, ReadsColumnTexts}
 use Rattle.dimension_objects.proofs.Refused.{refused_so}
-use Rattle.dimension_objects.proofs.Stages.{none_end, none_keys, none_linked, none_rows, none_texts, whole}
+use Rattle.dimension_objects.proofs.DecodingLemmas.{none_end, none_keys, none_linked, none_rows, none_texts, whole}
 use Rattle.dimension_objects.proofs.decoding.read_parts.Goals as goal
 
 pub returns-in_err-read_texts-clause-refused : goal.returns-in_err-read_texts-clause-refused

@@ -1,7 +1,7 @@
 use Rattle.std.proofs.Common.{◌≡◌, ◌<◌, ◌*◌, ◌∙◌, ℕ, List, [], sym, subst, arith, length, append-nil, slice_index}
 use Rattle.dictionary.specs.Columns.{codes_spelling}
 use Rattle.dimension_objects.specs.Columns.{ReadsCodes}
-use Rattle.dimension_objects.proofs.Numbers.{read_fit, read_spelled, written}
+use Rattle.dimension_objects.proofs.ReadingLemmas.{read_fit, read_spelled, written}
 use Rattle.dimension_objects.proofs.reading.codes_of.Goals as goal
 
 pub returns : goal.returns

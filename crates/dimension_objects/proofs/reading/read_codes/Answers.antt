@@ -1,6 +1,6 @@
 use Rattle.std.proofs.Common.{subst, sym, List, ℕ}
 use Rattle.dimension_objects.specs.Columns.{ReadsCodes}
-use Rattle.dimension_objects.proofs.Numbers.{codes_in_front}
+use Rattle.dimension_objects.proofs.ReadingLemmas.{codes_in_front}
 use Rattle.dimension_objects.proofs.reading.read_codes.Goals as goal
 
 pub returns-clause-ok : goal.returns-clause-ok

@@ -1,8 +1,8 @@
 use Rattle.std.proofs.Common.{◌≡◌, refl, arith, codes}
 use Rattle.std.proofs.lemmas.Result.{IfOk-weaker}
 use Rattle.dimension_objects.specs.Spelled.{axis_number}
-use Rattle.dimension_objects.proofs.Header.{header_is, none_axis, none_name, none_number, none_rows_left, name_differs}
-use Rattle.dimension_objects.proofs.Header.{name_is_same}
+use Rattle.dimension_objects.proofs.ReadingLemmas.{header_is, none_axis, none_name, none_number, none_rows_left}
+use Rattle.dimension_objects.proofs.ReadingLemmas.{name_differs, name_is_same}
 use Rattle.dimension_objects.proofs.reading.read_header.Goals as goal
 
 pub returns-then-ne-clause-none : goal.returns-then-ne-clause-none

@@ -1,6 +1,6 @@
 use Rattle.std.proofs.Common.{subst, sym, List, ℕ}
 use Rattle.dimension_objects.specs.Columns.{ReadsKeys}
-use Rattle.dimension_objects.proofs.Numbers.{keys_in_front}
+use Rattle.dimension_objects.proofs.ReadingLemmas.{keys_in_front}
 use Rattle.dimension_objects.proofs.reading.read_keys.Goals as goal
 
 pub returns-clause-ok : goal.returns-clause-ok

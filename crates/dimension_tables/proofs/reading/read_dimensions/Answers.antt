@@ -1,7 +1,7 @@
 use Rattle.std.proofs.lemmas.Result.{err_from_is_err_and}
 use Rattle.dimension_tables.specs.Texts.{tables_of, valid_rows}
 use Rattle.dimension_tables.proofs.CallerLemmas.{gives-on, gives-stop}
-use Rattle.dimension_tables.proofs.Validity.{gives-valid}
+use Rattle.dimension_tables.proofs.ReadingLemmas.{gives-valid}
 use Rattle.dimension_tables.proofs.reading.read_dimensions.Goals as goal
 
 pub returns-in_err-rows : goal.returns-in_err-rows

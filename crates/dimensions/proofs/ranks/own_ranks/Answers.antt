@@ -1,6 +1,6 @@
 use Rattle.std.proofs.Common.{◌<◌, refl, arith, [], length, get_or}
 use Rattle.std.proofs.lemmas.List.{get_or_default}
-use Rattle.dimensions.proofs.RankByRank.{codes_more, rank_more}
+use Rattle.dimensions.proofs.RanksLemmas.{codes_more, rank_more}
 use Rattle.dimensions.proofs.ranks.own_ranks.Goals as goal
 
 pub loop-rank-preserved : goal.loop-rank-preserved

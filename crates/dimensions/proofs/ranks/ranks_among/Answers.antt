@@ -3,7 +3,7 @@ use Rattle.std.specs.List.{list_any}
 use Rattle.std.specs.Str.{bytes_eq}
 use Rattle.cube_model.specs.Ascending.{IsAscending}
 use Rattle.dimensions.proofs.MemberLaws.{text_cmp}
-use Rattle.dimensions.proofs.RankByRank.{codes_more, rank_more}
+use Rattle.dimensions.proofs.RanksLemmas.{codes_more, rank_more}
 use Rattle.dimensions.proofs.RankLaws.{members_ascend, is_member}
 use Rattle.dimensions.proofs.ranks.ranks_among.Goals as goal
 

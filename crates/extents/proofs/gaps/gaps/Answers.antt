@@ -1,7 +1,7 @@
 use Rattle.std.proofs.Common.{refl, inr, subst, sym, arith}
 use Rattle.extents.specs.Runs.{IsRest}
-use Rattle.extents.proofs.Walk.{AreRuns-gaps_of, IsRest-gaps_of, AreLaidOut-from_order, order_from_layout}
-use Rattle.extents.proofs.Walk.{in_order_at_end, gaps_at_end, next_in_order}
+use Rattle.extents.proofs.GapsLemmas.{AreRuns-gaps_of, IsRest-gaps_of, AreLaidOut-from_order, order_from_layout}
+use Rattle.extents.proofs.GapsLemmas.{in_order_at_end, gaps_at_end, next_in_order}
 use Rattle.extents.proofs.gaps.gaps.Goals as goal
 use Rattle.extents.proofs.gaps.gaps.Goals.{then-extent-eq0-via-then-extent-eq0}
 use Rattle.extents.proofs.gaps.gaps.Goals.{then-extent-eq0-via-else-extent-eq0+then-extent-from}

@@ -1,5 +1,5 @@
 use Rattle.std.proofs.Common.{◌≡◌, ◌++◌, drop}
-use Rattle.extents.proofs.Walk.{AreInOrder, gaps_of}
+use Rattle.extents.proofs.GapsLemmas.{AreInOrder, gaps_of}
 use Rattle.extents.proofs.gaps.gaps.Given as goal
 
 abbrev pub invariant-loop-extent : goal.invariant-loop-extent

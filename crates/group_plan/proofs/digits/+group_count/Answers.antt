@@ -1,6 +1,6 @@
 use Rattle.std.proofs.Common.{arith, ◌≤◌, ◌+◌, ◌-◌, length, take, drop}
 use Rattle.std.proofs.lemmas.Grind.{common_steps}
-use Rattle.group_plan.proofs.Room.{product_fits}
+use Rattle.group_plan.proofs.DigitsLemmas.{product_fits}
 use Rattle.group_plan.proofs.digits.+group_count.Goals as goal
 
 pub overflow_mul-result : goal.overflow_mul-result

@@ -1,5 +1,5 @@
 use Rattle.std.proofs.Common.{sym, subst, arith}
-use Rattle.group_plan.proofs.FirstPlaces.{AreFirst, all_first, none_first}
+use Rattle.group_plan.proofs.KindsLemmas.{AreFirst, all_first, none_first}
 use Rattle.group_plan.proofs.kinds.first_places.Goals as goal
 
 pub loop-place-init : goal.loop-place-init

@@ -1,4 +1,4 @@
-use Rattle.group_plan.proofs.FirstPlaces.{AreFirst}
+use Rattle.group_plan.proofs.KindsLemmas.{AreFirst}
 use Rattle.group_plan.proofs.kinds.first_places.Given as goal
 
 abbrev pub invariant-loop-place : goal.invariant-loop-place

@@ -3,7 +3,7 @@ use Rattle.std.specs.List.{range_with_len}
 use Rattle.std.proofs.lemmas.Result.{IfOk-weaker}
 use Rattle.dimensions.specs.Coded.{texts_at_places}
 use Rattle.dimensions.specs.Shown.{rows_on}
-use Rattle.group_plan.proofs.FirstPlaces.{days_are_kinds, in_first_order, kinds_of_codes, some_column}
+use Rattle.group_plan.proofs.KindsLemmas.{days_are_kinds, in_first_order, kinds_of_codes, some_column}
 use Rattle.group_plan.proofs.kinds.places_of_kinds.Goals as goal
 
 pub codes-requires : goal.codes-requires

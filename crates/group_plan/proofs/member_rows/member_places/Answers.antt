@@ -2,7 +2,7 @@ use Rattle.std.proofs.Common.{◌≡◌, ◌∙◌, ◌+◌, ◌<◌, sym, subst
 use Rattle.std.proofs.lemmas.Grind.{get_or_default_zero}
 use Rattle.cube_model.specs.Places.{text_at}
 use Rattle.group_plan.specs.Kinds.{HasEachKind}
-use Rattle.group_plan.proofs.MemberPlaces.{HaveSoFar, so_far_all, so_far_more}
+use Rattle.group_plan.proofs.MemberRowsLemmas.{HaveSoFar, so_far_all, so_far_more}
 use Rattle.group_plan.proofs.member_rows.member_places.Goals as goal
 
 pub rank-rank-requires : goal.rank-rank-requires

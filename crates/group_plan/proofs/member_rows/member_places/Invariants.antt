@@ -1,4 +1,4 @@
-use Rattle.group_plan.proofs.MemberPlaces.{HaveSoFar}
+use Rattle.group_plan.proofs.MemberRowsLemmas.{HaveSoFar}
 use Rattle.group_plan.proofs.member_rows.member_places.Given as goal
 
 abbrev pub invariant-loop-i : goal.invariant-loop-i

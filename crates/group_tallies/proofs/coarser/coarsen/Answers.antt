@@ -6,9 +6,9 @@ use Rattle.group_tallies.specs.Columns.{is_seen, tallies_at}
 use Rattle.std.specs.Prelude.{◌&&◌}
 use Rattle.group_tallies.specs.Slots.{entries_of}
 use Rattle.group_tallies.proofs.Columnwise.{as_many_columns}
-use Rattle.group_tallies.proofs.Passes.{Apart-sorted, can_merge, may_merge, passed, room_to_merge, part_of}
+use Rattle.group_tallies.proofs.CoarserLemmas.{Apart-sorted, can_merge, may_merge, passed, room_to_merge, part_of}
+use Rattle.group_tallies.proofs.CoarserLemmas.{AreTargets-length}
 use Rattle.group_tallies.proofs.Seen.{each_number, All-numbers}
-use Rattle.group_tallies.proofs.Targets.{AreTargets-length}
 use Rattle.group_plan.specs.Numbers.{group_count, group_key_at}
 use Rattle.group_tallies.proofs.coarser.coarsen.Goals as goal
 

@@ -2,7 +2,7 @@ use Rattle.std.proofs.Common.{◌++◌, ◌∷◌, [], sym, subst, take, get_or}
 use Rattle.std.proofs.lemmas.List.{take_more}
 use Rattle.group_tallies.specs.Coarser.{AreTargets}
 use Rattle.group_tallies.specs.Slots.{entries_of}
-use Rattle.group_tallies.proofs.Targets.{AreTargets-keep, AreTargets-push}
+use Rattle.group_tallies.proofs.CoarserLemmas.{AreTargets-keep, AreTargets-push}
 use Rattle.group_tallies.proofs.coarser.targets_of.Goals as goal
 
 pub loop-i-preserved : goal.loop-i-preserved

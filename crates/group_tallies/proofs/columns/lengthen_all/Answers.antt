@@ -1,5 +1,5 @@
 use Rattle.std.proofs.Common.{◌∙◌, ◌<◌, ◌≤◌, arith, length, length-set, add-one}
-use Rattle.group_tallies.proofs.Lengths.{tallies_at-set, All-take-set}
+use Rattle.group_tallies.proofs.ColumnsLemmas.{tallies_at-set, All-take-set}
 use Rattle.group_tallies.proofs.columns.lengthen_all.Goals as goal
 
 pub returns-in_err-lengthen-clause-same : goal.returns-in_err-lengthen-clause-same

@@ -7,7 +7,7 @@ use Rattle.group_tallies.specs.GroupLines.{HaveLines, lines_by}
 use Rattle.group_tallies.specs.Groups.{groups_of}
 use Rattle.group_tallies.specs.Slots.{entries_of}
 use Rattle.group_tallies.specs.FoldInvariant.{AreTallied}
-use Rattle.group_tallies.proofs.Ends.{all_groups}
+use Rattle.group_tallies.proofs.FinishLemmas.{all_groups}
 use Rattle.group_tallies.proofs.Seen.{seen_are}
 use Rattle.group_plan.specs.Numbers.{group_key_at}
 use Rattle.group_tallies.proofs.finish.all_groups.Goals as goal

@@ -2,7 +2,7 @@ use Rattle.std.proofs.Common.{◌∙◌, sym, ap}
 use Rattle.std.proofs.lemmas.Result.{IfOk-weaker}
 use Rattle.group_tallies.specs.Groups.{finest}
 use Rattle.group_tallies.specs.Slots.{entries_of}
-use Rattle.group_tallies.proofs.Ends.{plain_groups}
+use Rattle.group_tallies.proofs.FinishLemmas.{plain_groups}
 use Rattle.group_tallies.proofs.Seen.{seen_are}
 use Rattle.group_tallies.proofs.finish.answer_lines.Goals as goal
 

@@ -3,7 +3,7 @@ use Rattle.std.proofs.lemmas.Result.{IfOk-weaker}
 use Rattle.group_tallies.specs.Coarser.{AreTalliedFrom}
 use Rattle.group_tallies.specs.Slots.{entries_of, AreSlots}
 use Rattle.group_tallies.proofs.Columnwise.{as_many_columns}
-use Rattle.group_tallies.proofs.Ends.{start}
+use Rattle.group_tallies.proofs.FinishLemmas.{start}
 use Rattle.group_plan.specs.Numbers.{group_count}
 use Rattle.group_tallies.proofs.finish.coarser_lines.Goals as goal
 

@@ -4,7 +4,7 @@ use Rattle.group_tallies.specs.Columns.{seen_groups, tallies_at}
 use Rattle.group_tallies.specs.GroupLines.{HaveLines, lines_by}
 use Rattle.group_tallies.specs.Groups.{finest, groups_of}
 use Rattle.group_tallies.specs.Slots.{entries_of}
-use Rattle.group_tallies.proofs.Ends.{plain_groups, start}
+use Rattle.group_tallies.proofs.FinishLemmas.{plain_groups, start}
 use Rattle.group_tallies.proofs.Seen.{seen_are}
 use Rattle.group_plan.specs.Numbers.{group_key_at}
 use Rattle.group_tallies.proofs.finish.groups_of_kind.Goals as goal

@@ -11,7 +11,7 @@ use Rattle.cube_model.specs.Orders.{line_cmp}
 use Rattle.group_tallies.specs.Columns.{entry_line}
 use Rattle.group_tallies.specs.Ranks.{Rank, IsRank}
 use Rattle.group_tallies.proofs.LineLaws.{map-map}
-use Rattle.group_tallies.proofs.Ordered.{sorted_lines}
+use Rattle.group_tallies.proofs.OrderLemmas.{sorted_lines}
 use Rattle.group_plan.specs.Numbers.{group_key_at}
 use Rattle.group_plan.proofs.Numbers.{keys_rise}
 use Rattle.group_tallies.proofs.order.in_order.Goals as goal

@@ -1,5 +1,5 @@
 use Rattle.std.proofs.Common.{◌∙◌, sym}
-use Rattle.group_tallies.proofs.Rooms.{room_there, room_taken}
+use Rattle.group_tallies.proofs.RoomLemmas.{room_there, room_taken}
 use Rattle.group_tallies.proofs.room.has_room.Goals as goal
 
 pub returns-in-Some : goal.returns-in-Some

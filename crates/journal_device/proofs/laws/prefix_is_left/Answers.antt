@@ -1,4 +1,4 @@
-use Rattle.journal_device.proofs.Prefixes as proved
+use Rattle.journal_device.proofs.LawsLemmas as proved
 use Rattle.journal_device.proofs.laws.prefix_is_left.Goals as goal
 
 pub returns : goal.returns

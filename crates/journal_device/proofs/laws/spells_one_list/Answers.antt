@@ -1,4 +1,4 @@
-use Rattle.journal_device.proofs.Spelled as proved
+use Rattle.journal_device.proofs.LawsLemmas as proved
 use Rattle.journal_device.proofs.laws.spells_one_list.Goals as goal
 
 pub returns : goal.returns

@@ -1,4 +1,4 @@
-use Rattle.lattice.proofs.Order.{answers_itself, answers_through, same_index, answers_decided}
+use Rattle.lattice.proofs.LawsLemmas.{answers_itself, answers_through, same_index, answers_decided}
 use Rattle.lattice.proofs.Places.{one_view}
 use Rattle.lattice.proofs.laws.answering_is_a_partial_order.Goals as goal
 

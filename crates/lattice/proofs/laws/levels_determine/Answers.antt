@@ -1,5 +1,5 @@
 use Rattle.std.proofs.Common.{arith}
-use Rattle.lattice.proofs.Hierarchy.{tells}
+use Rattle.lattice.proofs.LawsLemmas.{tells}
 use Rattle.lattice.proofs.laws.levels_determine.Goals as goal
 
 pub returns : goal.returns

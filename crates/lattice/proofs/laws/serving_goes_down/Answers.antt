@@ -1,4 +1,4 @@
-use Rattle.lattice.proofs.Serving.{serves_below}
+use Rattle.lattice.proofs.LawsLemmas.{serves_below}
 use Rattle.lattice.proofs.laws.serving_goes_down.Goals as goal
 
 pub returns : goal.returns

@@ -4,7 +4,7 @@ use Rattle.cube_model.specs.declared.rows.LineOrder.{LineOrder}
 use Rattle.cube_query.specs.Groups.{IsOver}
 use Rattle.cuboid_upkeep.specs.Grouping.{RepresentRows}
 use Rattle.mode_folds.specs.Parts.{HaveQuery, RepresentByMode}
-use Rattle.mode_folds.proofs.ByCode.{rows_before}
+use Rattle.mode_folds.proofs.CellPartsLemmas.{rows_before}
 use Rattle.mode_folds.proofs.cell_parts.add_cells_by_mode.Given as goal
 
 abbrev pub invariant-loop-part : goal.invariant-loop-part

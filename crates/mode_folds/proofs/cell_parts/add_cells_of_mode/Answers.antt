@@ -4,9 +4,8 @@ use Rattle.cuboid_cells.specs.declared.cell.Cell.{Cell}
 use Rattle.cube_query.specs.Groups.{CanTake, FoldState, Takes}
 use Rattle.dictionary.specs.Dictionary.{Adds}
 use Rattle.mode_folds.specs.Parts.{AreGrown}
-use Rattle.mode_folds.proofs.ByCode.{no_rows, none_taken}
+use Rattle.mode_folds.proofs.CellPartsLemmas.{no_rows, none_taken, adds_within, one_can, one_takes}
 use Rattle.mode_folds.proofs.Counted.{at_any}
-use Rattle.mode_folds.proofs.OneMode.{adds_within, one_can, one_takes}
 use Rattle.mode_folds.proofs.Whole.{on_ok}
 use Rattle.mode_folds.proofs.cell_parts.add_cells_of_mode.Goals as goal
 

@@ -5,7 +5,7 @@ use Rattle.std.proofs.lemmas.Iterator.Consumers.{YieldsList-end}
 use Rattle.std.proofs.lemmas.List.{map-id}
 use Rattle.std.specs.Prelude.{is_some}
 use Rattle.std.specs.Option.{option_map}
-use Rattle.mode_folds.proofs.Gather.{Gathers, gathers_kept, gathers_other, is_some-map}
+use Rattle.mode_folds.proofs.JoiningLemmas.{Gathers, gathers_kept, gathers_other, is_some-map}
 use Rattle.mode_queries.specs.Joining.{is_kept}
 use Rattle.mode_folds.proofs.joining.join.Goals as goal
 

@@ -3,7 +3,7 @@ use Rattle.std.proofs.lemmas.Option.{get_or_from_slice_get}
 use Rattle.std.proofs.lemmas.Result.{err_from_is_err_and}
 use Rattle.cube_model.specs.declared.fault.Fault.TheVariants.{BadLayout}
 use Rattle.mode_folds.proofs.Counted.{same_error}
-use Rattle.mode_folds.proofs.Modes.{next_lines, part_foldable}
+use Rattle.mode_folds.proofs.JoiningLemmas.{next_lines, part_foldable}
 use Rattle.mode_folds.proofs.joining.join_modes.Goals as goal
 
 pub returns-in_err-found-clause-refused : goal.returns-in_err-found-clause-refused

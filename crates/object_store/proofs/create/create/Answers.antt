@@ -2,7 +2,7 @@ use Rattle.std.proofs.Common.{◌≡◌}
 use Rattle.std.proofs.lemmas.Result.{IfErr-weaker, IfOk-weaker}
 use Rattle.object_store.specs.Content.{Content}
 use Rattle.object_store.specs.Commit.{created, puts_of}
-use Rattle.object_store.proofs.Creating.{blank_where_same, created_or_looked, looked, none_before, spared}
+use Rattle.object_store.proofs.CreateLemmas.{blank_where_same, created_or_looked, looked, none_before, spared}
 use Rattle.object_store.proofs.DeviceCalls.{images_of}
 use Rattle.object_store.proofs.create.create.Goals as goal
 

@@ -2,7 +2,7 @@ use Rattle.std.proofs.Common.{inr, ℕ, [], subst}
 use Rattle.sector_device.specs.Moments.{leaves_also}
 use Rattle.object_store.specs.Commit.{puts_of}
 use Rattle.object_store.specs.Publish.{IsPlanForPuts}
-use Rattle.object_store.proofs.Creating.{few_first, ready_created, content_created, either_shows}
+use Rattle.object_store.proofs.CreateLemmas.{few_first, ready_created, content_created, either_shows}
 use Rattle.object_store.proofs.create.publish_first.Goals as goal
 
 pub first_plan-requires-clause-few : goal.first_plan-requires-clause-few

@@ -1,7 +1,7 @@
 use Rattle.std.proofs.Common.{List, ◌∙◌, sym, subst}
 use Rattle.object_store.specs.declared.catalogue.entry.Entry.{Entry}
 use Rattle.object_store.specs.Entries.{IsPlace, IsEntryAt, IsMissing}
-use Rattle.object_store.proofs.Keyed.{drop_one, drop_none, only_there}
+use Rattle.object_store.proofs.EntriesLemmas.{drop_one, drop_none, only_there}
 use Rattle.object_store.proofs.entries.drop_entry.Goals as goal
 
 pub returns-in-Ok : goal.returns-in-Ok

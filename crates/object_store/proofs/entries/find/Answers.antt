@@ -1,6 +1,6 @@
 use Rattle.std.proofs.Common.{sym}
 use Rattle.object_store.specs.declared.catalogue.entry.Entry.{Entry}
-use Rattle.object_store.proofs.Keyed.{find_at, find_none}
+use Rattle.object_store.proofs.EntriesLemmas.{find_at, find_none}
 use Rattle.object_store.proofs.entries.find.Goals as goal
 
 pub returns-in-Ok : goal.returns-in-Ok

@@ -2,7 +2,7 @@ use Rattle.std.proofs.Common.{ltb, arith, rules}
 use Rattle.std.proofs.lemmas.Bool.Decides.{nat_tests}
 use Rattle.std.proofs.lemmas.List.Sorted.{IsPartitionPoint-from_clause, IsPartitionedBy-ltb}
 use Rattle.object_store.specs.declared.catalogue.entry.Entry.{Entry}
-use Rattle.object_store.proofs.Keyed.{not_falling}
+use Rattle.object_store.proofs.EntriesLemmas.{not_falling}
 use Rattle.object_store.proofs.entries.place_of.Goals as goal
 
 pub returns-clause-before : goal.returns-clause-before

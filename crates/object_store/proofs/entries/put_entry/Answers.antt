@@ -1,7 +1,7 @@
 use Rattle.std.proofs.Common.{List, ◌∙◌, sym, subst}
 use Rattle.object_store.specs.declared.catalogue.entry.Entry.{Entry}
 use Rattle.object_store.specs.Entries.{IsPlace, IsEntryAt, IsMissing}
-use Rattle.object_store.proofs.Keyed.{put_again, put_new}
+use Rattle.object_store.proofs.EntriesLemmas.{put_again, put_new}
 use Rattle.object_store.proofs.entries.put_entry.Goals as goal
 
 pub returns-in-Ok-clause-ok : goal.returns-in-Ok-clause-ok

@@ -1,7 +1,7 @@
 use Rattle.std.proofs.Common.{◌∙◌, ap, arith}
 use Rattle.std.proofs.lemmas.List.{get_or_default}
 use Rattle.object_store.specs.declared.catalogue.entry.Entry.{Entry}
-use Rattle.object_store.proofs.Keyed.{not_there}
+use Rattle.object_store.proofs.EntriesLemmas.{not_there}
 use Rattle.object_store.proofs.entries.search.Goals as goal
 use Rattle.object_store.proofs.entries.search.Goals.{else-place-entries-via-then-place-entries+else-entries-place}
 use Rattle.object_store.proofs.entries.search.Goals.{else-place-entries-via-else-place-entries}

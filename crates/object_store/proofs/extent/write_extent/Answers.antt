@@ -3,7 +3,7 @@ use Rattle.std.proofs.lemmas.Bool.Decides.{nat_tests}
 use Rattle.std.proofs.lemmas.Result.{on_ok_weaker}
 use Rattle.sector_device.specs.Device.{HasRun}
 use Rattle.object_store.specs.Blocks.{padded}
-use Rattle.object_store.proofs.Written.{written_whole, written_rest}
+use Rattle.object_store.proofs.ExtentLemmas.{written_whole, written_rest}
 use Rattle.object_store.proofs.extent.write_extent.Goals as goal
 
 pub returns-then-is_empty-clause-written : goal.returns-then-is_empty-clause-written

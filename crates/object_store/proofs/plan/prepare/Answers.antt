@@ -6,7 +6,7 @@ use Rattle.object_store.specs.declared.catalogue.entry.Entry.{Entry}
 use Rattle.object_store.specs.Catalogue.{catalogue_of}
 use Rattle.object_store.proofs.Catalogues.{length-catalogue_of}
 use Rattle.object_store.specs.Commit.{put_each, puts_of}
-use Rattle.object_store.proofs.Planned.{planned, lacks_put, lacks_catalogue, objects_after}
+use Rattle.object_store.proofs.PlanLemmas.{planned, lacks_put, lacks_catalogue, objects_after}
 use Rattle.object_store.proofs.plan.prepare.Goals as goal
 
 pub returns-in_err-free-clause-refused : goal.returns-in_err-free-clause-refused

@@ -3,7 +3,7 @@ use Rattle.sector_device.proofs.WriteRuns.{synced_within}
 use Rattle.extents.specs.Extents.{SomeHolds}
 use Rattle.object_store.specs.Commit.{puts_of}
 use Rattle.object_store.specs.Publish.{written_by}
-use Rattle.object_store.proofs.Publishing.{writing, switching, ended, has_written}
+use Rattle.object_store.proofs.PublishLemmas.{writing, switching, ended, has_written}
 use Rattle.object_store.proofs.publish.publish.Goals as goal
 
 pub returns-in_err-write_texts-clause-moments : goal.returns-in_err-write_texts-clause-moments

@@ -3,7 +3,7 @@ use Rattle.extents.specs.Extents.{Holds, SomeHolds, IsInRange}
 use Rattle.object_store.specs.declared.catalogue.entry.Entry.{Entry}
 use Rattle.object_store.specs.Places.{extent_of, extents_of}
 use Rattle.object_store.proofs.DeviceCalls.{writes_then}
-use Rattle.object_store.proofs.Placing.{in_range, held, object_step}
+use Rattle.object_store.proofs.PublishLemmas.{in_range, held, object_step}
 use Rattle.object_store.proofs.publish.write_objects.Goals as goal
 
 -- what is read past the end of a list

@@ -5,7 +5,7 @@ use Rattle.cube_model.specs.declared.answer.Member.{Member}
 use Rattle.partial_reports.specs.Readable.{IsPlainMember}
 use Rattle.ssb_reports.specs.Report.{member_text}
 use Rattle.partial_reports.specs.Reading.{FieldsAreLeft}
-use Rattle.partial_reports.proofs.FieldsLeft.{KeyLeft}
+use Rattle.partial_reports.proofs.FieldsLemmas.{KeyLeft}
 use Rattle.partial_reports.proofs.fields.parse_key.Given as goal
 
 abbrev pub invariant-loop-column : goal.invariant-loop-column

@@ -2,7 +2,7 @@ use Rattle.std.proofs.Common.{◌∙◌, sym, map}
 use Rattle.std.proofs.lemmas.Bool.{both_ways}
 use Rattle.std.proofs.lemmas.Result.{err_from_is_err_and}
 use Rattle.ssb_reports.specs.Report.{value_text}
-use Rattle.partial_reports.proofs.FieldsLeft.{line_left}
+use Rattle.partial_reports.proofs.FieldsLemmas.{line_left}
 use Rattle.partial_reports.proofs.fields.parse_line.Goals as goal
 
 pub returns-in_err-key : goal.returns-in_err-key

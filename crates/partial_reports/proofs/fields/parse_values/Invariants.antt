@@ -5,7 +5,7 @@ use Rattle.cube_model.specs.declared.answer.Value.{Value}
 use Rattle.partial_reports.specs.Readable.{IsWholeNumber}
 use Rattle.ssb_reports.specs.Report.{value_text}
 use Rattle.partial_reports.specs.Reading.{FieldsAreLeft}
-use Rattle.partial_reports.proofs.FieldsLeft.{ValuesLeft}
+use Rattle.partial_reports.proofs.FieldsLemmas.{ValuesLeft}
 use Rattle.partial_reports.proofs.fields.parse_values.Given as goal
 
 abbrev pub invariant-loop-aggregate : goal.invariant-loop-aggregate

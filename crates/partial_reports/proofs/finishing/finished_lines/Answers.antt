@@ -3,7 +3,7 @@ use Rattle.std.proofs.lemmas.Grind.{common_steps}
 use Rattle.std.proofs.lemmas.Iterator.Adapters.{YieldsList-from_vec}
 use Rattle.std.proofs.lemmas.Iterator.Consumers.{YieldsList-turn}
 use Rattle.std.proofs.lemmas.Result.{err_from_is_err_and}
-use Rattle.partial_reports.proofs.Unfinished.{refused_at}
+use Rattle.partial_reports.proofs.FinishingLemmas.{refused_at}
 use Rattle.partial_reports.proofs.finishing.finished_lines.Goals as goal
 
 pub returns-in_err-finished_line-clause-refused : goal.returns-in_err-finished_line-clause-refused

@@ -2,7 +2,7 @@ use Rattle.std.proofs.Common.{◌∙◌, ◌++◌, codes}
 use Rattle.std.proofs.lemmas.Option.{none-some, same_Some}
 use Rattle.hex.specs.Hex.{encode_lower}
 use Rattle.partial_reports.proofs.HeadTexts.{dimensions_front}
-use Rattle.partial_reports.proofs.PartLines.{digest_lacks}
+use Rattle.partial_reports.proofs.HeadReadingLemmas.{digest_lacks}
 use Rattle.partial_reports.proofs.head_reading.parse_dimensions.Goals as goal
 
 pub returns-in_err-line : goal.returns-in_err-line

@@ -1,7 +1,7 @@
 use Rattle.std.proofs.Common.{◌∙◌}
 use Rattle.std.proofs.lemmas.Result.{err_from_is_err_and}
 use Rattle.partial_reports.proofs.HeadTexts.{after_dimensions, after_part, after_version, head_front, proper_head}
-use Rattle.partial_reports.proofs.VersionLines.{same_version, version_lacks, version_line}
+use Rattle.partial_reports.proofs.HeadReadingLemmas.{same_version, version_lacks, version_line}
 use Rattle.partial_reports.proofs.head_reading.parse_head.Goals as goal
 
 pub returns-in_err-version : goal.returns-in_err-version

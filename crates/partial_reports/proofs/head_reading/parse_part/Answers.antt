@@ -1,7 +1,7 @@
 use Rattle.std.proofs.Common.{◌∙◌, sym, ap}
 use Rattle.std.proofs.lemmas.Option.{none-some, same_Some}
 use Rattle.partial_reports.specs.HeadReading.{part_line}
-use Rattle.partial_reports.proofs.PartLines.{part_lacks, part_line_front, short_head}
+use Rattle.partial_reports.proofs.HeadReadingLemmas.{part_lacks, part_line_front, short_head}
 use Rattle.partial_reports.proofs.head_reading.parse_part.Goals as goal
 
 pub returns-in_err-line : goal.returns-in_err-line

@@ -3,7 +3,7 @@ use Rattle.std.specs.Fmt.{decimal}
 use Rattle.std.proofs.lemmas.Option.{none-some, same_Some}
 use Rattle.std.proofs.lemmas.Result.{err_from_is_err_and}
 use Rattle.partial_reports.specs.Head.{numbers_text}
-use Rattle.partial_reports.proofs.PartLines.{no_slash, short_head}
+use Rattle.partial_reports.proofs.HeadReadingLemmas.{no_slash, short_head}
 use Rattle.partial_reports.proofs.head_reading.part_in.Goals as goal
 
 pub returns-in_default-cut : goal.returns-in_default-cut

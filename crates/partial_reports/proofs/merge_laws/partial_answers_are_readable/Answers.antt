@@ -1,4 +1,4 @@
-use Rattle.partial_reports.proofs.ReadableAnswers.{partial_answers_are_readable}
+use Rattle.partial_reports.proofs.MergeLawsLemmas.{partial_answers_are_readable}
 use Rattle.partial_reports.proofs.merge_laws.partial_answers_are_readable.Goals as goal
 
 pub returns : goal.returns

@@ -2,7 +2,7 @@ use Rattle.std.proofs.Common.{◌≡◌, ◌∙◌, true, ap}
 use Rattle.std.specs.List.{list_all}
 use Rattle.std.proofs.lemmas.Bool.{both_ways}
 use Rattle.partial_reports.specs.Members.{is_plain_member}
-use Rattle.partial_reports.proofs.Plain.{members_plain}
+use Rattle.partial_reports.proofs.ReadableLemmas.{members_plain}
 use Rattle.partial_reports.proofs.readable.check_readable.Goals as goal
 
 pub returns-then-not-are_plain-clause-refused : goal.returns-then-not-are_plain-clause-refused

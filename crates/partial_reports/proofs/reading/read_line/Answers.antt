@@ -5,7 +5,7 @@ use Rattle.std.proofs.lemmas.Result.{err_from_is_err_and}
 use Rattle.cube_model.specs.declared.answer.Line.{Line}
 use Rattle.partial_reports.proofs.CallerLemmas.{line_lf}
 use Rattle.partial_reports.specs.Reading.{IsNextLine, line_fields}
-use Rattle.partial_reports.proofs.LinesLeft.{count_front, count_lacks, line_front}
+use Rattle.partial_reports.proofs.ReadingLemmas.{count_front, count_lacks, line_front}
 use Rattle.partial_reports.proofs.WordLines.{not_empty, not_full}
 use Rattle.partial_reports.proofs.reading.read_line.Goals as goal
 

@@ -1,8 +1,7 @@
 use Rattle.std.proofs.Common.{◌∙◌, sym, length, inl, inr}
 use Rattle.std.proofs.lemmas.Option.{none-some}
 use Rattle.std.proofs.lemmas.Result.{err_from_is_err_and}
-use Rattle.partial_reports.proofs.LinesLeft.{end_or_line}
-use Rattle.partial_reports.proofs.Read.{one_more}
+use Rattle.partial_reports.proofs.ReadingLemmas.{end_or_line, one_more}
 use Rattle.partial_reports.proofs.reading.read_lines.Goals as goal
 
 pub returns-in_err-rest-clause-complete : goal.returns-in_err-rest-clause-complete

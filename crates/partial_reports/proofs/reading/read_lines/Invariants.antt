@@ -3,7 +3,7 @@ use Rattle.std.specs.List.{flat_map}
 use Rattle.cube_model.specs.declared.answer.Line.{Line}
 use Rattle.ssb_reports.specs.Report.{line_text}
 use Rattle.partial_reports.specs.Reading.{AreLinesOf, SpellsPartLines}
-use Rattle.partial_reports.proofs.LinesLeft.{LinesLeft}
+use Rattle.partial_reports.proofs.ReadingLemmas.{LinesLeft}
 use Rattle.partial_reports.proofs.reading.read_lines.Given as goal
 
 abbrev pub invariant-loop-taken : goal.invariant-loop-taken

@@ -1,7 +1,7 @@
 use Rattle.std.proofs.Common.{codes}
 use Rattle.std.specs.List.{flat_map}
 use Rattle.partial_reports.specs.Head.{dimensions_text, part_text, word_text}
-use Rattle.partial_reports.proofs.Pushed.{five_parts}
+use Rattle.partial_reports.proofs.TextsLemmas.{five_parts}
 use Rattle.partial_reports.proofs.texts.head_text.Goals as goal
 
 pub returns-clause-ok : goal.returns-clause-ok

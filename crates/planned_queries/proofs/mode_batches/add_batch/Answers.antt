@@ -10,7 +10,7 @@ use Rattle.warehouse_objects.proofs.Batches.{some_one}
 use Rattle.warehouse_objects.proofs.Folded.{err_fault, found_at, none_there, of_counts, of_fault}
 use Rattle.warehouse_objects.proofs.OneMoreRead.{has_read}
 use Rattle.planned_queries.proofs.Faults.{no_device}
-use Rattle.planned_queries.proofs.Reading.{missing, refused}
+use Rattle.planned_queries.proofs.ModeBatchesLemmas.{missing, refused}
 use Rattle.planned_queries.proofs.mode_batches.add_batch.Goals as goal
 
 pub returns-in_err-bytes-clause-refused : goal.returns-in_err-bytes-clause-refused

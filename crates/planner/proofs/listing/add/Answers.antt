@@ -3,7 +3,7 @@ use Rattle.std.specs.List.{Contains}
 use Rattle.planner.specs.declared.price.Priced.{Priced}
 use Rattle.planner.specs.Listed.{HasBetterFirst}
 use Rattle.planner.specs.Plans.{ComesFirst}
-use Rattle.planner.proofs.Listed.{first_put, put_before}
+use Rattle.planner.proofs.ListingLemmas.{first_put, put_before}
 use Rattle.planner.proofs.listing.add.Goals as goal
 
 pub returns-in_ok-insert-clause-each : goal.returns-in_ok-insert-clause-each

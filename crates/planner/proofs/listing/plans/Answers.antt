@@ -4,7 +4,7 @@ use Rattle.planner.specs.declared.price.Plan.{Plan}
 use Rattle.planner.specs.declared.price.Priced.{Priced}
 use Rattle.planner.specs.Listed.{HasCheapestFirst}
 use Rattle.planner.specs.Plans.{AnswersAt, ComesFirst, ServesAsOf}
-use Rattle.planner.proofs.Listed.{iff_through, listed_more_at, listed_passed_at, or_through}
+use Rattle.planner.proofs.ListingLemmas.{iff_through, listed_more_at, listed_passed_at, or_through}
 use Rattle.planner.proofs.Taken.{untrue, passed_at, taken_at}
 use Rattle.planner.proofs.listing.plans.Goals as goal
 use Rattle.planner.proofs.listing.plans.Goals.{then-serves+in_ok-add, else-serves}

@@ -1,5 +1,5 @@
 use Rattle.std.proofs.Common.{refl, [], inl, inr}
-use Rattle.query_words.proofs.Least.{begins, ends, steps}
+use Rattle.query_words.proofs.NearnessLemmas.{begins, ends, steps}
 use Rattle.query_words.proofs.nearness.nearest.Goals.{then-edits-least, else-edits-least}
 use Rattle.query_words.proofs.nearness.nearest.Goals as goal
 

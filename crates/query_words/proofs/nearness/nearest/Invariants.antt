@@ -1,4 +1,4 @@
-use Rattle.query_words.proofs.Least.{IsLeast}
+use Rattle.query_words.proofs.NearnessLemmas.{IsLeast}
 use Rattle.query_words.proofs.nearness.nearest.Given as goal
 
 abbrev pub invariant-loop-name : goal.invariant-loop-name

@@ -2,7 +2,7 @@ use Rattle.std.proofs.Common.{Bor, List, ℕ, Option, map, subst, sym}
 use Rattle.std.specs.Option.{option_map}
 use Rattle.query_words.specs.declared.cube_parts.CubeParts.{CubeParts}
 use Rattle.query_words.specs.Words.{SpellsProper}
-use Rattle.query_words.proofs.Whole.{ArePartsOf, columns_stop, conditions_stop, cube_words, exceeds, within}
+use Rattle.query_words.proofs.WordsLemmas.{ArePartsOf, columns_stop, conditions_stop, cube_words, exceeds, within}
 use Rattle.query_words.proofs.words.read_cube.Goals as goal
 
 abbrev text_in : Option (Bor (List ℕ)) → Option (List ℕ)

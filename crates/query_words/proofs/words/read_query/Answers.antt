@@ -1,7 +1,7 @@
 use Rattle.std.proofs.Common.{Bor, List, ℕ, Option, ap}
 use Rattle.std.specs.Option.{option_map}
 use Rattle.query_words.specs.Given.{words_of}
-use Rattle.query_words.proofs.Whole.{reads_cube}
+use Rattle.query_words.proofs.WordsLemmas.{reads_cube}
 use Rattle.query_words.proofs.words.read_query.Goals as goal
 
 abbrev text_in : Option (Bor (List ℕ)) → Option (List ℕ)

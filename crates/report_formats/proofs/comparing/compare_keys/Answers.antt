@@ -2,7 +2,7 @@ use Rattle.std.proofs.Common.{◌≡◌, ◌∙◌, sym, min, length, arith}
 use Rattle.std.specs.Ordering.{nat_cmp}
 use Rattle.cube_model.specs.Keys.{member_cmp}
 use Rattle.group_tallies.specs.GroupLines.{line_at}
-use Rattle.report_formats.proofs.KeyLoop.{at_end}
+use Rattle.report_formats.proofs.ComparingLemmas.{at_end}
 use Rattle.report_formats.proofs.comparing.compare_keys.Goals as goal
 
 pub returns : goal.returns

@@ -2,7 +2,7 @@ use Rattle.std.proofs.Common.{◌<◌, length, rules, refl}
 use Rattle.std.proofs.lemmas.Result.{err_from_is_err_and}
 use Rattle.ssb_reports.proofs.Beginnings.{Writes-on, Writes-stop, Writes-stop_after}
 use Rattle.report_formats.specs.Escapes.{byte_text}
-use Rattle.report_formats.proofs.Plain.{plain_front, plain_then}
+use Rattle.report_formats.proofs.EscapesLemmas.{plain_front, plain_then}
 use Rattle.report_formats.proofs.escapes.+write_escaped.Goals as goal
 
 pub returns-in_err-write_bytes : goal.returns-in_err-write_bytes

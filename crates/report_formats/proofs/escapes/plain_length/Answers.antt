@@ -1,6 +1,6 @@
 use Rattle.std.proofs.Common.{◌<◌, length, rules}
 use Rattle.report_formats.specs.Escapes.{byte_text}
-use Rattle.report_formats.proofs.Plain.{plain_more}
+use Rattle.report_formats.proofs.EscapesLemmas.{plain_more}
 use Rattle.report_formats.proofs.escapes.plain_length.Goals as goal
 
 pub loop-place-preserved : goal.loop-place-preserved

@@ -1,7 +1,7 @@
 use Rattle.std.proofs.Common.{◌≡◌, false, true}
 use Rattle.std.proofs.lemmas.Str.{is_utf8-from_IsUtf8}
 use Rattle.std.specs.Str.{is_utf8}
-use Rattle.report_formats.proofs.Utf8.{not_utf8}
+use Rattle.report_formats.proofs.EscapesLemmas.{not_utf8}
 use Rattle.report_formats.proofs.escapes.write_json_text.Goals as goal
 
 pub returns-in-Ok : goal.returns-in-Ok

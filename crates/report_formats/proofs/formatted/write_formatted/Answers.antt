@@ -4,7 +4,7 @@ use Rattle.std.proofs.lemmas.Result.{err_from_is_err_and}
 use Rattle.cube_model.specs.declared.answer.Line.{Line}
 use Rattle.ssb_reports.specs.Writing.{Writes}
 use Rattle.report_formats.specs.Fields.{unarranged}
-use Rattle.report_formats.proofs.Arranging.{lacks, written}
+use Rattle.report_formats.proofs.FormattedLemmas.{lacks, written}
 use Rattle.report_formats.proofs.formatted.write_formatted.Goals as goal
 
 pub returns-in_err-arranged-clause-writes : goal.returns-in_err-arranged-clause-writes

@@ -1,4 +1,4 @@
-use Rattle.report_formats.proofs.Csv.{csv-reads_back}
+use Rattle.report_formats.proofs.LawsLemmas.{csv-reads_back}
 use Rattle.report_formats.proofs.laws.csv_reads_back.Goals as goal
 
 pub returns : goal.returns

@@ -1,4 +1,4 @@
-use Rattle.report_formats.proofs.Tsv.{tsv-reads_back}
+use Rattle.report_formats.proofs.LawsLemmas.{tsv-reads_back}
 use Rattle.report_formats.proofs.laws.tsv_reads_back.Goals as goal
 
 pub returns : goal.returns

@@ -1,4 +1,4 @@
-use Rattle.report_formats.proofs.SortedAnswers.{answers_are_sorted}
+use Rattle.report_formats.proofs.OrderLawsLemmas.{answers_are_sorted}
 use Rattle.report_formats.proofs.order_laws.answers_are_sorted.Goals as goal
 
 pub returns : goal.returns

@@ -1,4 +1,4 @@
-use Rattle.report_formats.proofs.Averages.{averages_sort_alike}
+use Rattle.report_formats.proofs.OrderLawsLemmas.{averages_sort_alike}
 use Rattle.report_formats.proofs.order_laws.averages_sort_alike.Goals as goal
 
 pub returns : goal.returns

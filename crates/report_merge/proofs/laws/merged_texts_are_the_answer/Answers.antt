@@ -1,4 +1,4 @@
-use Rattle.report_merge.proofs.Whole.{merged_texts_are_the_answer}
+use Rattle.report_merge.proofs.LawsLemmas.{merged_texts_are_the_answer}
 use Rattle.report_merge.proofs.laws.merged_texts_are_the_answer.Goals as goal
 
 pub returns : goal.returns

@@ -1,4 +1,4 @@
-use Rattle.report_merge.proofs.Whole.{merged_texts_can_be_finished}
+use Rattle.report_merge.proofs.LawsLemmas.{merged_texts_can_be_finished}
 use Rattle.report_merge.proofs.laws.merged_texts_can_be_finished.Goals as goal
 
 pub returns : goal.returns

@@ -1,4 +1,4 @@
-use Rattle.report_merge.proofs.Written.{written_texts_can_be_merged}
+use Rattle.report_merge.proofs.LawsLemmas.{written_texts_can_be_merged}
 use Rattle.report_merge.proofs.laws.written_texts_can_be_merged.Goals as goal
 
 pub returns : goal.returns

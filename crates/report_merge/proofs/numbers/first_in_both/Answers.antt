@@ -1,5 +1,5 @@
 use Rattle.std.proofs.Common.{◌∙◌, sym, arith}
-use Rattle.report_merge.proofs.Apart.{all_apart, first_least}
+use Rattle.report_merge.proofs.NumbersLemmas.{all_apart, first_least}
 use Rattle.report_merge.proofs.numbers.first_in_both.Goals as goal
 
 pub returns-then-contains-clause-some : goal.returns-then-contains-clause-some

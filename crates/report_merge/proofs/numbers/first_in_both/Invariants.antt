@@ -1,5 +1,5 @@
 use Rattle.std.proofs.Common.{◌≡◌, ℕ, ◌<◌, false, get_or}
-use Rattle.report_merge.proofs.Apart.{is_in}
+use Rattle.report_merge.proofs.NumbersLemmas.{is_in}
 use Rattle.report_merge.proofs.numbers.first_in_both.Given as goal
 
 abbrev pub invariant-loop-number : goal.invariant-loop-number

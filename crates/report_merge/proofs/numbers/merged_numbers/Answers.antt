@@ -3,7 +3,7 @@ use Rattle.partial_reports.specs.Head.{ascend_between}
 use Rattle.std.specs.List.Sorted.{IsPermutation}
 use Rattle.std.proofs.lemmas.Grind.{common_steps}
 use Rattle.std.proofs.lemmas.List.Sorted.{IsNonDecreasingBy-from_sort}
-use Rattle.report_merge.proofs.Apart.{increase, merged_ascend}
+use Rattle.report_merge.proofs.NumbersLemmas.{increase, merged_ascend}
 use Rattle.report_merge.proofs.numbers.merged_numbers.Goals as goal
 
 pub first_in_both-requires : goal.first_in_both-requires

@@ -5,7 +5,7 @@ use Rattle.std.proofs.lemmas.Fn.{always_returns_same}
 use Rattle.std.proofs.lemmas.List.Sorted.{ranks_by}
 use Rattle.cube_model.specs.declared.answer.Line.{Line}
 use Rattle.cube_model.specs.Orders.{line_cmp}
-use Rattle.report_merge.proofs.Sorted.{line_cmp_total, sorted_lines}
+use Rattle.report_merge.proofs.OrderingLemmas.{line_cmp_total, sorted_lines}
 use Rattle.report_merge.proofs.ordering.sorted.Goals as goal
 
 pub returns : goal.returns

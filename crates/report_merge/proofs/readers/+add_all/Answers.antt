@@ -3,7 +3,7 @@ use Rattle.std.proofs.lemmas.Grind.{common_steps}
 use Rattle.std.proofs.lemmas.Result.{IfOk-weaker}
 use Rattle.report_merge.specs.declared.refused.Unmerged.{Unmerged}
 use Rattle.report_merge.specs.Mergeable.{CanAdd, IsOutside}
-use Rattle.report_merge.proofs.Remaining.{can_next, first_more, no_more, split}
+use Rattle.report_merge.proofs.ReadersLemmas.{can_next, first_more, no_more, split}
 use Rattle.report_merge.proofs.readers.+add_all.Goals as goal
 
 pub returns-in-Ok-clause-ok : goal.returns-in-Ok-clause-ok

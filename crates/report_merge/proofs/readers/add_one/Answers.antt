@@ -1,7 +1,7 @@
 use Rattle.std.proofs.Common.{◌∙◌, sym, subst, List, ℕ}
 use Rattle.std.proofs.lemmas.Result.{IfOk-weaker, MatchResult-weaker, err_from_is_err_and}
 use Rattle.report_merge.specs.Merging.{AddsPart, IsPartialReport}
-use Rattle.report_merge.proofs.Remaining.{outside, outside_input}
+use Rattle.report_merge.proofs.ReadersLemmas.{outside, outside_input}
 use Rattle.report_merge.proofs.readers.add_one.Goals as goal
 
 pub returns-clause-ok : goal.returns-clause-ok

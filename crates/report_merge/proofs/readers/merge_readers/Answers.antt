@@ -3,7 +3,7 @@ use Rattle.std.proofs.lemmas.Grind.{common_steps}
 use Rattle.std.proofs.lemmas.Result.{IfOk-weaker}
 use Rattle.report_merge.specs.declared.refused.Unmerged.{Unmerged}
 use Rattle.report_merge.specs.Mergeable.{CanMerge, IsOutside}
-use Rattle.report_merge.proofs.Remaining.{all_merged, can_first, no_texts, split}
+use Rattle.report_merge.proofs.ReadersLemmas.{all_merged, can_first, no_texts, split}
 use Rattle.report_merge.proofs.readers.merge_readers.Goals as goal
 
 pub returns-in-Ok-clause-ok : goal.returns-in-Ok-clause-ok

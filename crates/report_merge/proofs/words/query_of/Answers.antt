@@ -10,8 +10,8 @@ use Rattle.report_merge.specs.declared.refused.Refused.TheVariants.{Memory}
 use Rattle.report_merge.specs.Given.{no_query}
 use Rattle.report_merge.proofs.Given.{spelled_if}
 use Rattle.report_merge.proofs.Refusing.{moded_words, unread_words, words_refused}
-use Rattle.report_merge.proofs.Takings.{after_agg, after_by, after_q, after_set, last_given, next_agg, next_by, next_q}
-use Rattle.report_merge.proofs.Takings.{next_set}
+use Rattle.report_merge.proofs.WordsLemmas.{after_agg, after_by, after_q, after_set, last_given, next_agg, next_by}
+use Rattle.report_merge.proofs.WordsLemmas.{next_q, next_set}
 use Rattle.report_merge.proofs.words.query_of.Goals as goal
 
 pub returns-in_err-q-clause-refused : goal.returns-in_err-q-clause-refused

@@ -1,6 +1,6 @@
 use Rattle.std.proofs.Common.{ap, ◌∙◌}
 use Rattle.sector_cache.specs.Kept.{kept_at}
-use Rattle.sector_cache.proofs.LookUps.{kept-promoted}
+use Rattle.sector_cache.proofs.KeptLemmas.{kept-promoted}
 use Rattle.sector_cache.proofs.kept.copy_kept.Goals as goal
 
 pub returns-clause-same : goal.returns-clause-same

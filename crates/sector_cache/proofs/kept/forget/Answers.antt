@@ -1,6 +1,6 @@
 use Rattle.std.proofs.Common.{sym, subst}
 use Rattle.sector_cache.specs.Kept.{Forgets}
-use Rattle.sector_cache.proofs.LookUps.{forgets_removed}
+use Rattle.sector_cache.proofs.KeptLemmas.{forgets_removed}
 use Rattle.sector_cache.proofs.kept.forget.Goals as goal
 
 pub returns-then-len-gt0 : goal.returns-then-len-gt0

@@ -1,6 +1,6 @@
 use Rattle.std.proofs.Common.{sym, subst}
 use Rattle.sector_cache.specs.Kept.{Keeps}
-use Rattle.sector_cache.proofs.LookUps.{keeps_put}
+use Rattle.sector_cache.proofs.KeptLemmas.{keeps_put}
 use Rattle.sector_cache.proofs.kept.keep.Goals as goal
 
 pub returns-in-Ok : goal.returns-in-Ok

@@ -2,7 +2,7 @@ use Rattle.std.proofs.Common.{◌∙◌, ◌∷◌, ◌++◌, [], refl}
 use Rattle.std.proofs.lemmas.Result.{err_from_is_err_and}
 use Rattle.cube_model.specs.Admission.{all_rows}
 use Rattle.ssb_eval.proofs.Batches.{leaves_on, facts-done, folds-stopped}
-use Rattle.ssb_eval.proofs.Taking.{AreTaken-own, AreTaken-of, gives-stopped, count_more}
+use Rattle.ssb_eval.proofs.FactsLemmas.{AreTaken-own, AreTaken-of, gives-stopped, count_more}
 use Rattle.ssb_eval.proofs.facts.fold_lines.Goals as goal
 
 pub returns-in_err-more-clause-facts : goal.returns-in_err-more-clause-facts

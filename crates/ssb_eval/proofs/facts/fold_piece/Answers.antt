@@ -3,7 +3,7 @@ use Rattle.std.proofs.lemmas.Result.{err_from_is_err_and}
 use Rattle.batch_admission.specs.Found.{cause_of}
 use Rattle.cube_query.proofs.CallerLemmas.{memory_alone}
 use Rattle.mode_folds.specs.States.{CanTakeByModes}
-use Rattle.ssb_eval.proofs.Pieces.{no_cause, over_rows, some_cause}
+use Rattle.ssb_eval.proofs.FactsLemmas.{no_cause, over_rows, some_cause}
 use Rattle.ssb_eval.proofs.facts.fold_piece.Goals as goal
 
 pub add_rows-requires : goal.add_rows-requires

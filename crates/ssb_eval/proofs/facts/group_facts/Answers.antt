@@ -5,7 +5,7 @@ use Rattle.dimension_tables.specs.Texts.{GivesUnlessFailed}
 use Rattle.mode_folds.specs.States.{IsFoldableByModes}
 use Rattle.ssb_eval.specs.Evaluation.{moded_answer_of}
 use Rattle.ssb_eval.proofs.Batches.{gives-answered, gives-nothing}
-use Rattle.ssb_eval.proofs.Pieces.{over_rows}
+use Rattle.ssb_eval.proofs.FactsLemmas.{over_rows}
 use Rattle.ssb_eval.proofs.facts.group_facts.Goals as goal
 
 pub returns-in_err-fold_lines-clause-answer : goal.returns-in_err-fold_lines-clause-answer

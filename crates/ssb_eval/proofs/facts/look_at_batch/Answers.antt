@@ -7,7 +7,7 @@ use Rattle.batch_loader.proofs.TakingPieces.{IsTaking-piece, RefusesBatch-piece,
 use Rattle.batch_loader.proofs.TakingRows.{IsTaking, IsTaking-start, IsTaking-whole}
 use Rattle.cube_model.specs.Admission.{all_rows}
 use Rattle.cube_model.specs.Limits.{most_batch_rows, most_batches}
-use Rattle.ssb_eval.proofs.Pieces.{IsBegun-more, IsBegun-start, LooksAtNext-refused, can_add, modes_more}
+use Rattle.ssb_eval.proofs.FactsLemmas.{IsBegun-more, IsBegun-start, LooksAtNext-refused, can_add, modes_more}
 use Rattle.ssb_eval.proofs.facts.look_at_batch.Goals as goal
 
 pub loop-init : goal.loop-init

@@ -3,8 +3,8 @@ use Rattle.std.proofs.lemmas.Result.{err_from_is_err_and}
 use Rattle.cube_model.specs.Admission.{all_rows, moded_refusal}
 use Rattle.ssb_eval.proofs.Admitting.{modes_next}
 use Rattle.ssb_eval.proofs.Batches.{taken_more}
-use Rattle.ssb_eval.proofs.Pieces.{AreTaken-none, counted, found-after}
-use Rattle.ssb_eval.proofs.Taking.{TakesNextBatch-unread, TakesNextBatch-refused, no_rows}
+use Rattle.ssb_eval.proofs.FactsLemmas.{AreTaken-none, counted, found-after, TakesNextBatch-unread}
+use Rattle.ssb_eval.proofs.FactsLemmas.{TakesNextBatch-refused, no_rows}
 use Rattle.ssb_eval.proofs.facts.take_batch.Goals as goal
 
 pub returns-in_err-found-clause-takes : goal.returns-in_err-found-clause-takes

@@ -4,7 +4,7 @@ use Rattle.std.proofs.lemmas.Result.{err_from_is_err_and}
 use Rattle.mode_folds.specs.Answered.{answered_over}
 use Rattle.ssb_eval.proofs.Endings.{evaluates-plain, evaluates-same, reports-stop, reports-unwritten}
 use Rattle.ssb_eval.proofs.KeptLines.{keeps-nothing, keeps-other, keeps-refused}
-use Rattle.ssb_eval.proofs.Partly.{partial-refused, partial-not_plain, partial-is}
+use Rattle.ssb_eval.proofs.PartialLemmas.{partial-refused, partial-not_plain, partial-is}
 use Rattle.ssb_eval.proofs.partial.eval_partial.Goals as goal
 
 pub returns-in_err-found-clause-proper : goal.returns-in_err-found-clause-proper

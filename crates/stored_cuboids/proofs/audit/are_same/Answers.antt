@@ -1,5 +1,5 @@
 use Rattle.std.proofs.lemmas.Slice.Eq.{slice_eq-Decides}
-use Rattle.stored_cuboids.proofs.SameCells.{cell_is, same_cell}
+use Rattle.stored_cuboids.proofs.AuditLemmas.{cell_is, same_cell}
 use Rattle.stored_cuboids.proofs.audit.are_same.Goals as goal
 
 pub returns : goal.returns

@@ -7,8 +7,8 @@ use Rattle.object_store.specs.Store.{content_of}
 use Rattle.warehouse_objects.proofs.Folded.{of_fault, ok_so}
 use Rattle.cuboid_upkeep.specs.Growing.{grown}
 use Rattle.stored_cuboids.specs.Grouped.{IsAddFaultOf}
-use Rattle.stored_cuboids.proofs.Faults.{add_causes, decode_refused, never_device_here, read_refused}
-use Rattle.stored_cuboids.proofs.Read.{batch_here, is_here, same_rows, segment_here}
+use Rattle.stored_cuboids.proofs.BatchesLemmas.{add_causes, decode_refused, never_device_here, read_refused, batch_here}
+use Rattle.stored_cuboids.proofs.BatchesLemmas.{is_here, same_rows, segment_here}
 use Rattle.warehouse_objects.proofs.OneMoreRead.{has_read}
 use Rattle.stored_cuboids.proofs.batches.add_batch.Goals as goal
 

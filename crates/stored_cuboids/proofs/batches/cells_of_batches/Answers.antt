@@ -20,10 +20,8 @@ use Rattle.warehouse_objects.proofs.Batches.{get_within}
 use Rattle.warehouse_objects.proofs.Folded.{err_fault, of_fault}
 use Rattle.warehouse_objects.proofs.OneMoreRead.{has_read, reads_more, same_error, still_then, then_reads}
 use Rattle.cuboid_upkeep.specs.Growing.{grown}
-use Rattle.stored_cuboids.proofs.Faults.{too_many_of, unfit}
-use Rattle.stored_cuboids.proofs.Members.{its_members, many_then, never_bad, none_represent, own_modes}
-use Rattle.stored_cuboids.proofs.Read.{count_here}
-use Rattle.stored_cuboids.proofs.BatchSpans.{between, none_between, one_more}
+use Rattle.stored_cuboids.proofs.BatchesLemmas.{too_many_of, unfit, its_members, many_then, never_bad, none_represent}
+use Rattle.stored_cuboids.proofs.BatchesLemmas.{own_modes, count_here, between, none_between, one_more}
 use Rattle.stored_cuboids.proofs.batches.cells_of_batches.Goals as goal
 
 pub loop-before-init : goal.loop-before-init

@@ -6,7 +6,7 @@ use Rattle.warehouse_objects.specs.Represents.{IsLaidOut}
 use Rattle.warehouse_objects.specs.Warehouse.{Warehouse}
 use Rattle.cuboid_upkeep.specs.Growing.{GrowOver, grown}
 use Rattle.stored_cuboids.specs.Grouped.{RepresentSomeRows}
-use Rattle.stored_cuboids.proofs.BatchSpans.{between}
+use Rattle.stored_cuboids.proofs.BatchesLemmas.{between}
 use Rattle.stored_cuboids.proofs.batches.cells_of_batches.Given as goal
 
 abbrev pub invariant-loop-before : goal.invariant-loop-before

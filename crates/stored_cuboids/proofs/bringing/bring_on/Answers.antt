@@ -7,12 +7,11 @@ use Rattle.object_store.specs.Store.{IsStill, content_of, room_of}
 use Rattle.warehouse_root.specs.Root.{PlainRoot}
 use Rattle.stored_cuboids.specs.Keeping.{StoreAt}
 use Rattle.stored_cuboids.specs.Nexts.{RefusesToBringOn}
-use Rattle.stored_cuboids.proofs.Brought.{far_enough}
+use Rattle.stored_cuboids.proofs.BringingLemmas.{far_enough, bad_not_device, bring_leaves, bring_reached, bring_stays}
+use Rattle.stored_cuboids.proofs.BringingLemmas.{ends_refused, ends_unread, many_by_number, never_failed, none_left}
+use Rattle.stored_cuboids.proofs.BringingLemmas.{not_device, passed_over, read_leaves, refused_next, stored_at}
 use Rattle.warehouse_objects.specs.Loaded.{IsLoaded}
 use Rattle.warehouse_objects.proofs.Folded.{err_fault}
-use Rattle.stored_cuboids.proofs.OneMore.{bad_not_device, bring_leaves, bring_reached, bring_stays, ends_refused}
-use Rattle.stored_cuboids.proofs.OneMore.{ends_unread, many_by_number, never_failed, none_left, not_device, passed_over}
-use Rattle.stored_cuboids.proofs.OneMore.{read_leaves, refused_next, stored_at}
 use Rattle.stored_cuboids.proofs.LaterReads.{at_before, at_still, loaded_before, loaded_still}
 use Rattle.stored_cuboids.proofs.Turns.{same}
 use Rattle.stored_cuboids.proofs.bringing.bring_on.Goals as goal

@@ -9,7 +9,7 @@ use Rattle.warehouse_objects.specs.Represents.{Represents}
 use Rattle.warehouse_objects.specs.Warehouse.{kept}
 use Rattle.warehouse_objects.specs.Loaded.{IsLoaded}
 use Rattle.stored_cuboids.specs.Nexts.{first_run}
-use Rattle.stored_cuboids.proofs.Stepping.{after, few_one, loaded_next, next_leaves, refuses_same}
+use Rattle.stored_cuboids.proofs.KeepingLemmas.{after, few_one, loaded_next, next_leaves, refuses_same}
 use Rattle.stored_cuboids.proofs.keeping.keep_one.Goals as goal
 
 pub commit-requires-clause-root : goal.commit-requires-clause-root

@@ -5,7 +5,7 @@ use Rattle.lattice.specs.declared.view.View.{View}
 use Rattle.lattice.proofs.Places.{one_view}
 use Rattle.cuboid_upkeep.specs.Steps.{HaveTooMany}
 use Rattle.warehouse_objects.specs.Warehouse.{ship_modes_of}
-use Rattle.stored_cuboids.proofs.Tails.{large_of, not_merged, unfit_of}
+use Rattle.stored_cuboids.proofs.NextsLemmas.{large_of, not_merged, unfit_of}
 use Rattle.stored_cuboids.proofs.nexts.merged_with.Goals as goal
 
 pub merge-requires : goal.merge-requires

@@ -19,7 +19,7 @@ use Rattle.warehouse_objects.proofs.CallerLemmas.{laid_of}
 use Rattle.warehouse_objects.proofs.OneMoreRead.{then_reads}
 use Rattle.stored_cuboids.specs.Nexts.{IsNextStep}
 use Rattle.stored_cuboids.proofs.Made.{next_weaker}
-use Rattle.stored_cuboids.proofs.Tails.{own_layout, whole_too_large}
+use Rattle.stored_cuboids.proofs.NextsLemmas.{own_layout, whole_too_large}
 use Rattle.stored_cuboids.proofs.nexts.next_of.Goals as goal
 
 pub returns-in-Ok-clause-reads : goal.returns-in-Ok-clause-reads

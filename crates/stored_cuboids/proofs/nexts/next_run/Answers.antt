@@ -9,7 +9,7 @@ use Rattle.cuboid_upkeep.specs.Steps.{HaveTooMany}
 use Rattle.warehouse_objects.specs.Warehouse.{ship_modes_of}
 use Rattle.warehouse_objects.specs.Represents.{rows_in}
 use Rattle.stored_cuboids.proofs.Made.{next_weaker}
-use Rattle.stored_cuboids.proofs.Tails.{count_of, whole_few, whole_in_range, whole_rows}
+use Rattle.stored_cuboids.proofs.NextsLemmas.{count_of, whole_few, whole_in_range, whole_rows}
 use Rattle.stored_cuboids.proofs.nexts.next_run.Goals as goal
 
 pub returns-in-Ok-clause-ok : goal.returns-in-Ok-clause-ok

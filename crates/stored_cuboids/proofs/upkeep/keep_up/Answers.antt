@@ -8,8 +8,8 @@ use Rattle.warehouse_root.specs.declared.cuboid.StoredCuboid.{StoredCuboid}
 use Rattle.warehouse_objects.specs.Represents.{root_of}
 use Rattle.warehouse_objects.specs.Warehouse.{aimed}
 use Rattle.stored_cuboids.proofs.Turns.{kept_same}
-use Rattle.stored_cuboids.proofs.Upkept.{all_whole, from_aimed, leaves_aimed, leaves_both, leaves_same, members_aimed}
-use Rattle.stored_cuboids.proofs.Upkept.{memory_or, target_is, whole_by_root}
+use Rattle.stored_cuboids.proofs.UpkeepLemmas.{all_whole, from_aimed, leaves_aimed, leaves_both, leaves_same}
+use Rattle.stored_cuboids.proofs.UpkeepLemmas.{members_aimed, memory_or, target_is, whole_by_root}
 use Rattle.stored_cuboids.proofs.upkeep.keep_up.Goals as goal
 
 pub returns-then-are_whole-clause-leaves : goal.returns-then-are_whole-clause-leaves

@@ -3,7 +3,7 @@ use Rattle.std.specs.Option.{IsSomeAnd}
 use Rattle.std.proofs.lemmas.Result.{IfOk-weaker}
 use Rattle.wire.specs.Runs.{IsRefused}
 use Rattle.stored_rows.proofs.MoreReads.{word_then}
-use Rattle.stored_rows.proofs.TextPart.{columns_same}
+use Rattle.stored_rows.proofs.TextPartLemmas.{columns_same}
 use Rattle.stored_rows.proofs.text_part.has_columns.Goals as goal
 
 pub returns-in-Some-clause-same : goal.returns-in-Some-clause-same

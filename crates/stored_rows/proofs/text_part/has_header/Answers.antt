@@ -1,7 +1,7 @@
 use Rattle.std.proofs.Common.{◌≡◌, ◌∙◌, subst, length, Option, Some, List, ℕ}
 use Rattle.std.specs.Str.{bytes_eq}
 use Rattle.wire.specs.Parts.{Gives}
-use Rattle.stored_rows.proofs.TextPart.{compared}
+use Rattle.stored_rows.proofs.TextPartLemmas.{compared}
 use Rattle.stored_rows.proofs.text_part.has_header.Goals as goal
 
 pub returns-clause-same : goal.returns-clause-same

@@ -1,6 +1,6 @@
 use Rattle.std.proofs.Common.{refl}
 use Rattle.std.proofs.Math.ListN.{replicate}
-use Rattle.stored_rows.proofs.TextPart.{written}
+use Rattle.stored_rows.proofs.TextPartLemmas.{written}
 use Rattle.stored_rows.proofs.text_part.header_of.Goals as goal
 
 pub returns : goal.returns

@@ -5,7 +5,7 @@ use Rattle.cube_model.specs.declared.fault.Fault.TheVariants.{BadLayout, Memory}
 use Rattle.wire.proofs.CallerLemmas.{HasRead-then}
 use Rattle.column_segment.specs.Projected.{HasColumns}
 use Rattle.stored_rows.proofs.MoreReads.{ends_later, ends_stays, ends_then, err_later, word_then}
-use Rattle.stored_rows.proofs.TextPart.{columns_there, last_found, no_last, texts_of}
+use Rattle.stored_rows.proofs.TextPartLemmas.{columns_there, last_found, no_last, texts_of}
 use Rattle.stored_rows.proofs.text_part.read_last_column.Goals as goal
 
 pub returns-then-not-branch-clause-refused : goal.returns-then-not-branch-clause-refused

@@ -9,7 +9,7 @@ use Rattle.warehouse_objects.proofs.Folded.{bad_one, of_fault}
 use Rattle.warehouse_root.specs.Objects.{segment_id}
 use Rattle.stored_rows.specs.Passing.{LeadsToLast}
 use Rattle.stored_rows.specs.TextColumns.{SpellLast}
-use Rattle.stored_rows.proofs.TextPart.{holds_modes, holds_none}
+use Rattle.stored_rows.proofs.TextPartLemmas.{holds_modes, holds_none}
 use Rattle.stored_rows.proofs.text_part.read_mode_column.Goals as goal
 
 pub returns-clause-modes : goal.returns-clause-modes

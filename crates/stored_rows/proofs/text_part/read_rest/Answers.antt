@@ -1,7 +1,7 @@
 use Rattle.std.proofs.Common.{◌≡◌, ◌∙◌, List, ℕ, length}
 use Rattle.std.specs.Vec.{with_items}
 use Rattle.std.proofs.lemmas.List.{with_items_is}
-use Rattle.stored_rows.proofs.TextPart.{rest_read}
+use Rattle.stored_rows.proofs.TextPartLemmas.{rest_read}
 use Rattle.stored_rows.proofs.text_part.read_rest.Goals as goal
 
 pub returns-clause-found : goal.returns-clause-found

@@ -2,7 +2,7 @@ use Rattle.std.proofs.Common.{◌∙◌, ◌<◌, ap, subst, sym}
 use Rattle.std.specs.Prelude.{◌&&◌}
 use Rattle.cube_model.specs.Places.{row_count_of}
 use Rattle.table_texts.specs.Places.{is_spellable_before}
-use Rattle.table_texts.proofs.Places.{spellable-next}
+use Rattle.table_texts.proofs.DimensionLemmas.{spellable-next}
 use Rattle.table_texts.proofs.dimension.is_spellable.Goals as goal
 use Rattle.table_texts.proofs.dimension.is_spellable.Goals.{then-is_spellable_at, else-is_spellable_at}
 

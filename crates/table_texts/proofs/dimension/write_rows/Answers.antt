@@ -2,7 +2,7 @@ use Rattle.std.proofs.Common.{◌<◌, subst}
 use Rattle.std.proofs.lemmas.Result.{err_from_is_err_and}
 use Rattle.cube_model.specs.Places.{row_count_of}
 use Rattle.ssb_reports.proofs.Beginnings.{Writes-stop_after}
-use Rattle.table_texts.proofs.Places.{Appends-row, around}
+use Rattle.table_texts.proofs.DimensionLemmas.{Appends-row, around}
 use Rattle.table_texts.proofs.dimension.write_rows.Goals as goal
 
 pub returns-in_err-write_row : goal.returns-in_err-write_row

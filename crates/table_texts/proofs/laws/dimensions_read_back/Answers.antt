@@ -1,4 +1,4 @@
-use Rattle.table_texts.proofs.DimensionsBack.{dimensions-read_back}
+use Rattle.table_texts.proofs.LawsLemmas.{dimensions-read_back}
 use Rattle.table_texts.proofs.laws.dimensions_read_back.Goals as goal
 
 pub returns : goal.returns

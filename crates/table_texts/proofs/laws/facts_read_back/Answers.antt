@@ -1,4 +1,4 @@
-use Rattle.table_texts.proofs.FactsBack.{facts-read_back}
+use Rattle.table_texts.proofs.LawsLemmas.{facts-read_back}
 use Rattle.table_texts.proofs.laws.facts_read_back.Goals as goal
 
 pub returns : goal.returns

@@ -2,7 +2,7 @@ use Rattle.std.proofs.Common.{◌<◌, ℕ, List, [], ◌∷◌, ap, sym, subst}
 use Rattle.cube_model.specs.declared.attr.Axis.{Axis}
 use Rattle.cube_model.specs.Places.{row_count_of}
 use Rattle.table_texts.proofs.Counting.{first-within}
-use Rattle.table_texts.proofs.Lines.{line-is}
+use Rattle.table_texts.proofs.ListingLemmas.{line-is}
 use Rattle.table_texts.proofs.Ranks.{axes}
 use Rattle.ssb_reports.specs.Writing.{Writes}
 use Rattle.table_texts.proofs.listing.write_line.Goals as goal

@@ -5,7 +5,7 @@ use Rattle.cube_model.specs.Places.{attr_members}
 use Rattle.ssb_reports.proofs.Beginnings.{Writes-stop_after}
 use Rattle.ssb_reports.proofs.Rows.{flat_map-around}
 use Rattle.table_texts.specs.Members.{member_line}
-use Rattle.table_texts.proofs.Lines.{Appends-next}
+use Rattle.table_texts.proofs.ListingLemmas.{Appends-next}
 use Rattle.table_texts.proofs.listing.write_lines.Goals as goal
 
 pub returns-in_err-write_line : goal.returns-in_err-write_line

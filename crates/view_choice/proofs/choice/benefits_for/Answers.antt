@@ -6,7 +6,7 @@ use Rattle.view_choice.specs.declared.ties.Ties.TheVariants.{ToGreatest}
 use Rattle.view_choice.specs.Choice.{benefit, benefits_after}
 use Rattle.view_choice.specs.Costs.{costed, benefit_among, costs_in_all, lowered}
 use Rattle.view_choice.specs.Cuboids.{cuboids_for}
-use Rattle.view_choice.proofs.Kept.{benefit_among-costed, costs_fit, lowered_costs}
+use Rattle.view_choice.proofs.ChoiceLemmas.{benefit_among-costed, costs_fit, lowered_costs}
 use Rattle.view_choice.proofs.Steps.{no_view, whole_slice, benefits_more}
 use Rattle.view_choice.proofs.choice.benefits_for.Goals as goal
 

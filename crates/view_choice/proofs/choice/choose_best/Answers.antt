@@ -9,7 +9,7 @@ use Rattle.view_choice.specs.Choice.{IsBest, Lattice}
 use Rattle.view_choice.specs.Costs.{view_candidates, costed, gain_among, costs_in_all, lowered, sized}
 use Rattle.view_choice.specs.Costs.{IsFirstGreatestAt}
 use Rattle.view_choice.specs.Cuboids.{cuboids_by}
-use Rattle.view_choice.proofs.Kept.{none_gains, is_best, costs_fit, lowered_costs}
+use Rattle.view_choice.proofs.ChoiceLemmas.{none_gains, is_best, costs_fit, lowered_costs}
 use Rattle.view_choice.proofs.Steps.{whole_slice, best_more}
 use Rattle.view_choice.proofs.choice.choose_best.Goals as goal
 

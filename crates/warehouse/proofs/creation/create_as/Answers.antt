@@ -3,7 +3,7 @@ use Rattle.object_store.specs.Store.{content_of}
 use Rattle.warehouse_objects.specs.Loaded.{IsLoaded}
 use Rattle.warehouse_objects.specs.Warehouse.{fresh_in}
 use Rattle.warehouse.specs.Session.{is_at}
-use Rattle.warehouse.proofs.Making.{made_of, no_memory, refused_of}
+use Rattle.warehouse.proofs.CreationLemmas.{made_of, no_memory, refused_of}
 use Rattle.warehouse.proofs.creation.create_as.Goals as goal
 
 pub returns-in-Err-clause-refused : goal.returns-in-Err-clause-refused

@@ -4,7 +4,7 @@ use Rattle.object_store.specs.Commit.{ArePuts, puts_of}
 use Rattle.warehouse_root.specs.Root as roots
 use Rattle.warehouse_root.proofs.CallerLemmas.{root_is_short}
 use Rattle.warehouse_objects.specs.Lawful.{beginning_puts}
-use Rattle.warehouse.proofs.Making.{few_at_first, makes_store, puts_are, refuses_to_make}
+use Rattle.warehouse.proofs.CreationLemmas.{few_at_first, makes_store, puts_are, refuses_to_make}
 use Rattle.warehouse.proofs.creation.make_store.Goals as goal
 
 pub create-requires-clause-puts : goal.create-requires-clause-puts

@@ -1,4 +1,4 @@
-use Rattle.warehouse.proofs.Headlining.{stopped_run}
+use Rattle.warehouse.proofs.LawsLemmas.{stopped_run}
 use Rattle.warehouse.proofs.laws.crashed_run_is_found.Goals as goal
 
 pub returns : goal.returns

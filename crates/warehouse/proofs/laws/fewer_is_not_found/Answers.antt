@@ -1,4 +1,4 @@
-use Rattle.warehouse.proofs.Restarting.{fewer_not_found}
+use Rattle.warehouse.proofs.LawsLemmas.{fewer_not_found}
 use Rattle.warehouse.proofs.laws.fewer_is_not_found.Goals as goal
 
 pub returns : goal.returns

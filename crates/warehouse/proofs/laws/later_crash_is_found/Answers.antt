@@ -1,6 +1,5 @@
 use Rattle.warehouse.specs.Running.{none_running}
-use Rattle.warehouse.proofs.Headlining.{stopped_amid}
-use Rattle.warehouse.proofs.LaterCrashes.{ends_at}
+use Rattle.warehouse.proofs.LawsLemmas.{stopped_amid, ends_at}
 use Rattle.warehouse.proofs.laws.later_crash_is_found.Goals as goal
 
 pub returns : goal.returns

@@ -1,4 +1,4 @@
-use Rattle.warehouse.proofs.Restarting.{shows_it}
+use Rattle.warehouse.proofs.LawsLemmas.{shows_it}
 use Rattle.warehouse.proofs.laws.restarted_shows.Goals as goal
 
 pub returns : goal.returns

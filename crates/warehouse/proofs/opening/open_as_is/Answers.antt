@@ -6,7 +6,7 @@ use Rattle.object_store.specs.Found.{ExplainsRefusal}
 use Rattle.object_store.specs.Store as stores
 use Rattle.warehouse.specs.Found.{MayRepresent}
 use Rattle.warehouse.specs.Session.{disk_of}
-use Rattle.warehouse.proofs.FoundLaws.{only_since, read_leaves, session_may, never_loaded, never_none}
+use Rattle.warehouse.proofs.OpeningLemmas.{only_since, read_leaves, session_may, never_loaded, never_none}
 use Rattle.warehouse.proofs.opening.open_as_is.Goals as goal
 
 pub returns-in-Ok-load-clause-leaves : goal.returns-in-Ok-load-clause-leaves

@@ -1,7 +1,7 @@
 use Rattle.std.proofs.Common.{⊎_elim, inl, inr, None, refl, subst}
 use Rattle.warehouse_objects.specs.Facts.{facts_in}
 use Rattle.warehouse.proofs.Refusing.{device_or}
-use Rattle.warehouse.proofs.Reopened.{left_by_crash}
+use Rattle.warehouse.proofs.ReopeningLemmas.{left_by_crash}
 use Rattle.warehouse.proofs.reopening.open_and_query.Goals as goal
 
 pub returns-in-Ok-query-clause-answers : goal.returns-in-Ok-query-clause-answers

@@ -1,5 +1,5 @@
 use Rattle.std.proofs.Common.{Err, ap}
-use Rattle.warehouse.proofs.Performing.{add_done, add_refused}
+use Rattle.warehouse.proofs.RunningLemmas.{add_done, add_refused}
 use Rattle.warehouse.proofs.running.add.Goals as goal
 
 pub returns-in-Ok-clause-ran : goal.returns-in-Ok-clause-ran

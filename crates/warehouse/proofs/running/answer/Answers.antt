@@ -1,5 +1,5 @@
 use Rattle.std.proofs.Common.{Err, ap, refl}
-use Rattle.warehouse.proofs.Performing.{query_done, query_refused}
+use Rattle.warehouse.proofs.RunningLemmas.{query_done, query_refused}
 use Rattle.warehouse.proofs.running.answer.Goals as goal
 
 pub returns-in-Ok-clause-ran : goal.returns-in-Ok-clause-ran

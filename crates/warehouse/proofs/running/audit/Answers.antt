@@ -1,6 +1,6 @@
 use Rattle.std.proofs.Common.{Err, ap}
 use Rattle.warehouse.proofs.Cuboids.{laid_at}
-use Rattle.warehouse.proofs.Performing.{audit_done, audit_refused}
+use Rattle.warehouse.proofs.RunningLemmas.{audit_done, audit_refused}
 use Rattle.warehouse.proofs.running.audit.Goals as goal
 
 pub returns-in-Ok-clause-ran : goal.returns-in-Ok-clause-ran

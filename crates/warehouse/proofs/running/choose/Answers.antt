@@ -3,7 +3,7 @@ use Rattle.warehouse.specs.declared.chosen.Chosen.{Chosen}
 use Rattle.warehouse.specs.declared.command.Command.TheVariants as asks
 use Rattle.warehouse.specs.declared.command.Reply.TheVariants as says
 use Rattle.warehouse.specs.Running.{Does}
-use Rattle.warehouse.proofs.Performing.{choose_done, choose_refused}
+use Rattle.warehouse.proofs.RunningLemmas.{choose_done, choose_refused}
 use Rattle.warehouse.proofs.running.choose.Goals as goal
 
 pub returns-in-Ok-clause-ran : goal.returns-in-Ok-clause-ran

@@ -1,6 +1,6 @@
 use Rattle.std.proofs.Common.{Err, ap}
 use Rattle.stored_cuboids.proofs.CallerLemmas.{kept_same}
-use Rattle.warehouse.proofs.Performing.{upkeep_done, upkeep_refused}
+use Rattle.warehouse.proofs.RunningLemmas.{upkeep_done, upkeep_refused}
 use Rattle.warehouse.proofs.running.keep_up.Goals as goal
 
 pub returns-in-Ok-clause-ran : goal.returns-in-Ok-clause-ran

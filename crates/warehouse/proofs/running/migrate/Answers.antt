@@ -1,5 +1,5 @@
 use Rattle.std.proofs.Common.{Err, ap}
-use Rattle.warehouse.proofs.Performing.{migrate_done, migrate_refused}
+use Rattle.warehouse.proofs.RunningLemmas.{migrate_done, migrate_refused}
 use Rattle.warehouse.proofs.running.migrate.Goals as goal
 
 pub returns-in-Ok-clause-ran : goal.returns-in-Ok-clause-ran

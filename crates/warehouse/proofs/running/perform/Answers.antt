@@ -3,7 +3,7 @@ use Rattle.warehouse.specs.declared.command.Command.{Command}
 use Rattle.warehouse.specs.declared.command.Command.TheVariants.{Submit, Query, Status, Choose, Upkeep, Audit, Add}
 use Rattle.warehouse.specs.declared.command.Command.TheVariants.{Migrate}
 use Rattle.warehouse.specs.Slots.{DoesWith}
-use Rattle.warehouse.proofs.Slotting.{with_slots}
+use Rattle.warehouse.proofs.RunningLemmas.{with_slots}
 use Rattle.warehouse.proofs.running.perform.Goals as goal
 
 pub returns-in-Submit-clause-ran : goal.returns-in-Submit-clause-ran

@@ -8,8 +8,7 @@ use Rattle.warehouse.specs.Session.{has_failed}
 use Rattle.warehouse.specs.Running.{Phase, at, broken, none_running, RanAll}
 use Rattle.warehouse.specs.Slots.{HoldsWith}
 use Rattle.warehouse.proofs.Whole.{take_next, whole}
-use Rattle.warehouse.proofs.Performing.{ran_more, runs_on}
-use Rattle.warehouse.proofs.Slotting.{begins_with, session_holds}
+use Rattle.warehouse.proofs.RunningLemmas.{ran_more, runs_on, begins_with, session_holds}
 use Rattle.warehouse.proofs.running.run.Goals as goal
 
 pub loop-command-init : goal.loop-command-init

@@ -3,7 +3,7 @@ use Rattle.planned_queries.specs.Stepping.{RunningState}
 use Rattle.warehouse.specs.declared.command.Command.TheVariants.{Start}
 use Rattle.warehouse.specs.declared.command.Reply.TheVariants.{Done}
 use Rattle.warehouse.specs.Slots.{DoesWith}
-use Rattle.warehouse.proofs.Slotting.{start_beyond, start_done, start_refused}
+use Rattle.warehouse.proofs.RunningLemmas.{start_beyond, start_done, start_refused}
 use Rattle.warehouse.proofs.running.start.Goals as goal
 
 pub returns-then-from-ge-MOST_RUNNING-clause-ran : goal.returns-then-from-ge-MOST_RUNNING-clause-ran

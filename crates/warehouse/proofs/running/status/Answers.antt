@@ -1,5 +1,5 @@
 use Rattle.std.proofs.Common.{◌≡◌, true, false, Err, refl, sym, ◌∙◌, ap}
-use Rattle.warehouse.proofs.Performing.{status_done}
+use Rattle.warehouse.proofs.RunningLemmas.{status_done}
 use Rattle.warehouse.proofs.running.status.Goals as goal
 
 pub returns-in-Ok-clause-ran : goal.returns-in-Ok-clause-ran

@@ -7,7 +7,7 @@ use Rattle.warehouse.specs.declared.command.Reply.TheVariants.{More, Answer, Ref
 use Rattle.warehouse.specs.declared.stepping.Stepped.{Stepped}
 use Rattle.warehouse.specs.Slots.{DoesWith}
 use Rattle.warehouse.specs.Stepping.{StepsTo, refused_by}
-use Rattle.warehouse.proofs.Slotting.{step_done, step_more, step_none, step_refused}
+use Rattle.warehouse.proofs.RunningLemmas.{step_done, step_more, step_none, step_refused}
 use Rattle.warehouse.proofs.running.step.Goals as goal
 
 pub returns-in_default-clause-ran : goal.returns-in_default-clause-ran

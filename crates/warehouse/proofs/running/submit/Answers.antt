@@ -1,5 +1,5 @@
 use Rattle.std.proofs.Common.{Err, ap}
-use Rattle.warehouse.proofs.Performing.{submit_done, submit_refused}
+use Rattle.warehouse.proofs.RunningLemmas.{submit_done, submit_refused}
 use Rattle.warehouse.proofs.running.submit.Goals as goal
 
 pub returns-in-Ok-clause-ran : goal.returns-in-Ok-clause-ran

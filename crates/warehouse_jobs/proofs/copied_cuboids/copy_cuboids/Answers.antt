@@ -5,7 +5,7 @@ use Rattle.warehouse_objects.proofs.Folded.{ok_so}
 use Rattle.warehouse.specs.Session.{content_of}
 use Rattle.warehouse_jobs.specs.Copied.{with_first}
 use Rattle.warehouse_jobs.proofs.CopyCauses.{is_fault, views_fault}
-use Rattle.warehouse_jobs.proofs.CopiedCuboids.{is_copy, said_are, views_leave}
+use Rattle.warehouse_jobs.proofs.CopiedCuboidsLemmas.{is_copy, said_are, views_leave}
 use Rattle.warehouse_jobs.proofs.CopiedParts.{leaves_part}
 use Rattle.warehouse_jobs.proofs.copied_cuboids.copy_cuboids.Goals as goal
 

@@ -3,7 +3,7 @@ use Rattle.std.proofs.lemmas.Result.{IfErr-weaker, err_from_is_err_and}
 use Rattle.warehouse_objects.specs.Warehouse.{with_views}
 use Rattle.warehouse_objects.proofs.Folded.{ok_so}
 use Rattle.warehouse_jobs.proofs.CopyCauses.{of_commit, or_device}
-use Rattle.warehouse_jobs.proofs.CopiedCuboids.{commit_leaves, upkeep_leaves}
+use Rattle.warehouse_jobs.proofs.CopiedCuboidsLemmas.{commit_leaves, upkeep_leaves}
 use Rattle.warehouse_jobs.proofs.copied_cuboids.put_views.Goals as goal
 
 pub returns-in_err-set_views-clause-leaves : goal.returns-in_err-set_views-clause-leaves

@@ -1,6 +1,6 @@
 use Rattle.std.proofs.Common.{◌+◌, [], ◌∷◌, length, length-append, inr, sym, ap, subst, arith}
 use Rattle.std.proofs.lemmas.Result.{err_from_is_err_and}
-use Rattle.warehouse_jobs.proofs.CopiedStored.{AreFirst, first_all, first_more, never_high}
+use Rattle.warehouse_jobs.proofs.CopiedCuboidsLemmas.{AreFirst, first_all, first_more, never_high}
 use Rattle.warehouse_jobs.proofs.copied_cuboids.views_in.Goals as goal
 
 pub returns-in_err-view-in-Some-clause-refused : goal.returns-in_err-view-in-Some-clause-refused

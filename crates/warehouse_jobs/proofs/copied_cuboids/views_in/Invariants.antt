@@ -1,7 +1,7 @@
 use Rattle.std.proofs.Common.{◌≡◌, List, length}
 use Rattle.warehouse_objects.specs.Warehouse.{Cuboid}
 use Rattle.warehouse_jobs.specs.Copied.{AreSaidOf}
-use Rattle.warehouse_jobs.proofs.CopiedStored.{AreFirst}
+use Rattle.warehouse_jobs.proofs.CopiedCuboidsLemmas.{AreFirst}
 use Rattle.warehouse_jobs.proofs.copied_cuboids.views_in.Given as goal
 
 abbrev pub invariant-loop-place : goal.invariant-loop-place

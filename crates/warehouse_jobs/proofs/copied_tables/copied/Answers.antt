@@ -1,6 +1,6 @@
 use Rattle.std.proofs.Common.{◌∙◌}
 use Rattle.std.proofs.lemmas.Result.{IfErr-weaker, IfOk-weaker}
-use Rattle.warehouse_jobs.proofs.CopiedNoRows.{joined_empty, only_memory, short_none}
+use Rattle.warehouse_jobs.proofs.CopiedTablesLemmas.{joined_empty, only_memory, short_none}
 use Rattle.warehouse_jobs.proofs.copied_tables.copied.Goals as goal
 
 pub with_rows-requires : goal.with_rows-requires

@@ -1,4 +1,4 @@
-use Rattle.warehouse_jobs.proofs.CopyAnswers.{parts_alike}
+use Rattle.warehouse_jobs.proofs.CopyLawsLemmas.{parts_alike}
 use Rattle.warehouse_jobs.proofs.copy_laws.parts_answer_alike.Goals as goal
 
 pub returns : goal.returns

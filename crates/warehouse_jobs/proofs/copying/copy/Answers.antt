@@ -6,8 +6,8 @@ use Rattle.sector_device.specs.Device.{IsImage}
 use Rattle.warehouse_objects.specs.Warehouse.{Warehouse, fresh}
 use Rattle.warehouse.specs.Session.{IsAt}
 use Rattle.warehouse_jobs.specs.Copied.{HoldsPart, IsCopyFault, with_first}
-use Rattle.warehouse_jobs.proofs.CopyBegins.{back_leaves, back_spared, back_word, filling_leaves, fresh_first}
-use Rattle.warehouse_jobs.proofs.CopyBegins.{making_leaves}
+use Rattle.warehouse_jobs.proofs.CopyingLemmas.{back_leaves, back_spared, back_word, filling_leaves, fresh_first}
+use Rattle.warehouse_jobs.proofs.CopyingLemmas.{making_leaves}
 use Rattle.warehouse_jobs.proofs.CopyCauses.{is_fault, of_making}
 use Rattle.warehouse_jobs.proofs.copying.copy.Goals as goal
 

@@ -3,8 +3,8 @@ use Rattle.std.proofs.lemmas.Result.{IfErr-weaker, err_from_is_err_and}
 use Rattle.warehouse_objects.proofs.Folded.{ok_so}
 use Rattle.warehouse.specs.Comparing.{numbered}
 use Rattle.warehouse.proofs.OnlyReading.{reads_alike}
-use Rattle.warehouse_jobs.proofs.Dumped.{batch_refused, never_device, never_failed, none_there, not_read, rows_refused}
-use Rattle.warehouse_jobs.proofs.Dumped.{rows_written}
+use Rattle.warehouse_jobs.proofs.DumpingLemmas.{batch_refused, never_device, never_failed, none_there, not_read}
+use Rattle.warehouse_jobs.proofs.DumpingLemmas.{rows_refused, rows_written}
 use Rattle.warehouse_jobs.proofs.dumping.write_batch.Goals as goal
 
 pub returns-in_err-found-clause-reads : goal.returns-in_err-found-clause-reads

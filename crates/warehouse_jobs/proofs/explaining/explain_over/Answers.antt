@@ -4,7 +4,7 @@ use Rattle.planner.specs.declared.price.Priced.{Priced}
 use Rattle.ssb_reports.specs.Writing.{Writes}
 use Rattle.warehouse_root.specs.Layouts.{has_modes}
 use Rattle.warehouse_jobs.specs.PlanLines.{plans_text}
-use Rattle.warehouse_jobs.proofs.Explained.{explain-refused, explain-written}
+use Rattle.warehouse_jobs.proofs.ExplainingLemmas.{explain-refused, explain-written}
 use Rattle.warehouse_jobs.proofs.explaining.explain_over.Goals as goal
 
 pub returns-in_err-plans-clause-explains : goal.returns-in_err-plans-clause-explains

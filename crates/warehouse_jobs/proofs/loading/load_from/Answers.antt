@@ -1,6 +1,6 @@
 use Rattle.std.proofs.Common.{arith}
 use Rattle.std.proofs.lemmas.Result.{err_from_is_err_and}
-use Rattle.warehouse_jobs.proofs.Endings.{loads-none}
+use Rattle.warehouse_jobs.proofs.LoadingLemmas.{loads-none}
 use Rattle.warehouse_jobs.proofs.Turns.{still}
 use Rattle.warehouse_jobs.proofs.loading.load_from.Goals as goal
 

@@ -1,10 +1,8 @@
 use Rattle.std.proofs.Common.{◌≤◌, [], None, length, refl, arith}
 use Rattle.warehouse_jobs.specs.Loading.{batches_of, with_batches}
-use Rattle.warehouse_jobs.proofs.Endings.{never_more}
-use Rattle.warehouse_jobs.proofs.Stepping.{stepped, stepped-fault, stepped-last}
-use Rattle.warehouse_jobs.proofs.Through.{through-none}
+use Rattle.warehouse_jobs.proofs.LoadingLemmas.{never_more, stepped, stepped-fault, stepped-last, through-none}
+use Rattle.warehouse_jobs.proofs.LoadingLemmas.{after_batches, before_batches, no_key}
 use Rattle.warehouse_jobs.proofs.Turns.{still}
-use Rattle.warehouse_jobs.proofs.UnknownKeys.{after_batches, before_batches, no_key}
 use Rattle.warehouse_jobs.proofs.loading.load_lines.Goals as goal
 
 pub loop-done-init : goal.loop-done-init

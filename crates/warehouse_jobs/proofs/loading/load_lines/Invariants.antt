@@ -5,7 +5,7 @@ use Rattle.ssb_eval.specs.Tables.{IsInNoRow}
 use Rattle.warehouse_objects.specs.Warehouse.{Warehouse}
 use Rattle.warehouse.specs.Session.{device_of, IsAt}
 use Rattle.warehouse_jobs.specs.Loading.{Done}
-use Rattle.warehouse_jobs.proofs.Through.{IsThrough}
+use Rattle.warehouse_jobs.proofs.LoadingLemmas.{IsThrough}
 use Rattle.warehouse_jobs.proofs.loading.load_lines.Given as goal
 
 abbrev pub invariant-loop-done : goal.invariant-loop-done

@@ -1,6 +1,6 @@
 use Rattle.std.proofs.Common.{◌≡◌, ◌≤◌, length, refl, rules, arith}
 use Rattle.std.proofs.lemmas.Result.{err_from_is_err_and}
-use Rattle.warehouse_jobs.proofs.Stepping.{step-failed, step-unread}
+use Rattle.warehouse_jobs.proofs.LoadingLemmas.{step-failed, step-unread}
 use Rattle.warehouse_jobs.proofs.loading.load_next.Goals as goal
 
 pub next_batch-requires : goal.next_batch-requires

@@ -1,6 +1,6 @@
 use Rattle.std.proofs.lemmas.Result.{err_from_is_err_and}
 use Rattle.std.proofs.Common.{ap, Err}
-use Rattle.warehouse_jobs.proofs.Migrations.{move-refused, move-written}
+use Rattle.warehouse_jobs.proofs.MigratingLemmas.{move-refused, move-written}
 use Rattle.warehouse_jobs.proofs.migrating.migrate.Goals as goal
 
 pub returns-in_err-migrate-clause-migrates : goal.returns-in_err-migrate-clause-migrates

@@ -4,7 +4,7 @@ use Rattle.cube_model.specs.declared.rows.DimRows.{DimRows}
 use Rattle.partial_reports.specs.Dimensions.{digest_of}
 use Rattle.partial_reports.specs.Head.{head_text}
 use Rattle.ssb_reports.specs.Report.{report_of}
-use Rattle.warehouse_jobs.proofs.PartlyReported.{partial-refused, partial-not_begun, partial-written}
+use Rattle.warehouse_jobs.proofs.PartialLemmas.{partial-refused, partial-not_begun, partial-written}
 use Rattle.warehouse_jobs.proofs.partial.partial_over.Goals as goal
 
 pub returns-in_err-found-clause-ends : goal.returns-in_err-found-clause-ends

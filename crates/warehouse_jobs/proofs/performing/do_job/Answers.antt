@@ -2,7 +2,8 @@ use Rattle.std.proofs.Common.{List, subst}
 use Rattle.lattice.specs.declared.view.View.{View}
 use Rattle.warehouse.specs.Choosing.{ChooseForRefuses, ChooseRefuses, IsChoice, IsChoiceFor}
 use Rattle.warehouse_jobs.specs.Cuboids.{ChoosesFor}
-use Rattle.warehouse_jobs.proofs.Performed.{yes-chooses, yes-keeps, yes-loads, yes-migrates, yes-reports, yes-tells}
+use Rattle.warehouse_jobs.proofs.PerformingLemmas.{yes-chooses, yes-keeps, yes-loads, yes-migrates, yes-reports}
+use Rattle.warehouse_jobs.proofs.PerformingLemmas.{yes-tells}
 use Rattle.warehouse_jobs.proofs.performing.do_job.Goals as goal
 
 pub returns-in-Load-clause-performs : goal.returns-in-Load-clause-performs

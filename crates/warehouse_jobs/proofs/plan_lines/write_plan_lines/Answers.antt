@@ -1,6 +1,6 @@
 use Rattle.std.proofs.lemmas.Result.{err_from_is_err_and}
 use Rattle.ssb_reports.proofs.Beginnings.{Writes-on, Writes-stop}
-use Rattle.warehouse_jobs.proofs.PlanLines.{taken-first}
+use Rattle.warehouse_jobs.proofs.PlanLinesLemmas.{taken-first}
 use Rattle.warehouse_jobs.proofs.plan_lines.write_plan_lines.Goals as goal
 
 pub returns-in_err-write_plan-in-len1-up : goal.returns-in_err-write_plan-in-len1-up

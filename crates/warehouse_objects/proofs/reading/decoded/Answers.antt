@@ -1,4 +1,4 @@
-use Rattle.warehouse_objects.proofs.Dimensions.{refused_objects}
+use Rattle.warehouse_objects.proofs.ReadingLemmas.{refused_objects}
 use Rattle.warehouse_objects.proofs.reading.decoded.Goals as goal
 
 pub returns-clause-refused : goal.returns-clause-refused

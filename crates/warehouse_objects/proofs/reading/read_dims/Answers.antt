@@ -3,7 +3,7 @@ use Rattle.std.proofs.lemmas.Result.{IfOk-weaker, err_from_is_err_and}
 use Rattle.cube_model.specs.declared.fault.Fault.{Fault}
 use Rattle.cube_model.specs.declared.fault.Fault.TheVariants.{BadLayout}
 use Rattle.object_store.specs.Store.{content_of}
-use Rattle.warehouse_objects.proofs.Dimensions.{first_two_there, rows_found, rows_refused, rows_there}
+use Rattle.warehouse_objects.proofs.ReadingLemmas.{first_two_there, rows_found, rows_refused, rows_there}
 use Rattle.warehouse_objects.proofs.Folded.{err_fault}
 use Rattle.warehouse_objects.proofs.OneMoreRead.{then_reads}
 use Rattle.warehouse_objects.proofs.reading.read_dims.Goals as goal

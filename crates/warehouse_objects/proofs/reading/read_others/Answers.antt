@@ -3,7 +3,7 @@ use Rattle.std.proofs.lemmas.Result.{IfErr-weaker, err_from_is_err_and}
 use Rattle.cube_model.specs.declared.fault.Fault.{Fault}
 use Rattle.cube_model.specs.declared.fault.Fault.TheVariants.{BadLayout, Device}
 use Rattle.object_store.specs.Store.{content_of, device_of}
-use Rattle.warehouse_objects.proofs.Dimensions.{four_decoded, four_refused, last_two_there}
+use Rattle.warehouse_objects.proofs.ReadingLemmas.{four_decoded, four_refused, last_two_there}
 use Rattle.warehouse_objects.proofs.Folded.{err_fault, never_device, of_fault}
 use Rattle.warehouse_objects.proofs.OneMoreRead.{has_read}
 use Rattle.warehouse_objects.proofs.reading.read_others.Goals as goal

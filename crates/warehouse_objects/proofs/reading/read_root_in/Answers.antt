@@ -1,5 +1,5 @@
 use Rattle.object_store.specs.Store.{content_of}
-use Rattle.warehouse_objects.proofs.Roots.{root_found, root_refused}
+use Rattle.warehouse_objects.proofs.ReadingLemmas.{root_found, root_refused}
 use Rattle.warehouse_objects.proofs.reading.read_root_in.Goals as goal
 
 pub returns-clause-found : goal.returns-clause-found

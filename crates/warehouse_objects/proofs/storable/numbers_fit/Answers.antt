@@ -3,7 +3,7 @@ use Rattle.cube_model.specs.declared.rows.LineOrder.{LineOrder}
 use Rattle.column_segment.specs.Columns.{number_columns}
 use Rattle.dimensions.proofs.ShortLaws.{all_more, all_whole}
 use Rattle.warehouse_objects.specs.Warehouse.{FitsColumns}
-use Rattle.warehouse_objects.proofs.Numbers.{by_columns}
+use Rattle.warehouse_objects.proofs.StorableLemmas.{by_columns}
 use Rattle.warehouse_objects.proofs.storable.numbers_fit.Goals as goal
 
 pub loop-row-preserved : goal.loop-row-preserved

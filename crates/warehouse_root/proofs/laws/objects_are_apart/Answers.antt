@@ -1,4 +1,4 @@
-use Rattle.warehouse_root.proofs.Climbs.{objects}
+use Rattle.warehouse_root.proofs.LawsLemmas.{objects}
 use Rattle.warehouse_root.proofs.laws.objects_are_apart.Goals as goal
 
 pub returns : goal.returns

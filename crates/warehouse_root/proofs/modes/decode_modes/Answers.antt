@@ -1,6 +1,6 @@
 use Rattle.std.proofs.Common.{◌≡◌, ◌∙◌, ⊎_elim, ◌++◌, codes, inl, inr, refl, sym}
 use Rattle.std.proofs.lemmas.Result.{err_from_is_err_and}
-use Rattle.warehouse_root.proofs.ModesRead.{none_longer, none_reserved, none_texts}
+use Rattle.warehouse_root.proofs.ModesLemmas.{none_longer, none_reserved, none_texts}
 use Rattle.warehouse_root.proofs.modes.decode_modes.Goals.{then-not-is_empty-via-then-not-is_empty}
 use Rattle.warehouse_root.proofs.modes.decode_modes.Goals.{then-not-is_empty-via-else-not-is_empty+then-names_all}
 use Rattle.warehouse_root.proofs.modes.decode_modes.Goals as goal

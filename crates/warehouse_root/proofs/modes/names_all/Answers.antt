@@ -1,6 +1,6 @@
 use Rattle.std.proofs.Common.{◌≡◌, ◌∙◌, codes}
 use Rattle.dictionary.specs.Dictionary.{code_of}
-use Rattle.warehouse_root.proofs.ModesRead.{named}
+use Rattle.warehouse_root.proofs.ModesLemmas.{named}
 use Rattle.warehouse_root.proofs.modes.names_all.Goals as goal
 
 pub returns : goal.returns

@@ -1,5 +1,5 @@
 use Rattle.std.proofs.Common.{◌≡◌, ◌∙◌, ℕ, List, ◌++◌, ap, codes}
-use Rattle.warehouse_root.proofs.ModesRead.{name_differs, name_is, name_is_same}
+use Rattle.warehouse_root.proofs.ModesLemmas.{name_differs, name_is, name_is_same}
 use Rattle.warehouse_root.proofs.modes.read_name.Goals as goal
 
 pub returns-then-ne-clause-none : goal.returns-then-ne-clause-none

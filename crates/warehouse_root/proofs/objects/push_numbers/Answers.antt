@@ -1,5 +1,5 @@
 use Rattle.std.proofs.Common.{arith}
-use Rattle.warehouse_root.proofs.Numbers.{range-more}
+use Rattle.warehouse_root.proofs.ObjectsLemmas.{range-more}
 use Rattle.warehouse_root.proofs.objects.push_numbers.Goals as goal
 
 pub loop-id-preserved : goal.loop-id-preserved

@@ -1,7 +1,7 @@
 use Rattle.std.proofs.Common.{ℕ, ◌<◌, length, IsTrue, refl, sym, subst, arith}
 use Rattle.std.proofs.lemmas.Result.{err_from_is_err_and}
 use Rattle.warehouse_root.specs.Reading.{AreCountsOf}
-use Rattle.warehouse_root.proofs.Decoded.{counts_are_of, too_short}
+use Rattle.warehouse_root.proofs.ReadingLemmas.{counts_are_of, too_short}
 use Rattle.warehouse_root.proofs.reading.read_front.Goals as goal
 
 -- fewer bytes than the counts have

@@ -1,6 +1,6 @@
 use Rattle.std.proofs.Common.{List, ℕ, subst}
 use Rattle.warehouse_root.specs.Reading.{ReadsFront}
-use Rattle.warehouse_root.proofs.Decoded.{parts_of_bytes}
+use Rattle.warehouse_root.proofs.ReadingLemmas.{parts_of_bytes}
 use Rattle.warehouse_root.proofs.reading.read_parts.Goals as goal
 
 pub returns-clause-ok : goal.returns-clause-ok

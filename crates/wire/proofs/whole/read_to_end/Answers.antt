@@ -2,7 +2,7 @@ use Rattle.std.proofs.Common.{◌≡◌, Some, length, sym, ap, ◌∙◌, subst
 use Rattle.wire.specs.Parts.{Gives}
 use Rattle.wire.specs.Runs.{HasRead}
 use Rattle.wire.proofs.CallerLemmas.{HasRead-then}
-use Rattle.wire.proofs.Together.{part_more}
+use Rattle.wire.proofs.WholeLemmas.{part_more}
 use Rattle.wire.proofs.whole.read_to_end.Goals as goal
 
 pub loop-at-preserved : goal.loop-at-preserved

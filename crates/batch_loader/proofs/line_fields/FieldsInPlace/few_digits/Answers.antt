@@ -1,6 +1,6 @@
 use Rattle.std.proofs.Common.{◌∙◌, ap, get_or, slice_range, arith}
 use Rattle.batch_loader.specs.Numbers.{number_spelled}
-use Rattle.batch_loader.proofs.Parts.{part-at}
+use Rattle.batch_loader.proofs.LineFieldsLemmas.{part-at}
 use Rattle.batch_loader.proofs.line_fields.FieldsInPlace.few_digits.Goals as goal
 
 pub returns : goal.returns

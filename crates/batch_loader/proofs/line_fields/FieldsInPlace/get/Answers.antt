@@ -1,5 +1,5 @@
 use Rattle.std.proofs.Common.{arith}
-use Rattle.batch_loader.proofs.Parts.{part-at}
+use Rattle.batch_loader.proofs.LineFieldsLemmas.{part-at}
 use Rattle.batch_loader.proofs.line_fields.FieldsInPlace.get.Goals as goal
 
 pub returns : goal.returns

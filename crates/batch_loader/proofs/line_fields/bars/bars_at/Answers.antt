@@ -1,5 +1,5 @@
 use Rattle.std.proofs.Common.{◌-◌, ◌∙◌, arith, length}
-use Rattle.batch_loader.proofs.Windows.{bits-last}
+use Rattle.batch_loader.proofs.LineFieldsLemmas.{bits-last}
 use Rattle.batch_loader.proofs.line_fields.bars.bars_at.Goals as goal
 
 pub returns-then-text-ge-WIDTH : goal.returns-then-text-ge-WIDTH

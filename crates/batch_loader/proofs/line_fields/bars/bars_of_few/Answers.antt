@@ -1,5 +1,5 @@
 use Rattle.std.proofs.Common.{subst, sym, ◌+◌}
-use Rattle.batch_loader.proofs.Windows.{AreBarsUpTo, AreBarsUpTo-bar, AreBarsUpTo-other, AreBarsUpTo-all}
+use Rattle.batch_loader.proofs.LineFieldsLemmas.{AreBarsUpTo, AreBarsUpTo-bar, AreBarsUpTo-other, AreBarsUpTo-all}
 use Rattle.batch_loader.proofs.line_fields.bars.bars_of_few.Goals as goal
 use Rattle.batch_loader.proofs.line_fields.bars.bars_of_few.Goals.{then-text-place-eq124, else-text-place-eq124}
 

@@ -1,4 +1,4 @@
-use Rattle.batch_loader.proofs.Windows.{AreBarsUpTo}
+use Rattle.batch_loader.proofs.LineFieldsLemmas.{AreBarsUpTo}
 use Rattle.batch_loader.proofs.line_fields.bars.bars_of_few.Given as goal
 
 abbrev pub invariant-loop-place : goal.invariant-loop-place

@@ -2,7 +2,7 @@ use Rattle.std.proofs.Common.{◌==◌, ◌∙◌, ap, refl}
 use Rattle.std.specs.Int.{bit_at}
 use Rattle.std.specs.Simd.Lanes.{chunk}
 use Rattle.std.proofs.lemmas.Simd.{length-chunk}
-use Rattle.batch_loader.proofs.Windows.{bit_at-window}
+use Rattle.batch_loader.proofs.LineFieldsLemmas.{bit_at-window}
 use Rattle.batch_loader.proofs.line_fields.bars.bars_of_window.Goals as goal
 
 pub returns : goal.returns

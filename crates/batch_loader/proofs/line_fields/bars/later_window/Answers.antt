@@ -1,5 +1,5 @@
 use Rattle.std.proofs.Common.{refl}
-use Rattle.batch_loader.proofs.Windows.{AreBarsAfter-skip}
+use Rattle.batch_loader.proofs.LineFieldsLemmas.{AreBarsAfter-skip}
 use Rattle.batch_loader.proofs.line_fields.bars.later_window.Goals as goal
 
 pub loop-window-preserved : goal.loop-window-preserved

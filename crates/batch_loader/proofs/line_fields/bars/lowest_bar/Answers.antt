@@ -1,5 +1,5 @@
 use Rattle.std.proofs.Common.{arith}
-use Rattle.batch_loader.proofs.Windows.{IsNext-lowest, AreBarsAfter-next}
+use Rattle.batch_loader.proofs.LineFieldsLemmas.{IsNext-lowest, AreBarsAfter-next}
 use Rattle.batch_loader.proofs.line_fields.bars.lowest_bar.Goals as goal
 
 pub returns : goal.returns

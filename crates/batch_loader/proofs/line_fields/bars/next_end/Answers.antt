@@ -1,5 +1,5 @@
 use Rattle.std.proofs.Common.{arith, length}
-use Rattle.batch_loader.proofs.Windows.{bar_from-none, still_within}
+use Rattle.batch_loader.proofs.LineFieldsLemmas.{bar_from-none, still_within}
 use Rattle.batch_loader.proofs.line_fields.bars.next_end.Goals as goal
 
 pub overflow_add-result : goal.overflow_add-result

@@ -1,6 +1,6 @@
 use Rattle.std.proofs.Common.{arith, ◌∙◌, ap, sym}
 use Rattle.batch_loader.specs.Fields.{first_parts, between_bars}
-use Rattle.batch_loader.proofs.Splitting.{IsSplitting-next, IsSplitting-end, IsSplitting-more, IsSplitting-none}
+use Rattle.batch_loader.proofs.LineFieldsLemmas.{IsSplitting-next, IsSplitting-end, IsSplitting-more, IsSplitting-none}
 use Rattle.batch_loader.proofs.line_fields.split.split.Goals as goal
 
 pub loop-place-preserved : goal.loop-place-preserved

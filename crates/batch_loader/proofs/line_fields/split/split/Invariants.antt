@@ -1,6 +1,6 @@
 use Rattle.std.proofs.Common.{◌≡◌, ◌<◌, ◌≤◌, length}
 use Rattle.batch_loader.specs.Bars.{AreBarsAfter}
-use Rattle.batch_loader.proofs.Splitting.{IsSplitting}
+use Rattle.batch_loader.proofs.LineFieldsLemmas.{IsSplitting}
 use Rattle.batch_loader.proofs.line_fields.split.split.Given as goal
 
 abbrev pub invariant-loop-place : goal.invariant-loop-place

@@ -1,5 +1,5 @@
 use Rattle.std.proofs.Common.{rules}
-use Rattle.batch_loader.proofs.ShortNumbers.{AreDigits-unmarked}
+use Rattle.batch_loader.proofs.NumbersLemmas.{AreDigits-unmarked}
 use Rattle.batch_loader.proofs.numbers.short.are_digits.Goals as goal
 
 pub returns : goal.returns

@@ -1,4 +1,4 @@
-use Rattle.batch_loader.proofs.ShortNumbers.{marks_at}
+use Rattle.batch_loader.proofs.NumbersLemmas.{marks_at}
 use Rattle.batch_loader.proofs.numbers.short.marks_above_nine.Goals as goal
 
 pub returns : goal.returns

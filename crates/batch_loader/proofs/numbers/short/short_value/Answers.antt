@@ -1,4 +1,4 @@
-use Rattle.batch_loader.proofs.ShortNumbers.{short-value}
+use Rattle.batch_loader.proofs.NumbersLemmas.{short-value}
 use Rattle.batch_loader.proofs.numbers.short.short_value.Goals as goal
 
 pub returns : goal.returns

@@ -1,4 +1,4 @@
-use Rattle.batch_loader.proofs.ShortNumbers.{decimal-spread}
+use Rattle.batch_loader.proofs.NumbersLemmas.{decimal-spread}
 use Rattle.batch_loader.proofs.numbers.short.value_of_eight.Goals as goal
 
 pub returns : goal.returns

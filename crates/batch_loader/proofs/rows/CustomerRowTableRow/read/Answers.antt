@@ -2,7 +2,7 @@ use Rattle.std.proofs.Common.{◌∙◌, sym, ap, inl, inr, Ok, Err}
 use Rattle.std.proofs.lemmas.Result.{err_from_is_err_and}
 use Rattle.batch_loader.specs.LineFields.{field_texts}
 use Rattle.batch_loader.specs.Tables.{customer_columns, customer_of_fields}
-use Rattle.batch_loader.proofs.RowLaws.{no_fields, no_row, is_row}
+use Rattle.batch_loader.proofs.RowsLemmas.{no_fields, no_row, is_row}
 use Rattle.batch_loader.proofs.rows.CustomerRowTableRow.read.Goals as goal
 
 pub returns-in_err-fields : goal.returns-in_err-fields

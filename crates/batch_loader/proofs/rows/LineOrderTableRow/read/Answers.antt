@@ -2,7 +2,7 @@ use Rattle.std.proofs.Common.{◌∙◌, sym, ap, inr, Some}
 use Rattle.std.proofs.lemmas.Result.{err_from_is_err_and}
 use Rattle.batch_loader.specs.LineFields.{fields_at}
 use Rattle.batch_loader.specs.Tables.{lineorder_columns, lineorder_of_fields}
-use Rattle.batch_loader.proofs.RowLaws.{no_fields, no_row, row_or_memory}
+use Rattle.batch_loader.proofs.RowsLemmas.{no_fields, no_row, row_or_memory}
 use Rattle.batch_loader.proofs.rows.LineOrderTableRow.read.Goals as goal
 
 pub returns-in_default : goal.returns-in_default

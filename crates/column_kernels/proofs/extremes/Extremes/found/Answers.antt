@@ -1,6 +1,6 @@
 use Rattle.std.proofs.Common.{◌≡◌, ◌<ℤ◌, ℤ, of_z, rules, subst, to_z}
 use Rattle.std.specs.Int.{w128}
-use Rattle.column_kernels.proofs.Keeping.{none_found}
+use Rattle.column_kernels.proofs.ExtremesLemmas.{none_found}
 use Rattle.column_kernels.proofs.extremes.Extremes.found.Goals as goal
 
 pub returns-then-are_turned : goal.returns-then-are_turned

@@ -1,7 +1,7 @@
 use Rattle.std.proofs.Common.{◌≡◌, ◌∙◌, cond, rules}
 use Rattle.std.specs.Int.{int_min, int_max}
 use Rattle.column_kernels.specs.declared.extremes.Extremes.{Extremes}
-use Rattle.column_kernels.proofs.Keeping.{with_if_is}
+use Rattle.column_kernels.proofs.ExtremesLemmas.{with_if_is}
 use Rattle.column_kernels.proofs.extremes.Extremes.with_if.Goals as goal
 
 pub returns : goal.returns

@@ -10,9 +10,9 @@ use Rattle.cube_query.specs.Groups.{CanTake, FoldState, IsOver, RepresentsRows}
 use Rattle.group_tallies.specs.Slots.{entries_of}
 use Rattle.group_tallies.specs.declared.tally.Tally.{Tally}
 use Rattle.group_plan.specs.Plans.{query_of}
-use Rattle.cube_query.proofs.AskedRefusals.{known_for, room_same, slots_same}
+use Rattle.cube_query.proofs.RunningLemmas.{known_for, room_same, slots_same, HaveRoom-ready, kept_count, kept_ready}
+use Rattle.cube_query.proofs.RunningLemmas.{shown, shown_ready, represents_count}
 use Rattle.group_tallies.proofs.Columnwise.{tallies-length}
-use Rattle.cube_query.proofs.Folds.{HaveRoom-ready, kept_count, kept_ready, shown, shown_ready, represents_count}
 use Rattle.cube_query.proofs.Known.{known_after}
 use Rattle.group_tallies.proofs.Marking.{AreGroupSlots-length}
 use Rattle.cube_query.proofs.running.Fold.add.Goals as goal

@@ -5,7 +5,7 @@ use Rattle.group_plan.specs.Plans.{query_of}
 use Rattle.cube_query.specs.Asked.{AreSame, is_asked}
 use Rattle.cube_query.specs.Groups.{FoldState}
 use Rattle.cube_query.specs.WholeBatch.{has_one_group}
-use Rattle.cube_query.proofs.AskedRefusals.{masked_same}
+use Rattle.cube_query.proofs.RunningLemmas.{masked_same}
 use Rattle.cube_query.proofs.Choosing.{can_take_marked, keep_over, takes_all}
 use Rattle.cube_query.proofs.running.Fold.add_batch.Goals as goal
 

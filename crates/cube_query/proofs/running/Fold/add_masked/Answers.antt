@@ -15,9 +15,8 @@ use Rattle.cube_query.specs.Groups.{CanTake, FoldState, IsOver, RepresentsRows, 
 use Rattle.group_tallies.specs.Slots.{entries_of}
 use Rattle.cube_query.specs.WholeBatch.{HaveRoomAt, has_one_group, tallies_with_rows}
 use Rattle.group_tallies.specs.declared.tally.Tally.{Tally}
-use Rattle.cube_query.proofs.AskedRefusals.{marks_same, masked_same, room_at_same}
-use Rattle.cube_query.proofs.BatchFolds.{kept_batch, kept_one, place_first, room_one, shown_one, slot_within}
-use Rattle.cube_query.proofs.BatchFolds.{represents_batch, takes_none}
+use Rattle.cube_query.proofs.RunningLemmas.{marks_same, masked_same, room_at_same, kept_batch, kept_one, place_first}
+use Rattle.cube_query.proofs.RunningLemmas.{room_one, shown_one, slot_within, represents_batch, takes_none}
 use Rattle.cube_query.proofs.Choosing.{can_take_marked, takes_all}
 use Rattle.group_tallies.proofs.Columnwise.{tallies-length}
 use Rattle.cube_query.proofs.WholeBatches.{mask_keeps, none_selected, some_selected}

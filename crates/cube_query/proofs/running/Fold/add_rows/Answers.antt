@@ -1,8 +1,27 @@
-use Rattle.cube_query.specs.Asked.{is_asked}
-use Rattle.cube_query.proofs.AskedRefusals.{same_self}
+use Rattle.std.proofs.Common.{List, sym, subst}
+use Rattle.std.proofs.lemmas.Result.{on_ok_weaker}
+use Rattle.cube_model.specs.declared.rows.LineOrder.{LineOrder}
+use Rattle.cube_query.specs.Asked.{AreSame, is_asked}
+use Rattle.cube_query.specs.Groups.{Takes}
+use Rattle.cube_query.proofs.RunningLemmas.{query_stays, same_self}
 use Rattle.cube_query.proofs.running.Fold.add_rows.Goals as goal
 
-pub returns-clause-refused : goal.returns-clause-refused
-returns-clause-refused c =
-    λ bad can. c.add.ensures.refused bad c.args.rows.now (same_self (is_asked c.args.self.now.query) c.args.rows.now)
-    can
+pub returns : goal.returns
+returns c =
+    let dims = c.args.dims.now in
+    let old = c.args.self.now in
+    let new = c.add.new.self in
+    let rows = c.args.rows.now in
+    let asks = is_asked old.query in
+    record {
+      over = c.add.ensures.over;
+      query = query_stays dims old new rows c.add.result c.add.ensures.ok c.add.ensures.err;
+      ok = on_ok_weaker c.add.result
+          (λ takes counted same. subst (λ (all : List LineOrder). Takes dims old all new) (sym same) takes)
+          c.add.ensures.ok;
+      err = c.add.ensures.err;
+      refused = λ bad counted same can.
+          c.add.ensures.refused bad counted
+          (subst (λ (all : List LineOrder). AreSame asks rows all) (sym same) (same_self asks rows)) can;
+      only = c.add.ensures.only;
+    }

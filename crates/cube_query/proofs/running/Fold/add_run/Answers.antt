@@ -17,9 +17,8 @@ use Rattle.group_tallies.specs.FoldInvariant.{IsKept}
 use Rattle.cube_query.specs.Groups.{CanTake, FoldState, IsOver, RepresentsRows}
 use Rattle.group_tallies.specs.Slots.{entries_of}
 use Rattle.group_tallies.specs.declared.tally.Tally.{Tally}
-use Rattle.cube_query.proofs.CellFolds.{kept_after, represents_wanted, room_for_cells}
+use Rattle.cube_query.proofs.RunningLemmas.{kept_after, represents_wanted, room_for_cells, shown}
 use Rattle.group_tallies.proofs.Columnwise.{tallies-length}
-use Rattle.cube_query.proofs.Folds.{shown}
 use Rattle.cube_query.proofs.Known.{known_after}
 use Rattle.cube_query.proofs.running.Fold.add_run.Goals as goal
 

@@ -9,7 +9,7 @@ use Rattle.group_tallies.specs.Limits.{AreFoldable}
 use Rattle.group_tallies.specs.Slots.{entries_of}
 use Rattle.group_plan.specs.Numbers.{Asked}
 use Rattle.group_plan.specs.Plans.{query_of}
-use Rattle.cube_query.proofs.Folds.{fold_over, tallied_for}
+use Rattle.cube_query.proofs.RunningLemmas.{fold_over, tallied_for}
 use Rattle.cube_query.proofs.running.Fold.finish.Goals as goal
 
 pub over-plan-requires : goal.over-plan-requires

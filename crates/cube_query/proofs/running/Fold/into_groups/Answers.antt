@@ -6,7 +6,7 @@ use Rattle.cube_query.specs.Groups.{FoldState, IsFoldable, IsOver, RepresentsRow
 use Rattle.group_tallies.specs.Groups.{finest}
 use Rattle.group_tallies.specs.Slots.{entries_of}
 use Rattle.group_plan.specs.Plans.{query_of}
-use Rattle.cube_query.proofs.Folds.{fold_over, tallied_for}
+use Rattle.cube_query.proofs.RunningLemmas.{fold_over, tallied_for}
 use Rattle.cube_query.proofs.running.Fold.into_groups.Goals as goal
 
 pub of-requires-clause-over : goal.of-requires-clause-over

@@ -6,7 +6,7 @@ use Rattle.group_tallies.specs.Slots.{entries_of, AreSlots, Cover}
 use Rattle.group_tallies.specs.Tallies.{tallies_of}
 use Rattle.group_plan.specs.Plans.{query_of}
 use Rattle.group_plan.proofs.Extending.{plan_of_over}
-use Rattle.cube_query.proofs.Folds.{begun}
+use Rattle.cube_query.proofs.RunningLemmas.{begun}
 use Rattle.cube_query.proofs.running.Fold.new.Goals as goal
 
 pub invariant_of-result : goal.invariant_of-result

@@ -1,7 +1,7 @@
 use Rattle.std.proofs.Common.{◌≡◌, ◌-◌, ap, arith, sym, subst}
 use Rattle.wire.proofs.CallerLemmas.{HasRead-then}
 use Rattle.cuboid_cells.specs.Pieces.{AreLeft, AreParted, RunPlace}
-use Rattle.cuboid_cells.proofs.Passing.{not_parted, refused_later}
+use Rattle.cuboid_cells.proofs.PiecesLemmas.{not_parted, refused_later}
 use Rattle.cuboid_cells.proofs.pieces.RunReader.first_from.Goals as goal
 
 pub loop-range-init : goal.loop-range-init

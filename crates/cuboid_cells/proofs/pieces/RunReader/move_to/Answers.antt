@@ -2,7 +2,7 @@ use Rattle.std.proofs.Common.{◌≡◌, ◌∙◌, ℕ, ◌+◌, ◌-◌, ◌*�
 use Rattle.cuboid_cells.specs.Spelled.{cell_bytes}
 use Rattle.wire.specs.Parts.{Gives}
 use Rattle.cuboid_cells.specs.Pieces.{AreLeft, RunPlace}
-use Rattle.cuboid_cells.proofs.Passing.{gives_cut, passed_to}
+use Rattle.cuboid_cells.proofs.PiecesLemmas.{gives_cut, passed_to}
 use Rattle.cuboid_cells.proofs.pieces.RunReader.move_to.Goals as goal
 
 pub returns-clause-ok : goal.returns-clause-ok

@@ -1,5 +1,5 @@
 use Rattle.std.proofs.Common.{arith}
-use Rattle.cuboid_cells.proofs.Passing.{halved, no_cell}
+use Rattle.cuboid_cells.proofs.PiecesLemmas.{halved, no_cell}
 use Rattle.cuboid_cells.proofs.pieces.RunReader.narrowed.Goals as goal
 
 pub returns-clause-ok : goal.returns-clause-ok

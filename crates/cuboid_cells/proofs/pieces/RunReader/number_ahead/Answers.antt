@@ -1,7 +1,7 @@
 use Rattle.std.proofs.Common.{◌∙◌, ℕ, ◌-◌, ◌*◌, List, drop, ap, arith, length}
 use Rattle.std.proofs.lemmas.List.{length-drop, take_all}
 use Rattle.cuboid_cells.specs.Pieces.{RunPlace}
-use Rattle.cuboid_cells.proofs.Passing.{ahead_is}
+use Rattle.cuboid_cells.proofs.PiecesLemmas.{ahead_is}
 use Rattle.cuboid_cells.proofs.pieces.RunReader.number_ahead.Goals as goal
 
 pub returns : goal.returns

@@ -1,6 +1,6 @@
 use Rattle.std.proofs.Common.{ℕ, ◌+◌, ◌*◌, ap, arith}
 use Rattle.cuboid_cells.specs.Pieces.{RunPlace}
-use Rattle.cuboid_cells.proofs.Passing.{alone_is}
+use Rattle.cuboid_cells.proofs.PiecesLemmas.{alone_is}
 use Rattle.cuboid_cells.proofs.pieces.RunReader.number_at.Goals as goal
 
 pub returns-clause-ok : goal.returns-clause-ok

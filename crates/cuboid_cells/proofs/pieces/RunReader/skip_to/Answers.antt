@@ -1,6 +1,6 @@
 use Rattle.std.proofs.Common.{◌-◌, ap, arith}
 use Rattle.cuboid_cells.specs.Pieces.{RunPlace}
-use Rattle.cuboid_cells.proofs.Passing.{all_passed, none_passed}
+use Rattle.cuboid_cells.proofs.PiecesLemmas.{all_passed, none_passed}
 use Rattle.cuboid_cells.proofs.pieces.RunReader.skip_to.Goals as goal
 
 pub returns-then-least-self-clause-ok : goal.returns-then-least-self-clause-ok

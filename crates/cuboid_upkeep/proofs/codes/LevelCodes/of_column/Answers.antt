@@ -1,5 +1,5 @@
 use Rattle.std.proofs.Common.{sym}
-use Rattle.cuboid_upkeep.proofs.Leading.{one_leads, three_lead, two_lead}
+use Rattle.cuboid_upkeep.proofs.CodesLemmas.{one_leads, three_lead, two_lead}
 use Rattle.cuboid_upkeep.proofs.codes.LevelCodes.of_column.Goals as goal
 
 pub returns-in_default : goal.returns-in_default

@@ -6,7 +6,7 @@ use Rattle.cuboid_upkeep.specs.Grouping.{RepresentRows}
 use Rattle.cuboid_upkeep.specs.Keys.{AreRowNumbers}
 use Rattle.cuboid_upkeep.specs.Slots.{cells_in, used}
 use Rattle.cuboid_upkeep.proofs.Added.{unfit_after}
-use Rattle.cuboid_upkeep.proofs.NoModes.{represent_alike, unfit_alike}
+use Rattle.cuboid_upkeep.proofs.TableLemmas.{represent_alike, unfit_alike}
 use Rattle.cuboid_upkeep.proofs.table.CellTable.add_rows.Goals as goal
 
 pub take_in_rows-requires-clause-numbers : goal.take_in_rows-requires-clause-numbers

@@ -1,6 +1,6 @@
 use Rattle.std.proofs.Common.{◌≡◌, ◌∙◌, sym, ap, arith, List, ℕ, map, get_or}
 use Rattle.std.proofs.lemmas.List.{length-map, get_or-map}
-use Rattle.dictionary.proofs.Copies.{copy_more}
+use Rattle.dictionary.proofs.DictionaryLemmas.{copy_more}
 use Rattle.dictionary.proofs.dictionary.Dictionary.add_each.Goals as goal
 
 pub loop-text-preserved : goal.loop-text-preserved

@@ -1,5 +1,5 @@
 use Rattle.std.proofs.Common.{◌∙◌, sym, ap, arith}
-use Rattle.dimensions.proofs.Learning.{added, kept, enters_ok}
+use Rattle.dimensions.proofs.ColumnLemmas.{added, kept, enters_ok}
 use Rattle.dimensions.proofs.column.Column.enter.Goals as goal
 use Rattle.dimensions.proofs.column.Column.enter.Goals.{then-from-len+in_ok-add, else-from-len}
 

@@ -6,7 +6,7 @@ use Rattle.std.proofs.lemmas.Result.{on_ok_weaker}
 use Rattle.dictionary.proofs.CallerLemmas.{place_le}
 use Rattle.dimensions.specs.declared.dimension.Dimension.{Dimension}
 use Rattle.dimensions.specs.TextRows.{TextRow, text_in}
-use Rattle.dimensions.proofs.DimensionLaws.{refuses_key, refuses_name, refuses_room, refuses_link, adds_or_fails}
+use Rattle.dimensions.proofs.DimensionLemmas.{refuses_key, refuses_name, refuses_room, refuses_link, adds_or_fails}
 use Rattle.dimensions.proofs.dimension.Dimension.add.Goals as goal
 
 pub returns-then-row_index-place : goal.returns-then-row_index-place

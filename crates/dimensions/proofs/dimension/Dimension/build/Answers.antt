@@ -1,6 +1,6 @@
 use Rattle.std.proofs.Common.{[], map}
 use Rattle.std.proofs.lemmas.Result.{err_from_is_err_and}
-use Rattle.dimensions.proofs.Additions.{none_at_first, not_built}
+use Rattle.dimensions.proofs.DimensionLemmas.{none_at_first, not_built}
 use Rattle.dimensions.proofs.dimension.Dimension.build.Goals as goal
 
 pub extend-requires-clause-sound : goal.extend-requires-clause-sound

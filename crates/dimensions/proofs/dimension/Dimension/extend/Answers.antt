@@ -2,9 +2,8 @@ use Rattle.std.proofs.Common.{◌≡◌, ◌≤◌, ◌<◌, ◌+◌, ◌∙◌,
 use Rattle.std.proofs.lemmas.List.{length-map, get_or-map}
 use Rattle.dimensions.specs.TextRows.{TextRow}
 use Rattle.dimensions.specs.Shapes.{row_limit_of, text_rules}
-use Rattle.dimensions.proofs.Additions.{goes_on_after, done_after, few_texts, holds_count, ranks_made, so_far_first}
-use Rattle.dimensions.proofs.Additions.{stops_after}
-use Rattle.dimensions.proofs.Additions.{too_many}
+use Rattle.dimensions.proofs.DimensionLemmas.{goes_on_after, done_after, few_texts, holds_count, ranks_made}
+use Rattle.dimensions.proofs.DimensionLemmas.{so_far_first, stops_after, too_many}
 use Rattle.dimensions.proofs.dimension.Dimension.extend.Goals as goal
 
 pub returns-then-not-has_room : goal.returns-then-not-has_room

@@ -1,7 +1,7 @@
 use Rattle.std.proofs.Common.{◌+◌, ◌++◌, List, map, length}
 use Rattle.dimensions.specs.TextRows.{TextRow}
 use Rattle.dimensions.specs.Dimensions.{HoldsRows}
-use Rattle.dimensions.proofs.BuildSteps.{SoFar}
+use Rattle.dimensions.proofs.DimensionLemmas.{SoFar}
 use Rattle.dimensions.proofs.dimension.Dimension.extend.Given as goal
 
 abbrev pub invariant-loop-row : goal.invariant-loop-row

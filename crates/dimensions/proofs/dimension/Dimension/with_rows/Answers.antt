@@ -1,7 +1,7 @@
 use Rattle.std.proofs.Common.{◌∙◌, ap, map}
 use Rattle.std.proofs.lemmas.Result.{err_from_is_err_and}
 use Rattle.dimensions.specs.Columns.{unranked}
-use Rattle.dimensions.proofs.Additions.{copied_rows}
+use Rattle.dimensions.proofs.DimensionLemmas.{copied_rows}
 use Rattle.dimensions.proofs.dimension.Dimension.with_rows.Goals as goal
 
 pub extend-requires-clause-sound : goal.extend-requires-clause-sound

@@ -8,9 +8,8 @@ use Rattle.dimensions.specs.Added.{joined}
 use Rattle.dimensions.specs.KeptCodes.{KeepCodes}
 use Rattle.dimensions.specs.Shown.{AreDimensions, rows_on}
 use Rattle.dimensions.specs.TextRows.{row_of_customer, row_of_supplier, row_of_part, row_of_date}
-use Rattle.dimensions.proofs.AdditionLaws.{added_customers, added_suppliers, added_parts, added_dates, extends_err}
-use Rattle.dimensions.proofs.AdditionLaws.{extends_ok, joined_short, passes_valid}
-use Rattle.dimensions.proofs.KeptLaws.{keep_codes}
+use Rattle.dimensions.proofs.DimsLemmas.{added_customers, added_suppliers, added_parts, added_dates, extends_err}
+use Rattle.dimensions.proofs.DimsLemmas.{extends_ok, joined_short, passes_valid, keep_codes}
 use Rattle.dimensions.proofs.MadeLaws.{days_of}
 use Rattle.dimensions.proofs.ShownLaws.{accepted, few_days, shown_is, are_dimensions}
 use Rattle.dimensions.proofs.dims.Dims.with_rows.Goals as goal

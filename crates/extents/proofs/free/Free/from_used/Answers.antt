@@ -5,7 +5,7 @@ use Rattle.std.proofs.lemmas.Result.{err_from_is_err_and}
 use Rattle.cube_model.specs.declared.fault.Fault.{Fault}
 use Rattle.extents.specs.declared.extent.Extent.{Extent}
 use Rattle.extents.specs.Extents.{AreLaidOut}
-use Rattle.extents.proofs.Reordered.{AreLaidOut-permutation, IsRest-permutation}
+use Rattle.extents.proofs.FreeLemmas.{AreLaidOut-permutation, IsRest-permutation}
 use Rattle.extents.proofs.free.Free.from_used.Goals as goal
 
 -- what was refused of the sorted extents holds of those that were given

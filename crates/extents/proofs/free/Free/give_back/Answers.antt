@@ -2,7 +2,7 @@ use Rattle.std.proofs.Common.{◌≡◌, ℕ, ◌+◌, List, Result, Ok, Err, On
 use Rattle.extents.specs.declared.extent.Extent.{Extent}
 use Rattle.extents.specs.Join.{IsJoin, joined_runs}
 use Rattle.extents.specs.Runs.{FreeSectors, AreRuns}
-use Rattle.extents.proofs.GivenBack.{AreRuns-joined}
+use Rattle.extents.proofs.FreeLemmas.{AreRuns-joined}
 use Rattle.extents.proofs.free.Free.give_back.Goals as goal
 
 -- the runs are the joined ones, or as before

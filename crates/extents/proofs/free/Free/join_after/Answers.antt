@@ -2,7 +2,7 @@ use Rattle.std.proofs.Common.{◌≡◌, ℕ, ◌+◌, ◌<◌, ◌≤◌, ◌^�
 use Rattle.extents.specs.Extents.{SomeHolds}
 use Rattle.extents.specs.Join.{joined_runs}
 use Rattle.extents.specs.Runs.{FreeSectors}
-use Rattle.extents.proofs.GivenBack.{run_ends, sectors-extended}
+use Rattle.extents.proofs.FreeLemmas.{run_ends, sectors-extended}
 use Rattle.extents.proofs.free.Free.join_after.Goals as goal
 
 -- both runs end within the count

@@ -5,8 +5,7 @@ use Rattle.extents.specs.declared.extent.Extent.{Extent}
 use Rattle.extents.specs.Extents.{Holds, SomeHolds, IsInRange}
 use Rattle.extents.specs.Join.{IsJoin, joined_runs}
 use Rattle.extents.specs.Runs.{FreeSectors, IsFree}
-use Rattle.extents.proofs.Joined.{rise_ends}
-use Rattle.extents.proofs.GivenBack.{IsJoin-touching, sectors-touching, IsJoin-alone, sectors-alone}
+use Rattle.extents.proofs.FreeLemmas.{rise_ends, IsJoin-touching, sectors-touching, IsJoin-alone, sectors-alone}
 use Rattle.extents.proofs.free.Free.join_before.Goals as goal
 
 -- the runs end one after another

@@ -1,8 +1,7 @@
 use Rattle.std.proofs.Common.{◌≡◌, ℕ, ◌+◌, Some, None, leb, position, refl, sym, subst, arith}
 use Rattle.extents.specs.Extents.{IsInRange}
 use Rattle.extents.specs.Runs.{FreeSectors, AreFreeFrom, IsFirstFit, TakesAway}
-use Rattle.extents.proofs.FirstFit.{no_room}
-use Rattle.extents.proofs.Taken.{fits, taken_in_range, taken_first_fit, taken_runs, taken_away}
+use Rattle.extents.proofs.FreeLemmas.{no_room, fits, taken_in_range, taken_first_fit, taken_runs, taken_away}
 use Rattle.extents.proofs.free.Free.take.Goals as goal
 
 -- no run is long enough

@@ -1,7 +1,8 @@
 -- No call: the code makes a value of no bytes.
-use Rattle.file_device.proofs.Steps.{pure_i, group, done, vstruct, vnil, [], ftrue, agg, no_more, ◌∷◌, refl, proved, ‵}
-use Rattle.file_device.proofs.Steps.{raw, ◌$◌, ◌∵◌, !, qed, drop, suffices, enter, returns, alloc_all, pass_all}
-use Rattle.file_device.proofs.Steps.{free_all, look_at, sets, nothing, on_entry, Stays, walk_of, says, ends_at}
+use Rattle.file_device.proofs.CallsLemmas.{pure_i, group, done, vstruct, vnil, [], ftrue, agg, no_more, ◌∷◌, refl}
+use Rattle.file_device.proofs.CallsLemmas.{proved, ‵, raw, ◌$◌, ◌∵◌, !, qed, drop, suffices, enter, returns, alloc_all}
+use Rattle.file_device.proofs.CallsLemmas.{pass_all, free_all, look_at, sets, nothing, on_entry, Stays, walk_of, says}
+use Rattle.file_device.proofs.CallsLemmas.{ends_at}
 use Rattle.file_device.specs.contracts.calls.Calls.none as f
 use Rattle.file_device.specs.declared.calls.Calls.{Calls}
 use Rattle.file_device.specs.contracts.calls.Calls.{the_row as C}

@@ -1,9 +1,9 @@
 -- One call more: the code looks at neither argument, and makes a value of no bytes.
-use Rattle.file_device.proofs.Steps.{pure_i, group, done, vstruct, vnil, [], ftrue, flft, agg, no_more, ◌∷◌, refl}
-use Rattle.file_device.proofs.Steps.{proved, ‵, ◌⊛◌, ◌$◌, ◌∵◌, !, qed, keep, move, split, join, suffices, enter}
-use Rattle.file_device.proofs.Steps.{returns, alloc_all, pass_all, free_all, look_at, sets, nothing, named, yes, ShrRef}
-use Rattle.file_device.proofs.Steps.{shr_vals, shr_Tells, plain, shr_ref_to, Stays, walk_of, says, stay_dropped}
-use Rattle.file_device.proofs.Steps.{Goes-dropped, ends_at}
+use Rattle.file_device.proofs.CallsLemmas.{pure_i, group, done, vstruct, vnil, [], ftrue, flft, agg, no_more, ◌∷◌, refl}
+use Rattle.file_device.proofs.CallsLemmas.{proved, ‵, ◌⊛◌, ◌$◌, ◌∵◌, !, qed, keep, move, split, join, suffices, enter}
+use Rattle.file_device.proofs.CallsLemmas.{returns, alloc_all, pass_all, free_all, look_at, sets, nothing, named, yes}
+use Rattle.file_device.proofs.CallsLemmas.{ShrRef, shr_vals, shr_Tells, plain, shr_ref_to, Stays, walk_of, says}
+use Rattle.file_device.proofs.CallsLemmas.{stay_dropped, Goes-dropped, ends_at}
 use Rattle.file_device.specs.contracts.calls.Calls.then as f
 use Rattle.file_device.specs.declared.calls.Calls.{Calls}
 use Rattle.file_device.specs.contracts.calls.Calls.{the_row as C}

@@ -1,5 +1,5 @@
 use Rattle.std.proofs.Common.{arith}
-use Rattle.group_plan.proofs.FirstPlaces.{codes_are_kinds, some_column}
+use Rattle.group_plan.proofs.KindsLemmas.{codes_are_kinds, some_column}
 use Rattle.group_plan.proofs.kinds.Kinds.of.Goals as goal
 
 pub codes-requires : goal.codes-requires

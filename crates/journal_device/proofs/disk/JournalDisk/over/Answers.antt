@@ -4,7 +4,7 @@ use Rattle.journal_device.specs.Calls.{IsWithin}
 use Rattle.journal_device.specs.ImageDisk.{sectors_in}
 use Rattle.journal_device.specs.After.{CallsAreWhole}
 use Rattle.journal_device.specs.declared.call.Call.{Call}
-use Rattle.journal_device.proofs.Steps.{agrees_at_first, whole_at_first}
+use Rattle.journal_device.proofs.DiskLemmas.{agrees_at_first, whole_at_first}
 use Rattle.journal_device.proofs.disk.JournalDisk.over.Goals as goal
 
 pub invariant_of-result : goal.invariant_of-result

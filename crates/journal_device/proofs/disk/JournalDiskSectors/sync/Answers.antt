@@ -8,8 +8,7 @@ use Rattle.journal_device.specs.After.{state_after, CallsAreWhole}
 use Rattle.journal_device.specs.Latest.{ShowsLatest}
 use Rattle.journal_device.specs.declared.call.Call.{Call}
 use Rattle.journal_device.specs.declared.call.Call.TheVariants.{Sync}
-use Rattle.journal_device.proofs.Within.{a_sync}
-use Rattle.journal_device.proofs.Steps.{agrees_synced, either, syncs, syncs_nothing, whole_synced}
+use Rattle.journal_device.proofs.DiskLemmas.{a_sync, agrees_synced, either, syncs, syncs_nothing, whole_synced}
 use Rattle.journal_device.proofs.disk.JournalDiskSectors.sync.Goals as goal
 
 pub invariant_of-self : goal.invariant_of-self

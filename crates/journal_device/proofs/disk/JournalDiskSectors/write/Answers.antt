@@ -6,8 +6,8 @@ use Rattle.sector_device.specs.Device.{WritesSector}
 use Rattle.journal_device.specs.After.{state_after, CallsAreWhole}
 use Rattle.journal_device.specs.declared.call.Call.{Call}
 use Rattle.journal_device.specs.declared.call.Call.TheVariants.{Write}
-use Rattle.journal_device.proofs.Within.{a_write}
-use Rattle.journal_device.proofs.Steps.{agrees_either, either, no_call, whole_written, writes, writes_nothing}
+use Rattle.journal_device.proofs.DiskLemmas.{a_write, agrees_either, either, no_call, whole_written, writes}
+use Rattle.journal_device.proofs.DiskLemmas.{writes_nothing}
 use Rattle.journal_device.proofs.disk.JournalDiskSectors.write.Goals as goal
 
 pub invariant_of-self : goal.invariant_of-self

@@ -1,4 +1,4 @@
-use Rattle.journal_device.proofs.Cut.{reads, whole}
+use Rattle.journal_device.proofs.ImageDiskLemmas.{reads, whole}
 use Rattle.journal_device.proofs.image_disk.ImageDisk.over.Goals as goal
 
 pub invariant_of-result-clause-whole : goal.invariant_of-result-clause-whole

@@ -1,5 +1,5 @@
 use Rattle.lattice.specs.Sizes.{members_at, mode_count}
-use Rattle.lattice.proofs.Products.{cut_all}
+use Rattle.lattice.proofs.ViewLemmas.{cut_all}
 use Rattle.lattice.proofs.view.View.size.Goals as goal
 
 pub returns : goal.returns

@@ -1,7 +1,7 @@
 use Rattle.std.proofs.Common.{ℕ, ◌<◌, List, ◌++◌, length, All, IsTrue, inr, refl, sym, ◌∙◌, ap, subst, arith}
 use Rattle.object_store.specs.Catalogue.{IdsAscend, IsProperEntry}
 use Rattle.object_store.specs.CatalogueReading.{ReadsCatalogueHeader}
-use Rattle.object_store.proofs.CatalogueDecoded.{entries_are, is_catalogue, is_of, root_left}
+use Rattle.object_store.proofs.CatalogueLemmas.{entries_are, is_catalogue, is_of, root_left}
 use Rattle.object_store.proofs.catalogue.decoding.decode.Goals as goal
 use Rattle.object_store.proofs.catalogue.decoding.decode.Goals.{then-not-are_proper-via-then-not-are_proper}
 use Rattle.object_store.proofs.catalogue.decoding.decode.Goals.{then-not-are_proper-via-else-not-are_proper+then-not-ascend}

@@ -1,7 +1,7 @@
 use Rattle.std.proofs.Common.{codes, refl, arith, replicate}
 use Rattle.wire.specs.Spelling.{spelling}
 use Rattle.wire.proofs.CallerLemmas.{length-spelling}
-use Rattle.object_store.proofs.CataloguePlaces.{three_put}
+use Rattle.object_store.proofs.CatalogueLemmas.{three_put}
 use Rattle.object_store.proofs.catalogue.encoding.header.Goals as goal
 
 pub returns : goal.returns

@@ -1,5 +1,5 @@
 use Rattle.std.proofs.Common.{arith}
-use Rattle.object_store.proofs.CatalogueRead.{one_more}
+use Rattle.object_store.proofs.CatalogueLemmas.{one_more}
 use Rattle.object_store.proofs.catalogue.reading.read_entries.Goals as goal
 
 pub loop-preserved : goal.loop-preserved

@@ -1,5 +1,5 @@
 use Rattle.std.proofs.Common.{◌≡◌, ◌<◌, ◌∙◌, sym, refl, codes, length, arith}
-use Rattle.object_store.proofs.CatalogueRead.{header_read, name_of, name_differs, name_is_same, too_short}
+use Rattle.object_store.proofs.CatalogueLemmas.{header_read, name_of, name_differs, name_is_same, too_short}
 use Rattle.object_store.proofs.catalogue.reading.read_header.Goals as goal
 
 pub returns-then-ne-clause-none : goal.returns-then-ne-clause-none

@@ -7,7 +7,7 @@ use Rattle.cube_model.specs.declared.rows.DimRows.{DimRows}
 use Rattle.cube_query.specs.Groups.{RepresentsRows}
 use Rattle.warehouse_objects.proofs.Folded.{err_fault}
 use Rattle.planned_queries.specs.Stepping.{IsRunning, RunningState}
-use Rattle.planned_queries.proofs.Steps.{can_finish, folds_first, next_foldable, next_is_there, next_step}
+use Rattle.planned_queries.proofs.SteppingLemmas.{can_finish, folds_first, next_foldable, next_is_there, next_step}
 use Rattle.planned_queries.proofs.stepping.Running.advance.Goals as goal
 
 pub returns-in_err-found-clause-refused : goal.returns-in_err-found-clause-refused

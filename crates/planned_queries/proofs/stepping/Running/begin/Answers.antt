@@ -6,7 +6,7 @@ use Rattle.cube_model.specs.declared.rows.DimRows.{DimRows}
 use Rattle.cube_query.specs.Groups.{Begins, RepresentsRows}
 use Rattle.planned_queries.specs.Planned.{IsPlanOf}
 use Rattle.planned_queries.proofs.Cuboids.{members_in}
-use Rattle.planned_queries.proofs.Steps.{begun}
+use Rattle.planned_queries.proofs.SteppingLemmas.{begun}
 use Rattle.planned_queries.proofs.stepping.Running.begin.Goals as goal
 
 pub begin_fold-requires-clause-begins : goal.begin_fold-requires-clause-begins

@@ -4,8 +4,7 @@ use Rattle.group_tallies.specs.GroupLines.{line_at}
 use Rattle.mode_queries.specs.Names.{column_names}
 use Rattle.mode_queries.specs.Joining.{member_of}
 use Rattle.report_formats.specs.Fields.{member_field, member_fields}
-use Rattle.report_formats.proofs.Members.{member_found}
-use Rattle.report_formats.proofs.Pairs.{get_or-paired, in_first, in_second}
+use Rattle.report_formats.proofs.FieldsLemmas.{member_found, get_or-paired, in_first, in_second}
 use Rattle.report_formats.proofs.fields.MemberFieldsFields.write_field.Goals as goal
 
 pub column_name-column-requires : goal.column_name-column-requires

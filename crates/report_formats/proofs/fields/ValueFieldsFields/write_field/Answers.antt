@@ -3,7 +3,7 @@ use Rattle.cube_model.specs.declared.answer.Value.TheVariants.{Whole}
 use Rattle.cube_model.specs.declared.measure.Agg.TheVariants.{Count}
 use Rattle.group_tallies.specs.GroupLines.{line_at}
 use Rattle.report_formats.specs.Fields.{count_in, value_field, value_fields}
-use Rattle.report_formats.proofs.Pairs.{get_or-paired, in_first, in_second}
+use Rattle.report_formats.proofs.FieldsLemmas.{get_or-paired, in_first, in_second}
 use Rattle.report_formats.proofs.fields.ValueFieldsFields.write_field.Goals as goal
 
 pub offset_bounds-as_slice-place : goal.offset_bounds-as_slice-place

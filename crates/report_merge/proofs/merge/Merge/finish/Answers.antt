@@ -8,7 +8,7 @@ use Rattle.report_formats.specs.Asked.{query_for}
 use Rattle.report_merge.specs.Finishing.{finished_for, partial_for}
 use Rattle.report_merge.specs.Merging.{Part}
 use Rattle.report_merge.proofs.Counted.{done}
-use Rattle.report_merge.proofs.Finished.{fine_memory, refused_for}
+use Rattle.report_merge.proofs.MergeLemmas.{fine_memory, refused_for}
 use Rattle.report_merge.proofs.merge.Merge.finish.Goals as goal
 
 pub returns-clause-answer : goal.returns-clause-answer

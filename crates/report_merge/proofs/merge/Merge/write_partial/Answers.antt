@@ -6,7 +6,7 @@ use Rattle.partial_reports.specs.Head.{head_text}
 use Rattle.ssb_reports.specs.Report.{report_of}
 use Rattle.report_merge.specs.Merging.{Part}
 use Rattle.report_merge.specs.Written.{WritesOrKeeps}
-use Rattle.report_merge.proofs.Writing.{lacks, nothing, part_written}
+use Rattle.report_merge.proofs.MergeLemmas.{lacks, nothing, part_written}
 use Rattle.report_merge.proofs.merge.Merge.write_partial.Goals as goal
 
 pub returns-in_err-head : goal.returns-in_err-head

@@ -1,5 +1,5 @@
 use Rattle.std.proofs.Common.{◌∙◌, ap, refl, Some}
-use Rattle.stored_rows.proofs.RowsAmong.{has-supplier, on_true}
+use Rattle.stored_rows.proofs.AmongLemmas.{has-supplier, on_true}
 use Rattle.stored_rows.proofs.among.SupplierRowKnownRow.is_in.Goals as goal
 
 pub returns-clause-yes : goal.returns-clause-yes

@@ -1,6 +1,6 @@
 use Rattle.std.proofs.Common.{[], ap, ◌∙◌}
 use Rattle.batch_admission.specs.Found.{found_in}
-use Rattle.warehouse.proofs.GrownBatches.{fits-none}
+use Rattle.warehouse.proofs.GrowingLemmas.{fits-none}
 use Rattle.warehouse.proofs.growing.GrowingBatch.after.Goals as goal
 
 pub returns-clause-ok : goal.returns-clause-ok

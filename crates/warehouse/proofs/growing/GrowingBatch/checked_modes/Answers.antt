@@ -4,7 +4,7 @@ use Rattle.warehouse_root.specs.declared.layout.Layout.{Layout}
 use Rattle.warehouse_root.specs.declared.layout.Layout.TheVariants.{Second}
 use Rattle.warehouse_root.specs.Modes.{kept_modes}
 use Rattle.warehouse_root.specs.Root.{PlainRoot}
-use Rattle.warehouse.proofs.CheckedModes.{modes_checked}
+use Rattle.warehouse.proofs.GrowingLemmas.{modes_checked}
 use Rattle.warehouse.proofs.growing.GrowingBatch.checked_modes.Goals as goal
 
 pub returns-in_ok-check_early-in-Second-clause-model : goal.returns-in_ok-check_early-in-Second-clause-model

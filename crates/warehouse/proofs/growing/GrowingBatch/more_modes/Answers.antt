@@ -3,8 +3,7 @@ use Rattle.cube_model.specs.Limits.{most_batch_rows}
 use Rattle.cube_model.specs.ShipModes.{modes_in}
 use Rattle.batch_admission.specs.Found.{Found}
 use Rattle.warehouse.specs.Refusing.{is_of_device}
-use Rattle.warehouse.proofs.CheckedModes.{cause_with, few_codes, modes_with, short_codes}
-use Rattle.warehouse.proofs.GrownBatches.{grown-batch}
+use Rattle.warehouse.proofs.GrowingLemmas.{cause_with, few_codes, modes_with, short_codes, grown-batch}
 use Rattle.warehouse.proofs.Refusing.{modes_apart}
 use Rattle.warehouse.proofs.growing.GrowingBatch.more_modes.Goals as goal
 

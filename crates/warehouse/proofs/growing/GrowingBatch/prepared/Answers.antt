@@ -1,6 +1,6 @@
 use Rattle.std.proofs.Common.{inl}
 use Rattle.std.proofs.lemmas.Result.{err_from_is_err_and}
-use Rattle.warehouse.proofs.GrownBatches.{prepares-with, refused-with}
+use Rattle.warehouse.proofs.GrowingLemmas.{prepares-with, refused-with}
 use Rattle.warehouse.proofs.growing.GrowingBatch.prepared.Goals as goal
 
 pub returns-in_err-totals-clause-model : goal.returns-in_err-totals-clause-model

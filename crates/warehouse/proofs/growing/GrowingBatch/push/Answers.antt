@@ -1,6 +1,6 @@
 use Rattle.std.proofs.Common.{rules}
 use Rattle.std.proofs.lemmas.Result.{on_ok_weaker}
-use Rattle.warehouse.proofs.GrownBatches.{grown-more, grown-long, had_columns}
+use Rattle.warehouse.proofs.GrowingLemmas.{grown-more, grown-long, had_columns}
 use Rattle.warehouse.proofs.growing.GrowingBatch.push.Goals as goal
 
 pub push-requires : goal.push-requires

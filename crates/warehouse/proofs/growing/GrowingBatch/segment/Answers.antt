@@ -1,6 +1,6 @@
 use Rattle.std.proofs.Common.{rules, ◌≡◌, ◌≤◌, false, is_some, arith}
 use Rattle.cube_model.specs.Limits.{most_batch_rows}
-use Rattle.warehouse.proofs.GrownBatches.{grown-batch, grown-columns}
+use Rattle.warehouse.proofs.GrowingLemmas.{grown-batch, grown-columns}
 use Rattle.warehouse.proofs.growing.GrowingBatch.segment.Goals as goal
 
 pub encode-requires : goal.encode-requires

@@ -7,7 +7,7 @@ use Rattle.warehouse_objects.specs.Represents.{Represents}
 use Rattle.warehouse_objects.proofs.Folded.{err_fault}
 use Rattle.warehouse.specs.Migrating.{MigratedOrNot}
 use Rattle.warehouse.specs.Session.{disk_of}
-use Rattle.warehouse.proofs.Migrated.{read_or_not, refuses_still}
+use Rattle.warehouse.proofs.SessionLemmas.{read_or_not, refuses_still}
 use Rattle.warehouse.proofs.Represented.{content_leaves, session_at, still_at, store_at}
 use Rattle.warehouse.proofs.session.Session.move_on.Goals as goal
 

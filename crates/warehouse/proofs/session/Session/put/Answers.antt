@@ -15,8 +15,8 @@ use Rattle.warehouse_objects.specs.Loaded.{IsLoaded}
 use Rattle.warehouse.specs.Session.{disk_of, is_at}
 use Rattle.warehouse.specs.Submitting.{WithOrWithout}
 use Rattle.warehouse.proofs.Represented.{store_at, session_at, as_before_at, as_before_leaves}
-use Rattle.warehouse.proofs.Submitting.{few_more, loaded_after, modes_now, prepared_is_put, ready_agrees}
-use Rattle.warehouse.proofs.Submitting.{represents_after, submit_causes, submit_leaves}
+use Rattle.warehouse.proofs.SessionLemmas.{few_more, loaded_after, modes_now, prepared_is_put, ready_agrees}
+use Rattle.warehouse.proofs.SessionLemmas.{represents_after, submit_causes, submit_leaves}
 use Rattle.warehouse.proofs.session.Session.put.Goals as goal
 use Rattle.warehouse.proofs.session.Session.put.Goals.{in-Some, in_default}
 

@@ -14,7 +14,7 @@ use Rattle.warehouse_objects.specs.Loaded.{IsLoaded}
 use Rattle.warehouse.specs.Session.{is_at}
 use Rattle.warehouse.specs.Widening.{WidenedOrNot, shown_puts}
 use Rattle.warehouse.proofs.Represented.{store_at, session_at, as_before_at, as_before_leaves}
-use Rattle.warehouse.proofs.Wider.{few_wider, loaded_wider, represents_wider, wider_causes, wider_leaves}
+use Rattle.warehouse.proofs.SessionLemmas.{few_wider, loaded_wider, represents_wider, wider_causes, wider_leaves}
 use Rattle.warehouse.proofs.session.Session.put_wider.Goals as goal
 
 pub invariant_of-self-in-Err-commit : goal.invariant_of-self-in-Err-commit

@@ -5,7 +5,7 @@ use Rattle.dimensions.specs.Added.{addition_cause}
 use Rattle.warehouse_objects.specs.Facts.{number_refusal}
 use Rattle.warehouse.specs.Widening.{IsWidening}
 use Rattle.warehouse.proofs.Numbering.{both_none, second_of}
-use Rattle.warehouse.proofs.Wider.{number_agrees, refusal_agrees}
+use Rattle.warehouse.proofs.SessionLemmas.{number_agrees, refusal_agrees}
 use Rattle.warehouse.proofs.session.Session.widening.Goals as goal
 
 pub returns-clause-refused : goal.returns-clause-refused

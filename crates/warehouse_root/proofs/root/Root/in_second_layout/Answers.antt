@@ -1,5 +1,5 @@
 use Rattle.std.proofs.Common.{◌≡◌, ◌∙◌}
-use Rattle.warehouse_root.proofs.Moved.{moved}
+use Rattle.warehouse_root.proofs.RootLemmas.{moved}
 use Rattle.warehouse_root.proofs.root.Root.in_second_layout.Goals as goal
 
 pub invariant_of-result : goal.invariant_of-result

@@ -1,6 +1,6 @@
 use Rattle.std.proofs.Common.{◌≡◌, length, sym, ap, ◌∙◌, subst}
 use Rattle.warehouse_root.specs.Root.{IsProperCuboid, PlainRoot, put_stored_cuboid}
-use Rattle.warehouse_root.proofs.Placed.{placed}
+use Rattle.warehouse_root.proofs.RootLemmas.{placed}
 use Rattle.warehouse_root.proofs.root.Root.with_cuboid.Goals as goal
 
 pub invariant_of-result : goal.invariant_of-result
