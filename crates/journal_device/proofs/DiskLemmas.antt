@@ -1,5 +1,5 @@
 -- Lemmas of `disk`, by subject.
-use Rattle.std.proofs.Common.{◌≡◌, ⊎_elim, inl, inr, ℕ, suc, ◌-◌, ◌≤◌, ◌<◌, ◌==◌, Bool, true, if◌then◌else◌, List, []}
+use Rattle.std.proofs.Common.{◌≡◌, ⊎_elim, inl, ℕ, ◌≤◌, ◌<◌, ◌==◌, Bool, true, if◌then◌else◌, List, []}
 use Rattle.std.proofs.Common.{◌∷◌, ◌++◌, length, map, Option, Some, None, Result, Ok, Err, OnOk, OnErr, ◌*◌, ◌/◌, drop}
 use Rattle.std.proofs.Common.{nat_eq, refl, sym, ◌∙◌, ap, subst, arith}
 use Rattle.std.proofs.lemmas.Bool.{cases_eq, ne_eqb, eq-eqb}
@@ -8,7 +8,8 @@ use Rattle.sector_device.proofs.CallerLemmas.{chunk_at, length-chunks}
 use Rattle.std.specs.Option.{unwrap_or}
 use Rattle.sector_device.specs.Device.{Image, DeviceState, Elapses, IsSettled, Syncs, WritesSector}
 use Rattle.sector_device.specs.Memory.{content}
-use Rattle.file_device.specs.History.{FileMayHold, FileLeftWithin, file_state, reads_after}
+use Rattle.file_device.specs.History.{FileMayHold, file_state, reads_after}
+use Rattle.file_device.proofs.SyncStep.{passes}
 use Rattle.file_device.specs.Laws.{file_read_may_stay}
 use Rattle.file_device.specs.declared.event.Event.{Event}
 use Rattle.file_device.specs.declared.event.Event.TheVariants.{Written, Synced}
@@ -26,20 +27,6 @@ pub record_next : (calls : List Call) (call : Call) → record_of (calls ++ call
 record_next calls call = ap (map event_of) (reverse-append calls (call ∷ []))
 
 module _ (size : ℕ) (start : Image) (at_first : ℕ → List ℕ → Type 0) (events : List Event) where
-  passes : (e : Event) → Elapses (file_state size start at_first events) (file_state size start at_first (e ∷ events))
-  passes e =
-      let steps : (t : ℕ) → t ≤ length events → suc (length events) - t ≡ suc (length events - t) =
-      λ t le. omega arith in record {
-        later = omega arith;
-        nothing_else = λ t image le left.
-            let from : FileLeftWithin start at_first (suc (length events - t)) (e ∷ events) image =
-            subst (λ (n : ℕ). FileLeftWithin start at_first n (e ∷ events) image) (steps t le) left in
-            ⊎_elim (λ now. inr now) (λ was. inl was) from;
-        keeps = λ t image le left.
-            let to : FileLeftWithin start at_first (suc (length events - t)) (e ∷ events) image = inr left in
-            subst (λ (n : ℕ). FileLeftWithin start at_first n (e ∷ events) image) (sym (steps t le)) to;
-      }
-
   writes_event : (i : ℕ) (bytes : List ℕ)
       → WritesSector i bytes (file_state size start at_first events)
       (file_state size start at_first (Written i bytes true ∷ events))
@@ -47,7 +34,7 @@ module _ (size : ℕ) (start : Image) (at_first : ℕ → List ℕ → Type 0) (
     others = λ j ne. ap (λ (b : Bool). if b then bytes else reads_after start events j) (ne_eqb j i ne);
     no_more = λ j x may. may;
     no_fewer = λ j x may. inl may;
-    time = passes (Written i bytes true);
+    time = passes size start at_first events (Written i bytes true);
   }
 
   syncs_event : ((i : ℕ) → at_first i (start i))
@@ -56,7 +43,7 @@ module _ (size : ℕ) (start : Image) (at_first : ℕ → List ℕ → Type 0) (
     reads = λ i. refl;
     no_more = λ i b may. subst (FileMayHold start at_first events i) (sym may)
         (file_read_may_stay start at_first stays events i);
-    time = passes (Synced true);
+    time = passes size start at_first events (Synced true);
   }
 
 module _ (image : List ℕ) (calls : List Call) where
