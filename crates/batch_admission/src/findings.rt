@@ -76,7 +76,8 @@ impl Findings {
 
     /// Whether a text of the rows is too long. That of a further row does not change a yes.
     pub fn has_long_text(&self) -> bool
-        ensures { result ≡ is_some self.now.long_text }
+        ensures long { result ≡ is_some self.now.long_text }
+        ensures few { self.now.row_count ≤ most_batch_rows }
     {
         self.long_text.is_some()
     }
@@ -104,7 +105,8 @@ impl Findings {
 
     /// The first cause to refuse a batch of these rows, their sums apart: a text that is too long, or an unknown key.
     pub fn early_cause(&self) -> Option<Fault>
-        ensures { result ≡ first_cause (self.now.long_text ∷ self.now.unknown_key ∷ []) }
+        ensures cause { result ≡ first_cause (self.now.long_text ∷ self.now.unknown_key ∷ []) }
+        ensures few { self.now.row_count ≤ most_batch_rows }
     {
         self.long_text.or(self.unknown_key)
     }

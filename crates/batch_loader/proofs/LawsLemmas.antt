@@ -6,6 +6,7 @@ use Rattle.std.specs.List.{AllByRecursion, All, join_with_byte, onto_first}
 use Rattle.std.proofs.lemmas.Bool.Decides.{nat_tests}
 use Rattle.batch_loader.specs.Lines.{lines_of, onto_first_line}
 use Rattle.batch_loader.specs.Grammar.{HasNoLf, ended, EndsWithoutLf, SpellsLines, HasNoBar, SpellsFields}
+use Rattle.batch_loader.specs.Grammar.{FieldsAreSpelled, LinesAreSpelled}
 use Rattle.std.specs.Option.{option_map}
 use Rattle.std.proofs.lemmas.List.Splits.{slice_split_at, slice_split_none, join_with_byte-slice_split}
 use Rattle.batch_loader.specs.Fields.{between_bars, first_parts, without_cr, fields_of}
@@ -283,3 +284,11 @@ fields-by n line fields some count none (inr is) =
 pub spelled-fields : (n : ℕ) (line : List ℕ) (fields : List (List ℕ)) → 0 < n → SpellsFields n line fields
     → fields_of n line ≡ Some fields
 spelled-fields n line fields some spells = fields-by n line fields some spells.count spells.no_bar spells.joined
+
+-- ==== The laws, as callers cite them.
+
+pub lines_are_spelled : LinesAreSpelled
+lines_are_spelled text lines = (text-spells text lines, spelled-lines text lines)
+
+pub fields_are_spelled : FieldsAreSpelled
+fields_are_spelled n line fields some = (fields-spelled n line fields some, spelled-fields n line fields some)

@@ -7,7 +7,6 @@ use crate::naming::named;
 use cube_model::Fault;
 use dimension_tables::read_dimensions;
 use dimensions::Dims;
-use journal_device::laws::prefix_is_left;
 use journal_device::{Call, JournalDisk, Origin, journal_of};
 use std::alloc::Global;
 use std::marker::Brand;
@@ -41,7 +40,6 @@ fn create_over<O: Origin>(alloc: Global, image: &[u8], dims: Dims) -> Result<Vec
     ensures creates { IfOk result (λ calls. AreCallsWithin O.image (Creates O.image dims) calls.items) }
     ensures refused { IfErr result (CreateRefuses O.image dims) }
 {
-    prefix_is_left();
     let Some(device) = JournalDisk::<O>::over(alloc, image) else {
         return Err(Fault::DeviceSize);
     };

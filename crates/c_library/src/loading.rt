@@ -9,7 +9,6 @@ ghost use Rattle.c_library.specs.Loading.{IsLoadJournal, LoadRefuses, LoadsImage
 
 use crate::naming::named;
 use cube_model::Fault;
-use journal_device::laws::prefix_is_left;
 use journal_device::{Call, JournalDisk, Origin, journal_of};
 use sector_device::Sectors;
 use std::alloc::Global;
@@ -53,7 +52,6 @@ fn load_over<O: Origin>(
         → LoadsImage O.image facts first rows lineorder.now done) calls.items) }
     ensures refused { IfErr result (RefusesLoad O.image first rows lineorder.now) }
 {
-    prefix_is_left();
     let Some(device) = JournalDisk::<O>::over(alloc, image) else {
         return Err(Fault::DeviceSize);
     };

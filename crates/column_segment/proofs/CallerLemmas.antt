@@ -14,8 +14,11 @@ use Rattle.dictionary.specs.Spelling.{AreShort, texts_spelling}
 use Rattle.dictionary.specs.Columns.{codes_of, codes_spelling, column_spelling, text_of_code}
 use Rattle.dictionary.proofs.ColumnLaws.{AreCodes-below, AreProper-firsts, column_has_codes, length-firsts}
 use Rattle.dictionary.proofs.ColumnLaws.{texts_spelling-one}
-use Rattle.column_segment.specs.Columns.{Column, FitsColumn, number_columns, text_columns, text_of}
-use Rattle.column_segment.specs.Segment.{IsBatch, IsSegment, segment_header, number_column, text_column}
+use Rattle.column_segment.specs.Columns.{Column, FitsColumn, figure_columns, number_columns, text_columns, text_of}
+use Rattle.column_segment.specs.Encoding.{HaveFigures, HaveRows}
+use Rattle.column_segment.specs.declared.gathering.Figures.{Figures}
+use Rattle.column_segment.specs.declared.encoding.BatchColumns.{BatchColumns}
+use Rattle.column_segment.specs.Segment.{FitColumns, IsBatch, IsSegment, segment_header, number_column, text_column}
 use Rattle.column_segment.specs.declared.columns.TextColumn.{TextColumn}
 
 -- bytes begin with one list of so many numbers at most
@@ -295,3 +298,27 @@ IsSegment-one text number other rows others is also =
     let padded : end1 ++ [] ≡ end2 ++ [] = append-nil end1 ∙ columns.1 ∙ sym (append-nil end2) in
     let texts = text_columns-one text_columns rows others [] [] header.1 is.batch also.batch padded in
     (header.0, rows-one rows others header.1 columns.0 texts.0)
+
+-- the numbers of rows whose columns there are fit these
+figures_fit : (rows : List LineOrder) (columns : Figures) → HaveFigures rows columns
+    → AllByRecursion (λ column. All (FitsColumn column) rows) figure_columns
+figures_fit rows columns have = (
+  have.quantity.fits,
+  (
+    have.extendedprice.fits,
+    (have.ordtotalprice.fits, (have.discount.fits, (have.revenue.fits, (have.supplycost.fits, (have.tax.fits, tt))))),
+  ),
+)
+
+pub rows_fit : (rows : List LineOrder) (columns : BatchColumns) → HaveRows rows columns → FitColumns rows
+rows_fit rows columns have =
+    let keys = have.keys in (
+      keys.orderkey.fits,
+      (
+        keys.linenumber.fits,
+        (
+          keys.custkey.fits,
+          (keys.partkey.fits, (keys.suppkey.fits, (keys.orderdate.fits, figures_fit rows columns.figures have.figures))),
+        ),
+      ),
+    )

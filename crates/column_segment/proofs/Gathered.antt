@@ -3,12 +3,14 @@ use Rattle.std.proofs.Common.{◌≡◌, ◌<◌, ◌≤◌, ◌+◌, ◌-◌, �
 use Rattle.std.proofs.Common.{take, get_or, slice_range, length-append, append_assoc}
 use Rattle.std.specs.List.{flat_map}
 use Rattle.std.proofs.Math.Seq.{take-add}
+use Rattle.std.proofs.lemmas.List.Elements.{All-append}
 use Rattle.std.proofs.lemmas.List.{flat_map_more, length-map, length-take-le, map-append, take_more}
 use Rattle.cube_model.specs.Limits.{most_batch_rows}
 use Rattle.cube_model.specs.declared.rows.LineOrder.{LineOrder}
 use Rattle.wire.specs.Spelling.{spelling}
-use Rattle.column_segment.specs.Columns.{Column, text_of}
-use Rattle.column_segment.specs.Encoding.{CodingHasRoom, CodingsHaveRoom, HaveTexts, IsCoding, number_chunks}
+use Rattle.column_segment.specs.Columns.{Column, FitsColumn, text_of}
+use Rattle.column_segment.specs.Encoding.{CodingHasRoom, CodingsHaveRoom, HaveTexts, IsCoding, IsColumnOf, PutsColumn}
+use Rattle.column_segment.specs.Encoding.{number_chunks}
 use Rattle.column_segment.specs.Segment.{number_column}
 use Rattle.column_segment.specs.declared.coding.Coding.{Coding}
 use Rattle.column_segment.specs.declared.coding.Texts.{Texts}
@@ -27,10 +29,10 @@ flat_chunks column (row ∷ rows) =
 
 -- the bytes of all rows, one after the other, are the column
 pub column_after : (column : Column) (rows : List LineOrder) (items slice : List (List ℕ)) (s0 s1 : List ℕ)
-    → items ≡ number_chunks column rows → slice ≡ items
+    → IsColumnOf column rows items → slice ≡ items
     → s1 ≡ s0 ++ flat_map (λ chunk. chunk) slice → s1 ≡ s0 ++ number_column rows column
 column_after column rows items slice s0 s1 are same put =
-    put ∙ ap (λ (l : List (List ℕ)). s0 ++ flat_map (λ chunk. chunk) l) (same ∙ are)
+    put ∙ ap (λ (l : List (List ℕ)). s0 ++ flat_map (λ chunk. chunk) l) (same ∙ are.chunks)
     ∙ ap (λ (l : List ℕ). s0 ++ l) (flat_chunks column rows)
 
 -- ---- texts
@@ -69,11 +71,12 @@ length_after before rows i le = length-append before (take i rows)
 
 -- the bytes of a piece after those of the rows before
 pub chunks_after : (column : Column) (before piece : List LineOrder) (old new : List (List ℕ))
-    → old ≡ number_chunks column before → new ≡ old ++ number_chunks column piece
-    → new ≡ number_chunks column (before ++ piece)
-chunks_after column before piece old new are put =
-    put ∙ ap (λ (l : List (List ℕ)). l ++ number_chunks column piece) are
-    ∙ sym (map-append (λ (r : LineOrder). spelling column.width (column.value r)) before piece)
+    → IsColumnOf column before old → PutsColumn column piece old new → IsColumnOf column (before ++ piece) new
+chunks_after column before piece old new are puts = record {
+  chunks = puts.put ∙ ap (λ (l : List (List ℕ)). l ++ number_chunks column piece) are.chunks
+      ∙ sym (map-append (λ (r : LineOrder). spelling column.width (column.value r)) before piece);
+  fits = All-append (FitsColumn column) before piece are.fits puts.fits;
+}
 
 -- one row more of further rows
 pub one_after : (before rows : List LineOrder) (i : ℕ) (row : LineOrder) → i < length rows → row ≡ get_or rows i row

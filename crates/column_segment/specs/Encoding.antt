@@ -1,6 +1,6 @@
 -- What was written of some rows while a batch is spelled, column by column. Our own.
-use Rattle.std.specs.Prelude.{◌≡◌, ◌<◌, ◌≤◌, ◌+◌, ℕ, List, length, map}
-use Rattle.std.specs.List.{flat_map}
+use Rattle.std.specs.Prelude.{◌≡◌, ◌<◌, ◌≤◌, ◌+◌, ◌++◌, ℕ, List, length, map}
+use Rattle.std.specs.List.{All, flat_map}
 use Rattle.cube_model.specs.Limits.{most_batch_rows}
 use Rattle.cube_model.specs.declared.rows.LineOrder.{LineOrder}
 use Rattle.wire.specs.Spelling.{spelling}
@@ -17,31 +17,41 @@ use Rattle.column_segment.specs.declared.coding.Coding.{Coding}
 use Rattle.column_segment.specs.declared.coding.Texts.{Texts}
 use Rattle.column_segment.specs.declared.encoding.BatchColumns.{BatchColumns}
 use Rattle.column_segment.specs.Coding.{AreCoded}
-use Rattle.column_segment.specs.Columns.{Column, amounts, bytes, numbers, text_of}
+use Rattle.column_segment.specs.Columns.{Column, FitsColumn, amounts, bytes, numbers, text_of}
 use Rattle.column_segment.specs.Segment.{IsBatch}
 
 -- the bytes of each row's number in a column
 abbrev pub number_chunks : Column → List LineOrder → List (List ℕ)
 number_chunks column rows = map (λ row. spelling column.width (column.value row)) rows
 
+-- the column of some rows: the bytes of each row's number, which is below the limit
+pub record IsColumnOf (column : Column) (rows : List LineOrder) (items : List (List ℕ)) : Type 0 where
+  pub chunks : items ≡ number_chunks column rows
+  pub fits : All (FitsColumn column) rows
+
+-- what further rows have in a column is put after the others
+pub record PutsColumn (column : Column) (rows : List LineOrder) (old new : List (List ℕ)) : Type 0 where
+  pub put : new ≡ old ++ number_chunks column rows
+  pub fits : All (FitsColumn column) rows
+
 -- the columns of keys are those of the rows
 pub record HaveKeys (rows : List LineOrder) (keys : Keys) : Type 0 where
-  pub orderkey : keys.orderkey.items ≡ number_chunks (amounts OrderKey) rows
-  pub linenumber : keys.linenumber.items ≡ number_chunks (numbers LineNumber) rows
-  pub custkey : keys.custkey.items ≡ number_chunks (numbers CustKey) rows
-  pub partkey : keys.partkey.items ≡ number_chunks (numbers PartKey) rows
-  pub suppkey : keys.suppkey.items ≡ number_chunks (numbers SuppKey) rows
-  pub orderdate : keys.orderdate.items ≡ number_chunks (numbers OrderDate) rows
+  pub orderkey : IsColumnOf (amounts OrderKey) rows keys.orderkey.items
+  pub linenumber : IsColumnOf (numbers LineNumber) rows keys.linenumber.items
+  pub custkey : IsColumnOf (numbers CustKey) rows keys.custkey.items
+  pub partkey : IsColumnOf (numbers PartKey) rows keys.partkey.items
+  pub suppkey : IsColumnOf (numbers SuppKey) rows keys.suppkey.items
+  pub orderdate : IsColumnOf (numbers OrderDate) rows keys.orderdate.items
 
 -- the columns of figures are those of the rows
 pub record HaveFigures (rows : List LineOrder) (figures : Figures) : Type 0 where
-  pub quantity : figures.quantity.items ≡ number_chunks (bytes Quantity) rows
-  pub extendedprice : figures.extendedprice.items ≡ number_chunks (amounts ExtendedPrice) rows
-  pub ordtotalprice : figures.ordtotalprice.items ≡ number_chunks (amounts OrdTotalPrice) rows
-  pub discount : figures.discount.items ≡ number_chunks (bytes Discount) rows
-  pub revenue : figures.revenue.items ≡ number_chunks (amounts Revenue) rows
-  pub supplycost : figures.supplycost.items ≡ number_chunks (amounts SupplyCost) rows
-  pub tax : figures.tax.items ≡ number_chunks (bytes Tax) rows
+  pub quantity : IsColumnOf (bytes Quantity) rows figures.quantity.items
+  pub extendedprice : IsColumnOf (amounts ExtendedPrice) rows figures.extendedprice.items
+  pub ordtotalprice : IsColumnOf (amounts OrdTotalPrice) rows figures.ordtotalprice.items
+  pub discount : IsColumnOf (bytes Discount) rows figures.discount.items
+  pub revenue : IsColumnOf (amounts Revenue) rows figures.revenue.items
+  pub supplycost : IsColumnOf (amounts SupplyCost) rows figures.supplycost.items
+  pub tax : IsColumnOf (bytes Tax) rows figures.tax.items
 
 -- a dictionary and codes are those of a column of texts
 abbrev pub IsCoding : List (List ℕ) → Coding → Type 0

@@ -4,7 +4,7 @@
 ghost use Rattle.std.specs.Prelude.{◌≡◌, ◌+◌, ◌≤◌, ◌<◌, ℕ};
 ghost use Rattle.std.proofs.Common.{arith};
 ghost use Rattle.wire.specs.Spelling.{spelling};
-ghost use Rattle.column_segment.specs.Columns.{Column, amounts, bytes, numbers};
+ghost use Rattle.column_segment.specs.Columns.{Column, FitsColumn, amounts, bytes, numbers};
 ghost use Rattle.column_segment.specs.Decoded.{amount_place, byte_place, number_place};
 
 use cube_model::LineOrder;
@@ -19,7 +19,8 @@ pub(crate) trait OfWidth<const WIDTH: usize>: Copy {
 
     // The bytes of what a row has in the column.
     fn bytes_of(self, row: &LineOrder) -> [u8; WIDTH]
-        ensures { result ≡ spelling (column self).width ((column self).value row.now) };
+        ensures value { result ≡ spelling (column self).width ((column self).value row.now) }
+        ensures fits { FitsColumn (column self) row.now };
 
     // How many bytes of a row are in the columns before it.
     fn place(self) -> usize
@@ -79,20 +80,30 @@ pub enum NumberColumn {
     OrderDate,
 }
 
+impl NumberColumn {
+    ghost use Rattle.column_segment.specs.Columns.{column_number};
+
+    // What a row has in the column.
+    fn number_of(self, row: &LineOrder) -> u32
+        ensures { result ≡ column_number self row.now }
+    {
+        match self {
+            NumberColumn::LineNumber => row.linenumber,
+            NumberColumn::CustKey => row.custkey,
+            NumberColumn::PartKey => row.partkey,
+            NumberColumn::SuppKey => row.suppkey,
+            NumberColumn::OrderDate => row.orderdate,
+        }
+    }
+}
+
 impl OfWidth<4> for NumberColumn {
     ghost column = { numbers };
 
     ghost place = { number_place };
 
     fn bytes_of(self, row: &LineOrder) -> [u8; 4] {
-        let number = match self {
-            NumberColumn::LineNumber => row.linenumber,
-            NumberColumn::CustKey => row.custkey,
-            NumberColumn::PartKey => row.partkey,
-            NumberColumn::SuppKey => row.suppkey,
-            NumberColumn::OrderDate => row.orderdate,
-        };
-        u32::to_le_bytes(number)
+        u32::to_le_bytes(self.number_of(row))
     }
 
     fn place(self) -> usize {

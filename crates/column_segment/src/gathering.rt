@@ -4,7 +4,7 @@ ghost use Rattle.std.specs.Prelude.{◌≡◌, ◌≤◌, ◌++◌, [], List, le
 ghost use Rattle.std.specs.List.{flat_map};
 ghost use Rattle.cube_model.specs.declared.rows.LineOrder.{LineOrder};
 ghost use Rattle.column_segment.specs.Columns.{figure_columns, key_columns};
-ghost use Rattle.column_segment.specs.Encoding.{number_chunks};
+ghost use Rattle.column_segment.specs.Encoding.{PutsColumn};
 ghost use Rattle.column_segment.specs.Segment.{number_column};
 
 use crate::columns::{AmountColumn, ByteColumn, NumberColumn, OfWidth};
@@ -152,7 +152,7 @@ fn put<const WIDTH: usize, C: OfWidth<WIDTH>>(
     column: C,
 ) -> Result<(), Fault>
     requires piece { length rows.now ≤ PIECE }
-    ensures ok { OnOk result (to.new.items ≡ to.old.items ++ number_chunks (C.column column) rows.now) }
+    ensures ok { OnOk result (PutsColumn (C.column column) rows.now to.old.items to.new.items) }
     ensures memory { IsOkUnless result Fault.Memory }
 {
     let mut chunks = [[0u8; WIDTH]; PIECE];

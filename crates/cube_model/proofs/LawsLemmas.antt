@@ -22,7 +22,8 @@ use Rattle.cube_model.specs.Answers.{answer, line_of, rows_of_key}
 use Rattle.cube_model.specs.Ascending.{by_order, insert_once, ascending, IsAscending}
 use Rattle.cube_model.proofs.Ascending.{IsAscending-ascending, list_any-ascending}
 use Rattle.cube_model.specs.Keys.{key_cmp, keys_of, GroupingSet, beginnings, subsets, grouping_sets, key_under}
-use Rattle.cube_model.specs.Lawful.{IsAnswer, RowsOfAKey, EachPair, KeepsRules, ValidRowsKeepTheRules}
+use Rattle.cube_model.specs.Lawful.{AnswerIsTheOne, FractionIsTheOne, IsAnswer, RowsOfAKey, EachPair, KeepsRules}
+use Rattle.cube_model.specs.Lawful.{ValidRowsKeepTheRules}
 use Rattle.cube_model.specs.Order.{member_cmp_total}
 use Rattle.cube_model.proofs.KeyOrder.{key_cmp_total, key_cmp-IsAntisymmetric}
 use Rattle.cube_model.specs.Orders.{answer_cmp, value_cmp, in_order}
@@ -57,7 +58,7 @@ use Rattle.cube_model.specs.Validity.{dimension_cause}
 -- ==== The answer is the one list of lines that is in order and has just the right lines.
 
 -- values are in a total order, in which averages tie
-value_cmp_total : IsTotalOrder value_cmp
+pub value_cmp_total : IsTotalOrder value_cmp
 value_cmp_total = record {
   antisymm = antisymm;
   trans = trans;
@@ -1074,3 +1075,14 @@ valid_rows_keep_the_rules rows =
           },
       λ keep. four.1 (customers.1 keep.customers, suppliers.1 keep.suppliers, parts.1 keep.parts, dates.1 keep.dates),
     )
+
+pub answer_is_the_one : AnswerIsTheOne
+answer_is_the_one query dimensions rows =
+    (answer-IsAnswer query dimensions rows, λ lines is. answer-unique query dimensions rows lines is)
+
+pub fraction_is_the_one : FractionIsTheOne
+fraction_is_the_one sum count above = (
+  fraction_of-IsFractionOf sum count above,
+  λ fraction is. IsFractionOf-unique sum count above fraction
+      (fraction_of sum count) is (fraction_of-IsFractionOf sum count above),
+)

@@ -1,4 +1,4 @@
-mod LawsLemmas
+pub mod LawsLemmas
 pub mod Ascending
 pub mod Entries
 pub mod KeyOrder

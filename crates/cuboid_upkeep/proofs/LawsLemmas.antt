@@ -41,6 +41,12 @@ use Rattle.cuboid_cells.specs.Cells.{key_as_number}
 use Rattle.cuboid_upkeep.specs.Grouping.{HasMembers, code_on, key_of}
 use Rattle.cuboid_upkeep.specs.Lawful.{OneKeyOneGroup}
 use Rattle.cuboid_upkeep.proofs.Coded.{code_below, few_days, good_on, in_level_column, in_no_column}
+use Rattle.cuboid_upkeep.proofs.Added.{both_represent}
+use Rattle.cuboid_upkeep.proofs.Existing.{cells_of, no_fewer, they_represent}
+use Rattle.cuboid_upkeep.proofs.InRange.{in_range_fit}
+use Rattle.cuboid_upkeep.proofs.OneList.{the_one}
+use Rattle.cuboid_upkeep.specs.Lawful.{CellsAreTheOne, MergesRepresentBoth, MoreRowsHaveNoFewerCells, RowsHaveCells}
+use Rattle.cuboid_upkeep.specs.Lawful.{RowsInRangeFit}
 use Rattle.group_plan.proofs.OneKind as kinds
 use Rattle.lattice.specs.declared.level.Level.TheVariants as level
 
@@ -287,3 +293,21 @@ one_group dimensions law valid short modes view query row other number serves me
     (also Customer) (also Supplier) (also Part) (also Date)
     (mode_fits view.ship_mode modes other.shipmode others.ship_mode) same in
     one_number dimensions law valid short modes view row other members others key query serves number is
+
+-- ==== The laws of cells, as callers cite them.
+
+pub merges_represent_both : MergesRepresentBoth
+merges_represent_both = both_represent
+
+pub cells_are_the_one : CellsAreTheOne
+cells_are_the_one = the_one
+
+pub rows_in_range_fit : RowsInRangeFit
+rows_in_range_fit = in_range_fit
+
+pub rows_have_cells : RowsHaveCells
+rows_have_cells dimensions modes view rows known =
+    (cells_of dimensions modes view rows, they_represent dimensions modes view rows known)
+
+pub more_rows_have_no_fewer_cells : MoreRowsHaveNoFewerCells
+more_rows_have_no_fewer_cells = no_fewer

@@ -6,7 +6,7 @@ mod Added
 mod OneList
 mod Coded
 mod InRange
-mod LawsLemmas
+pub mod LawsLemmas
 pub mod Represented
 mod MemberKeysLemmas
 mod CodesLemmas

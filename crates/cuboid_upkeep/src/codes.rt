@@ -9,7 +9,7 @@ ghost use Rattle.lattice.specs.Levels.{level_attribute};
 ghost use Rattle.cuboid_cells.specs.Limits.{all_code};
 ghost use Rattle.cuboid_upkeep.specs.Codes.{level_column, member_code};
 
-use cube_model::{Axis, valid_rows_keep_the_rules};
+use cube_model::Axis;
 use dimensions::{Dims, lower_column};
 use lattice::Level;
 
@@ -34,7 +34,6 @@ impl<'a> LevelCodes<'a> {
     pub(crate) fn of(dims: &'a Dims, axis: Axis, grouped: Level) -> LevelCodes<'a>
         ensures { AreLevelCodes dims.now axis grouped result }
     {
-        valid_rows_keep_the_rules();
         dims.row_count(axis);
         match column_of_level(axis, grouped) {
             None => LevelCodes::Places,

@@ -2,7 +2,7 @@
 ghost use Rattle.cuboid_upkeep.specs.Lawful.{CellsAreTheOne, MergesRepresentBoth, ModesAreAddedAfter};
 ghost use Rattle.cuboid_upkeep.specs.Lawful.{MoreRowsHaveNoFewerCells, OneKeyOneGroup, RowsHaveCells, RowsInRangeFit};
 
-use cube_model::{Axis, valid_rows_keep_the_rules};
+use cube_model::Axis;
 use dimensions::Dims;
 
 /// The cells of fact rows put end to end are the merge of their cells.
@@ -29,7 +29,6 @@ pub fn rows_in_range_fit()
 pub fn one_key_one_group(dims: &Dims)
     ensures { OneKeyOneGroup dims.now }
 {
-    valid_rows_keep_the_rules();
     dims.row_count(Axis::Customer);
 }
 

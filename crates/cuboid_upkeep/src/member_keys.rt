@@ -10,7 +10,7 @@ ghost use Rattle.cuboid_upkeep.specs.Representatives.{AreAtCodes, AreKeysOf, Hav
 ghost use Rattle.cuboid_upkeep.specs.Representatives.{with_key};
 
 use crate::codes::{LevelCodes, code_count};
-use cube_model::{Axis, valid_rows_keep_the_rules};
+use cube_model::Axis;
 use dimensions::Dims;
 use lattice::Level;
 use std::alloc::{AllocError, Global};
@@ -71,7 +71,6 @@ fn keys_by_code(
     ensures whole { IfOk result (λ keys. HoldAllCodes dims.now axis grouped keys.items) }
     ensures few { IfOk result (λ keys. length keys.items ≤ all_code) }
 {
-    valid_rows_keep_the_rules();
     let mut keys = Vec::new(alloc);
     if dims.row_count(axis) > 0 {
         keys.resize(code_count(dims, axis, grouped), None)?;

@@ -10,7 +10,7 @@ ghost use Rattle.dimension_objects.specs.Columns.{IsSpelled, ReadsDimensionHeade
 use crate::columns::empty_columns;
 use crate::order::{linked_columns, row_columns, stored_columns};
 use crate::reading::{read_columns, read_header, read_keys, read_texts};
-use cube_model::{Axis, Fault, Items, valid_rows_keep_the_rules};
+use cube_model::{Axis, Fault, Items};
 use dimensions::{CodedColumn, CodedDims, CodedRows, Dims};
 use std::alloc::Global;
 use wire::Cursor;
@@ -30,7 +30,6 @@ pub fn decode(
     ensures refused { IfErr result (λ fault. (fault ≡ Fault.Memory) ⊎ ((fault ≡ Fault.BadLayout)
         × ((rows : DimRows) → ¬ AreDimensionObjects customers.now suppliers.now parts.now dates.now rows))) }
 {
-    valid_rows_keep_the_rules();
     let customers = read_rows(alloc, Axis::Customer, customers)?;
     let suppliers = read_rows(alloc, Axis::Supplier, suppliers)?;
     let parts = read_rows(alloc, Axis::Part, parts)?;

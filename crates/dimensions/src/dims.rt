@@ -20,7 +20,7 @@ use crate::coded::{CodedDims, CodedRows};
 use crate::dimension::Dimension;
 use crate::ranks::Ranks;
 use crate::shape::column_of_attr;
-use cube_model::{Attr, Axis, DimRows, Fault, valid_rows_keep_the_rules};
+use cube_model::{Attr, Axis, DimRows, Fault};
 use dictionary::Dictionary;
 use std::alloc::Global;
 use std::marker::Model;
@@ -125,7 +125,6 @@ impl Dims {
         ensures err { IfErr result
             (λ fault. (fault ≡ Fault.Memory) ⊎ ((fault ≡ Fault.BadLayout) × EncodeNoRows coded)) }
     {
-        valid_rows_keep_the_rules();
         let CodedDims {
             customers,
             suppliers,

@@ -10,7 +10,7 @@ ghost use Rattle.group_plan.specs.Rows.{row_at};
 use crate::kinds::Kinds;
 use crate::rows::FactRows;
 use crate::side::Side;
-use cube_model::{Axis, valid_rows_keep_the_rules};
+use cube_model::Axis;
 use dimensions::Dims;
 use std::alloc::{AllocError, Global};
 
@@ -39,7 +39,6 @@ impl Filter {
     pub fn of(alloc: Global, dims: &Dims, axis: Axis, side: &Side) -> Result<Filter, AllocError>
         ensures { IfOk result (λ made. (key : ℕ) → passes made key ≡ false → IsShut dims.now axis side.now key) }
     {
-        valid_rows_keep_the_rules();
         dims.row_count(axis);
         let keys = dims.keys(axis);
         let kinds = Kinds::of(dims, axis);

@@ -3,7 +3,7 @@ ghost use Rattle.std.specs.Prelude.{IfOk};
 ghost use Rattle.group_plan.specs.MemberRows.{HaveMembers};
 
 use crate::kinds::places_of_kinds;
-use cube_model::{Attr, valid_rows_keep_the_rules};
+use cube_model::Attr;
 use dimensions::Dims;
 use std::alloc::{AllocError, Global};
 
@@ -11,7 +11,6 @@ use std::alloc::{AllocError, Global};
 pub fn member_places(alloc: Global, dims: &Dims, attr: Attr) -> Result<Vec<usize>, AllocError>
     ensures { IfOk result (λ places. HaveMembers dims.now attr places.items) }
 {
-    valid_rows_keep_the_rules();
     dims.row_count(attr.axis());
     let rows = places_of_kinds(alloc, dims, attr.axis())?;
     let mut places = Vec::new(alloc);

@@ -12,7 +12,7 @@ ghost use Rattle.group_plan.specs.Plans.{IsSide, gives};
 use crate::digits::{Digit, part_by};
 use crate::kinds::{Kinds, places_of_kinds};
 use crate::places::{all_hold_at, is_same};
-use cube_model::{Attr, Axis, Cond, Query, valid_rows_keep_the_rules};
+use cube_model::{Attr, Axis, Cond, Query};
 use dimensions::Dims;
 use std::alloc::{AllocError, Global};
 
@@ -54,7 +54,6 @@ impl Side {
         if !is_used(query, axis) {
             return Ok(Side::Unused);
         }
-        valid_rows_keep_the_rules();
         dims.row_count(axis);
         let places = places_of_kinds(alloc, dims, axis)?;
         if count <= NARROW {

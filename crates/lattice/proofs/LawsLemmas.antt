@@ -31,6 +31,8 @@ use Rattle.cube_model.specs.declared.attr.Axis.{Axis}
 use Rattle.cube_model.specs.declared.query.Cond.{Cond}
 use Rattle.cube_model.specs.declared.query.Cond.TheVariants.{OneOf, Between, Quantity, Discount}
 use Rattle.cube_model.specs.declared.query.Query.{Query}
+use Rattle.lattice.specs.Laws.{IndexesNameViews}
+use Rattle.lattice.proofs.Places.{index_below, one_view, place_of}
 
 -- ==== In valid dimension rows the member of a level tells the attributes that the table gives to the level.
 
@@ -313,3 +315,7 @@ serves_below view other query up served = record {
   columns = all_below (determines_below view other up) query.columns served.columns;
   conditions = all_below (decides_below view other up) query.conditions served.conditions;
 }
+
+-- the law of indexes, as callers cite it
+pub indexes_name_views : IndexesNameViews
+indexes_name_views = record { place = place_of; below = index_below; one_view = one_view }

@@ -1,8 +1,6 @@
 //! Laws of the definitions: each function proves the statement that its contract names, and does nothing.
 ghost use Rattle.lattice.specs.Laws.{AnsweringIsAPartialOrder, IndexesNameViews, ServingGoesDown, LevelsDetermine};
 
-use cube_model::valid_rows_keep_the_rules;
-
 /// Answering is a partial order of the views.
 pub fn answering_is_a_partial_order()
     ensures { AnsweringIsAPartialOrder }
@@ -21,6 +19,4 @@ pub fn serving_goes_down()
 /// The member of a level tells the attributes that the level is said to determine.
 pub fn levels_determine()
     ensures { LevelsDetermine }
-{
-    valid_rows_keep_the_rules();
-}
+{}

@@ -1,11 +1,12 @@
 -- What the layers above the store need of contents and of what images show.
 use Rattle.std.proofs.Common.{◌≡◌, ◌≢◌, ℕ, ◌+◌, ◌%◌, ◌<◌, ◌≤◌, ◌==◌, if◌then◌else◌, cond, ltb, eqb, length, Some, None}
-use Rattle.std.proofs.Common.{List, [], ◌∷◌, refl, sym, ◌∙◌, ap, subst, arith}
+use Rattle.std.proofs.Common.{List, [], ◌∷◌, refl, sym, ◌∙◌, ap, subst, arith, false}
 use Rattle.std.proofs.lemmas.Bool.Decides.{nat_tests}
 use Rattle.std.proofs.lemmas.Bool.{cond_both}
 use Rattle.std.proofs.lemmas.List.Elements.{All-nil, All-cons}
 use Rattle.std.proofs.lemmas.List.Kept.{AllPairs-cons}
 use Rattle.wire.specs.Limits.{most_object_bytes}
+use Rattle.sector_device.specs.declared.device.Sectors.{Ghosts}
 use Rattle.sector_device.specs.Device.{Image, IsImage}
 use Rattle.sector_device.specs.Moments.{leaves_also}
 use Rattle.superblock.specs.declared.superblock.Super.{Super}
@@ -18,7 +19,10 @@ use Rattle.object_store.specs.Commit.{put_by, drop_by, put_all, drop_all, commit
 use Rattle.object_store.specs.Commit.{ArePuts}
 use Rattle.object_store.specs.Places.{bytes_at, objects_at}
 use Rattle.object_store.specs.Shows.{Shows}
-use Rattle.object_store.specs.Disk.{Disk, Each, AllShow, IsShown, OnlyImagesOf, Passes}
+use Rattle.object_store.specs.Disk.{Disk, Each, AllShow, IsShown, Leaves, OnlyImagesOf, Passes}
+use Rattle.object_store.specs.declared.store.Store.{Store}
+use Rattle.object_store.specs.Sourced.{none_read}
+use Rattle.object_store.specs.Store.{content_of, disk_of, has_failed}
 use Rattle.object_store.specs.Reading.{IsNewest}
 use Rattle.std.specs.List.{AllPairs}
 use Rattle.object_store.proofs.Lists.{AllPairs-drop_each, AllPairs-nil, ascending-put_each}
@@ -195,3 +199,10 @@ only_images P old new only each = record {
   moments = λ w. leaves_also old.state new.state (IsImage old.state) (P old.state.size) (each (only.word w))
       (only.moments w);
 }
+
+-- before its first call, a store that has not failed leaves what it holds
+pub leaves_now : {D : Type 0} (g : Ghosts D)
+    → ((d : D) (image : Image) → g.keeps_word d → (g.state d).left_since (g.state d).moment image
+    → IsImage (g.state d) image) → (store : Store D g) → has_failed store ≡ false
+    → Leaves (disk_of g store) (disk_of g store) (λ c. c ≡ content_of g store)
+leaves_now g only store = (none_read g only store).leaves

@@ -1,17 +1,17 @@
-mod MergeLawsLemmas
+pub mod MergeLawsLemmas
 pub mod CallerLemmas
 mod Cuts
 mod Cutting
 mod FieldsLemmas
-mod HeadTexts
+pub mod HeadTexts
 pub mod ReadingLemmas
-mod MergeLaws
+pub mod MergeLaws
 mod NumberTexts
 mod NumbersLeft
 mod HeadReadingLemmas
 pub mod ReadableLemmas
 pub mod TextsLemmas
-mod ReadBack
+pub mod ReadBack
 pub mod Rising
 pub mod MergingLemmas
 mod TheOne

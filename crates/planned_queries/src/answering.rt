@@ -53,7 +53,6 @@ pub fn groups_by_plan<D: Sectors>(
     ensures reads { ReadsOnly D.Sectors store.old store.new result }
     ensures causes { IfErr result (λ fault. (fault ≡ Memory) ⊎ ((fault ≡ Device) ⊎ (fault ≡ BadLayout))) }
 {
-    let _usable = store.is_broken();
     let rows: &Dims = dims;
     let mut fold = Fold::new(alloc, rows, query)?;
     let query = query.get();
@@ -121,7 +120,6 @@ pub(crate) fn begin_fold<D: Sectors>(
     ensures reads { ReadsOnly D.Sectors store.old store.new result }
     ensures causes { IfErr result (λ fault. (fault ≡ Memory) ⊎ ((fault ≡ Device) ⊎ (fault ≡ BadLayout))) }
 {
-    let _usable = store.is_broken();
     let plan = plan_of(alloc, root, as_of, query)?;
     let done = begin_by_plan(alloc, store, root, dims, modes, fold, plan)?;
     Ok(done)

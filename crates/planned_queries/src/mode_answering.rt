@@ -56,7 +56,6 @@ pub fn answer_by_plan<D: Sectors>(
     ensures reads { ReadsOnly D.Sectors store.old store.new result }
     ensures causes { IfErr result (λ fault. (fault ≡ Memory) ⊎ ((fault ≡ Device) ⊎ (fault ≡ BadLayout))) }
 {
-    let _usable = store.is_broken();
     let rows: &Dims = dims;
     let query = asked.get();
     let mut fold = ModeFold::new(alloc, rows, asked.into_ref())?;
@@ -94,7 +93,6 @@ fn fold_by_plan<D: Sectors>(
     ensures reads { ReadsOnly D.Sectors store.old store.new result }
     ensures causes { IfErr result (λ fault. (fault ≡ Memory) ⊎ ((fault ≡ Device) ⊎ (fault ≡ BadLayout))) }
 {
-    let _usable = store.is_broken();
     let plan = mode_plan_of(alloc, root, as_of, asked)?;
     let from = begin_by_plan(alloc, store, root, dims, modes, fold, plan)?;
     add_batches(alloc, store, root, dims, fold, &asked.query, from, as_of)

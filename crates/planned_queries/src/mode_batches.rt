@@ -60,8 +60,6 @@ pub(crate) fn add_batches<D: Sectors>(
     ensures reads { ReadsOnly D.Sectors store.old store.new result }
     ensures causes { IfErr result (λ fault. (fault ≡ Memory) ⊎ ((fault ≡ Device) ⊎ (fault ≡ BadLayout))) }
 {
-    let _usable = store.is_broken();
-    let _layout = root.layout();
     let batches = root.batches();
     let view = moded_view(query);
     for before in from..as_of {

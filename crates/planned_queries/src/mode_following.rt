@@ -61,7 +61,6 @@ pub(crate) fn begin_by_plan<D: Sectors>(
     ensures reads { ReadsOnly D.Sectors store.old store.new result }
     ensures causes { IfErr result (λ fault. (fault ≡ Memory) ⊎ ((fault ≡ Device) ⊎ (fault ≡ BadLayout))) }
 {
-    let _usable = store.is_broken();
     match plan {
         Plan::Scan => Ok(0),
         Plan::Cells { view, mark } => {
@@ -100,7 +99,6 @@ fn add_cuboid<D: Sectors>(
     ensures reads { ReadsOnly D.Sectors store.old store.new result }
     ensures causes { IfErr result (λ fault. (fault ≡ Memory) ⊎ ((fault ≡ Device) ⊎ (fault ≡ BadLayout))) }
 {
-    let _usable = store.is_broken();
     let Some(cuboid) = cuboid_of(root.cuboids(), view.index()) else {
         return Err(Fault::BadLayout);
     };

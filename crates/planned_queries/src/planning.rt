@@ -6,7 +6,7 @@ ghost use Rattle.warehouse_objects.specs.Represents.{root_of, said_of};
 ghost use Rattle.planned_queries.specs.Planned.{ArePlansOf, IsPlanOf, ServesBy, mark_of, seen_of, stored_of};
 
 use cube_model::{Fault, Query};
-use lattice::{View, indexes_name_views};
+use lattice::View;
 use planner::{Plan, Priced, Stored, plan, plans};
 use std::alloc::{AllocError, Global};
 use warehouse_root::{Root, StoredCuboid};
@@ -56,10 +56,10 @@ pub fn stored_in(alloc: Global, root: &Root) -> Result<Vec<Stored>, AllocError>
 }
 
 // What the planner looks at of a cuboid. Nothing where its number is that of no view, as no root has it.
+#[tactic(auto, using(lattice::proofs::LawsLemmas::indexes_name_views))]
 fn seen_of(cuboid: StoredCuboid) -> Option<Stored>
     ensures { (stored : Cuboid) → cuboid ≡ said_of stored → result ≡ Some (seen_of stored) }
 {
-    indexes_name_views();
     let view = View::new(cuboid.view)?;
     Some(Stored {
         view,

@@ -87,7 +87,6 @@ impl Running {
         ensures reads { ReadsOnly D.Sectors store.old store.new result }
         ensures causes { IfErr result (λ fault. (fault ≡ Memory) ⊎ ((fault ≡ Device) ⊎ (fault ≡ BadLayout))) }
     {
-        let _usable = store.is_broken();
         let rows: &Dims = dims;
         let mut fold = Fold::new(alloc, rows, query)?;
         let query = query.get();
@@ -126,7 +125,6 @@ impl Running {
         ensures reads { ReadsOnly D.Sectors store.old store.new result }
         ensures causes { IfErr result (λ fault. (fault ≡ Memory) ⊎ ((fault ≡ Device) ⊎ (fault ≡ BadLayout))) }
     {
-        let _usable = store.is_broken();
         if self.done >= self.as_of {
             let found = self.fold.finish(&self.dims)?;
             return Ok(Some(found));

@@ -4,7 +4,7 @@ ghost use Rattle.query_words.specs.ViewWords.{ViewsAreNamed, RefusesWords};
 
 use crate::view_refused::RefusedViews;
 use crate::view_words::read_view;
-use lattice::{View, indexes_name_views};
+use lattice::View;
 use std::alloc::Global;
 
 /// How many views a warehouse stores at most.
@@ -58,7 +58,6 @@ fn push_view(
 fn is_among(views: &[View], view: View) -> bool
     ensures { IsTrue result ↔ Contains views.now view }
 {
-    indexes_name_views();
     for other in views {
         if other.index() == view.index() {
             return true;

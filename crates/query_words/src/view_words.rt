@@ -6,7 +6,7 @@ ghost use Rattle.lattice.specs.Views.{index_of};
 ghost use Rattle.query_words.specs.ViewWords.{IsNumber, NameLevels, Names, level_names, comma_parts};
 
 use cube_model::Axis;
-use lattice::{View, indexes_name_views};
+use lattice::View;
 use std::alloc::{AllocError, Global};
 
 /// How many views there are. They have the numbers below it.
@@ -29,7 +29,6 @@ fn view_of_number(word: &str) -> Option<View>
     ensures { MatchOption result ((view : View) → IsNumber word.now (index_of view) → ⊥)
         (λ view. IsNumber word.now (index_of view)) }
 {
-    indexes_name_views();
     match number(word) {
         Some(number) => View::new(number),
         None => None,
@@ -66,11 +65,11 @@ fn parts(alloc: Global, word: &str) -> Result<Vec<&str>, AllocError>
 }
 
 // The view of the names of its levels.
+#[tactic(auto, using(lattice::proofs::LawsLemmas::indexes_name_views))]
 fn view_of_parts(parts: &[&str]) -> Option<View>
     ensures { MatchOption result ((view : View) → NameLevels (map (λ part. part.now) parts.now) view → ⊥)
         (λ view. NameLevels (map (λ part. part.now) parts.now) view) }
 {
-    indexes_name_views();
     for index in 0..VIEWS {
         if let Some(view) = View::new(index) {
             if are_names(parts, view) {

@@ -2,7 +2,7 @@ mod FormattedLemmas
 mod OrderLawsLemmas
 mod Comparisons
 mod LawsLemmas
-mod Inserted
+pub mod Inserted
 mod ComparingLemmas
 mod FieldsLemmas
 mod Places

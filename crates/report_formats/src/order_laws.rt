@@ -1,18 +1,12 @@
 //! Laws of the definitions: each function proves the statement that its contract names, and does nothing.
 ghost use Rattle.report_formats.specs.OrderLawful.{AnswersAreSorted, AveragesSortAlike};
 
-use cube_model::{answer_is_the_one, fraction_is_the_one};
-
 /// The lines of an answer are all there once sorted, and each is below those after it.
 pub fn answers_are_sorted()
     ensures { AnswersAreSorted }
-{
-    answer_is_the_one();
-}
+{}
 
 /// Averages compare as their sums over their counts.
 pub fn averages_sort_alike()
     ensures { AveragesSortAlike }
-{
-    fraction_is_the_one();
-}
+{}

@@ -1,5 +1,4 @@
 mod NumbersLemmas
-mod Ascent
 mod Counted
 mod MergeLemmas
 mod Gaps

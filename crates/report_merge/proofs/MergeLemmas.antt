@@ -18,7 +18,7 @@ use Rattle.partial_reports.specs.Readable.{IsWholeNumber}
 use Rattle.report_formats.specs.declared.layout.Layout.{Layout}
 use Rattle.report_formats.specs.Asked.{query_for}
 use Rattle.report_merge.specs.Finishing.{asks_for_counts, count_alone, partial_for, recounted, recounted_line}
-use Rattle.report_merge.proofs.Ascent.{at_each}
+use Rattle.report_formats.proofs.Inserted.{at_each}
 use Rattle.std.proofs.KnownBytes.{Keeps-refl}
 use Rattle.partial_reports.specs.Head.{head_text}
 use Rattle.ssb_reports.specs.Report.{report_of}

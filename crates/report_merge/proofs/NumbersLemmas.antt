@@ -12,7 +12,7 @@ use Rattle.std.proofs.lemmas.List.Sorted.{All-permutation}
 use Rattle.std.proofs.lemmas.Map.Keys.{IsDistinct-IsPermutation, IsStrictlyIncreasing-from_distinct}
 use Rattle.partial_reports.specs.Head.{ascend_between}
 use Rattle.report_merge.specs.Refusals.{AreDisjoint, IsLeastOfBoth}
-use Rattle.report_merge.proofs.Ascent.{at_each, from_each}
+use Rattle.report_formats.proofs.Inserted.{at_each, from_each}
 use Rattle.report_merge.proofs.Gaps.{joined, next}
 
 -- a number of a part

@@ -3,7 +3,7 @@ use Rattle.std.proofs.Common.{◌≡◌, ◌∙◌, sym, ap, refl, subst, ◌+�
 use Rattle.std.proofs.Common.{List, [], ◌∷◌, map, get_or, slice_index_or, arith}
 use Rattle.std.specs.List.{AllByRecursion, IsDistinct}
 use Rattle.std.specs.List.Sorted.{IsPermutation, IsSortedBy}
-use Rattle.std.specs.Cmp.{IsTotalOrder, back_total, int_cmp_total, on_total, then_total}
+use Rattle.std.specs.Cmp.{IsTotalOrder, back_total, on_total, then_total}
 use Rattle.std.specs.FinMap.{IsAntisymmetric}
 use Rattle.std.specs.Ordering.{eq_by_cmp, is_eq, is_lt, on, ordering_reverse, ordering_then}
 use Rattle.std.specs.declared.cmp.Ordering.{Ordering}
@@ -16,44 +16,16 @@ use Rattle.cube_model.specs.declared.answer.Line.{Line}
 use Rattle.cube_model.specs.declared.answer.Member.{Member}
 use Rattle.cube_model.specs.declared.answer.Member.TheVariants.{All as Any}
 use Rattle.cube_model.specs.declared.answer.Value.{Value}
-use Rattle.cube_model.specs.declared.answer.Value.TheVariants.{Whole, Ratio}
+use Rattle.cube_model.specs.declared.answer.Value.TheVariants.{Whole}
 use Rattle.cube_model.specs.declared.query.Order.{Order}
 use Rattle.cube_model.specs.Ascending.{IsAscending, ascending, by_order, insert_once}
 use Rattle.cube_model.specs.Keys.{key_cmp}
 use Rattle.cube_model.specs.Order.{member_cmp_total}
 use Rattle.cube_model.proofs.KeyOrder.{key_cmp_total, key_cmp-IsAntisymmetric}
-use Rattle.cube_model.specs.Orders.{answer_cmp, line_cmp, value_cmp}
+use Rattle.cube_model.proofs.LawsLemmas.{value_cmp_total}
+use Rattle.cube_model.specs.Orders.{answer_cmp, line_cmp}
 use Rattle.partial_reports.specs.Merges.{keys_in, line_of_key}
-use Rattle.report_merge.proofs.Ascent.{ascending-sorted, at_each, from_each}
-
--- values are in a total order, in which averages tie
-value_cmp_total : IsTotalOrder value_cmp
-value_cmp_total = record {
-  antisymm = antisymm;
-  trans = trans;
-  congr = congr;
-} where
-  antisymm : (x y : Value) → value_cmp x y ≡ ordering_reverse (value_cmp y x)
-  antisymm (Whole x) (Whole y) = int_cmp_total.antisymm x y
-  antisymm (Whole x) (Ratio y) = refl
-  antisymm (Ratio x) (Whole y) = refl
-  antisymm (Ratio x) (Ratio y) = refl
-
-  trans : (x y z : Value) → value_cmp x y ≡ Less → value_cmp y z ≡ Less → value_cmp x z ≡ Less
-  trans (Whole x) (Whole y) (Whole z) p q = int_cmp_total.trans x y z p q
-  trans (Whole x) (Whole y) (Ratio z) p q = refl
-  trans (Whole x) (Ratio y) (Whole z) p q = cc
-  trans (Whole x) (Ratio y) (Ratio z) p q = refl
-  trans (Ratio x) (Whole y) z p q = cc
-  trans (Ratio x) (Ratio y) z p q = cc
-
-  congr : (x y z : Value) → value_cmp x y ≡ Equal → value_cmp x z ≡ value_cmp y z
-  congr (Whole x) (Whole y) (Whole z) p = int_cmp_total.congr x y z p
-  congr (Whole x) (Whole y) (Ratio z) p = refl
-  congr (Whole x) (Ratio y) z p = cc
-  congr (Ratio x) (Whole y) z p = cc
-  congr (Ratio x) (Ratio y) (Whole z) p = refl
-  congr (Ratio x) (Ratio y) (Ratio z) p = refl
+use Rattle.report_formats.proofs.Inserted.{ascending-sorted, at_each, from_each}
 
 pub line_cmp_total : (order : Order) → IsTotalOrder (line_cmp order)
 line_cmp_total order =

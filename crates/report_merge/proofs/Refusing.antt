@@ -35,6 +35,9 @@ use Rattle.report_merge.specs.Refusals.{NumbersRefuse, WordsRefuse, refused_of}
 use Rattle.report_merge.proofs.Gaps.{both}
 use Rattle.report_merge.proofs.Given.{one_query, spelled_by}
 use Rattle.report_merge.proofs.Grown.{IsRead}
+use Rattle.partial_reports.proofs.HeadTexts.{heads_read_back}
+use Rattle.partial_reports.proofs.ReadBack.{reports_read_back}
+use Rattle.query_words.proofs.Once.{spell_one_query}
 
 -- a text is the partial report of one part
 pub one_part : HeadsReadBack → SpellOneQuery → ReportsReadBack → PartialReportsAreOfOnePart
@@ -219,3 +222,7 @@ answer_read text part query partial report is same partial_is left =
       readable = subst (λ (q : Query). IsReadableAnswer q part.answer) asked is.readable;
       rising = is.rising;
     }
+
+-- the law of parts, as others cite it
+pub partial_reports_are_of_one_part : PartialReportsAreOfOnePart
+partial_reports_are_of_one_part = one_part heads_read_back spell_one_query reports_read_back

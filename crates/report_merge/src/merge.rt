@@ -16,7 +16,6 @@ ghost use Rattle.ssb_reports.specs.Report.{report_of};
 ghost use Rattle.ssb_reports.specs.Writing.{Writes};
 
 use crate::finishing::{asks_for_counts, counted_lines, finished};
-use crate::laws::partial_reports_are_of_one_part;
 use crate::lines::narrow_lines;
 use crate::numbers::{first_missing, merged_numbers};
 use crate::refused::Refused;
@@ -24,9 +23,8 @@ use crate::words::{are_same, queries_of};
 use cube_model::{Answer, Fault, Items, Query};
 use mode_queries::ModeQuery;
 use partial_reports::{
-    Head, HeadRead, WideLine, head_text, heads_read_back, merge_in, read_answer, read_head, widened,
+    Head, HeadRead, WideLine, head_text, merge_in, read_answer, read_head, widened,
 };
-use query_words::words_spell_one_query;
 use report_formats::{Asked, Layout};
 use ssb_reports::{write_bytes, write_report};
 use std::alloc::Global;
@@ -83,7 +81,6 @@ impl Merge {
         let (query, partial) = queries_of(alloc, head.words.as_slice())?;
         let answer = read_answer(alloc, &partial, line, report)?;
         let lines = widened(alloc, answer.lines)?;
-        partial_reports_are_of_one_part();
         Ok(Merge {
             head,
             digest,
@@ -105,8 +102,6 @@ impl Merge {
             → UnlessMemory result (IsMergedPart self other) }
         ensures refused { IfErr result (RefusesAdding self text.now) }
     {
-        heads_read_back();
-        partial_reports_are_of_one_part();
         let More { numbers, answer } = self.more(alloc, text)?;
         let Merge {
             head,
@@ -132,7 +127,6 @@ impl Merge {
     {
         let read = read_head(alloc, text)?;
         check_digest(&read.digest);
-        words_spell_one_query();
         check_alike(&self.head, &self.digest, &read)?;
         let numbers = merged_numbers(
             alloc,

@@ -5,7 +5,6 @@ ghost use Rattle.report_merge.specs.Mergeable.{CanAdd, CanMerge, IsOutside};
 ghost use Rattle.report_merge.specs.Merging.{AddsPart, AreOfOne, IsMerged, IsPartialReport, MergesTexts, Part};
 ghost use Rattle.report_merge.specs.Refusals.{AreDisjoint};
 
-use crate::laws::partial_reports_are_of_one_part;
 use crate::merge::Merge;
 use crate::refused::{Refused, Unmerged};
 use std::alloc::Global;
@@ -21,7 +20,6 @@ pub fn merge_readers<R: Read + Drop>(alloc: Global, readers: Vec<R>) -> Result<M
     ensures complete { (texts : List (List ℕ)) → map R.remaining readers.items ≡ map Some texts → CanMerge texts
         → IfErr result (λ unmerged. IsOutside unmerged.refused) }
 {
-    partial_reports_are_of_one_part();
     let mut readers = readers;
     if readers.is_empty() {
         return Err(unmerged(0, Refused::Input));
@@ -45,7 +43,6 @@ fn add_all<R: Read + Drop>(
     ensures complete { (texts : List (List ℕ)) → map R.remaining readers.items ≡ map Some texts → CanAdd merge texts
         → IfErr result (λ unmerged. IsOutside unmerged.refused) }
 {
-    partial_reports_are_of_one_part();
     let mut readers = readers;
     if readers.is_empty() {
         return Ok(merge);

@@ -18,7 +18,7 @@ use crate::refused::Refused;
 use cube_model::Query;
 use mode_queries::ModeQuery;
 use partial_reports::{Word, WordKind, partial_query};
-use query_words::{QueryWords, read_query, words_spell_one_query};
+use query_words::{QueryWords, read_query};
 use std::alloc::Global;
 
 /// The query that words spell, and that for its partial answers. `At` the fourth line where they spell none that may be
@@ -32,7 +32,6 @@ pub(crate) fn queries_of(alloc: Global, words: &[Word]) -> Result<(Query, Query)
     let query = query_of(alloc, words)?;
     let again = query_of(alloc, words)?;
     // Words spell one query: both are the same.
-    words_spell_one_query();
     let partial = partial_query(alloc, again)?;
     Ok((query, partial))
 }
@@ -42,7 +41,6 @@ fn query_of(alloc: Global, words: &[Word]) -> Result<Query, Refused>
     ensures ok { IfOk result (SpellsWords words.now) }
     ensures refused { IfErr result (WordsRefuse words.now) }
 {
-    words_spell_one_query();
     let (q, left) = take_word(WordKind::Q, words)?;
     let (set, left) = take_word(WordKind::Set, left)?;
     let (by, left) = take_word(WordKind::By, left)?;

@@ -131,7 +131,6 @@ fn admit_next(admission: &mut Admission, found: &Findings, modes: &ShipModes) ->
         → HasAccepted admission.old batches → found.now ≡ found_in dimensions admission.old.totals rows
         → HasAccepted admission.new (batches ++ rows ∷ [])) }
 {
-    let _few = found.row_count();
     let number = admission.next_number();
     admission.check_number(number)?;
     if let Some(fault) = found.early_cause() {

@@ -128,10 +128,10 @@ module _ (c : Content) (id : ℕ) (put drops bytes : List ℕ) (layout : ℕ) (r
         ∙ without_runs drops low (bytes_of c low) (All-tail (λ i. first_run ≤ i) id drops runs) (omega (arith, few))
 
     -- it is the root of after, and the dimensions of before
-    pub loaded_next : (after : PlainRoot) → layout ≡ layout_number after.layout → bytes ≡ roots.root_spelling after
+    pub loaded_next : (after : PlainRoot) → layout ≡ layout_number after.layout → roots.IsRoot bytes after
         → (rows : DimRows) (modes : List (List ℕ)) (root : PlainRoot) → after.layout ≡ root.layout
         → IsLoaded c rows modes root → IsLoaded (committed ((id, put) ∷ []) drops bytes layout c) rows modes after
-    loaded_next after layout_is bytes_are rows modes root same is = record {
+    loaded_next after layout_is spells rows modes root same is = record {
       layout = layout_after ((id, put) ∷ []) drops bytes layout c ∙ layout_is;
       has_rows = record {
         customers = same_at 1 (omega arith) ∙ is.has_rows.customers;
@@ -142,7 +142,9 @@ module _ (c : Content) (id : ℕ) (put drops bytes : List ℕ) (layout : ℕ) (r
       has_modes = modes_still c (committed ((id, put) ∷ []) drops bytes layout c) after.layout modes
           (same_at 5 (omega arith)) (subst (λ (l : Layout). HasModes c l modes) (sym same) is.has_modes);
       are_modes = is.are_modes;
-      root_bytes = root_after ((id, put) ∷ []) drops bytes layout c ∙ bytes_are;
+      storable = is.storable;
+      is_root = subst (λ (b : List ℕ). roots.IsRoot b after) (sym (root_after ((id, put) ∷ []) drops bytes layout c))
+          spells;
     }
 
 -- ---- why it is refused

@@ -1,10 +1,16 @@
--- A store that was read, and one that a refusal left as it was.
-use Rattle.std.proofs.Common.{◌∙◌, sym, subst, List, ℕ}
+-- A store before its first call, one that was read, and one that a refusal left as it was.
+use Rattle.std.proofs.Common.{◌≡◌, ◌≢◌, ◌∙◌, ap, sym, subst, List, ℕ, true, false, Result, Ok, Err, IfErr}
+use Rattle.std.specs.Prelude.{IsErrOf, OnErr, OnOk}
 use Rattle.sector_device.specs.declared.device.Sectors.{Ghosts}
+use Rattle.sector_device.specs.Device.{Image, IsImage}
+use Rattle.cube_model.specs.declared.fault.Fault.{Fault}
+use Rattle.cube_model.specs.declared.fault.Fault.TheVariants.{Device}
 use Rattle.cube_model.specs.declared.rows.DimRows.{DimRows}
 use Rattle.object_store.specs.Content.{Content}
 use Rattle.object_store.specs.Disk.{Disk, Leaves}
-use Rattle.object_store.specs.Store.{IsAsBefore, IsStill, content_of, disk_of}
+use Rattle.object_store.specs.Moments.{leaves_weaker}
+use Rattle.object_store.specs.Store.{Breaks, IsAsBefore, IsStill, content_of, disk_of, has_failed}
+use Rattle.object_store.proofs.CallerLemmas.{leaves_now}
 use Rattle.object_store.specs.declared.store.Store.{Store}
 use Rattle.warehouse_root.specs.Root.{PlainRoot}
 use Rattle.warehouse_objects.specs.Loaded.{IsLoaded}
@@ -42,6 +48,33 @@ module _ {D : Type 0} (g : Ghosts D) (a b : Store D g) where
   pub loaded_before : IsAsBefore g a b → (rows : DimRows) (modes : List (List ℕ)) (root : PlainRoot)
       → IsLoaded (content_of g a) rows modes root → IsLoaded (content_of g b) rows modes root
   loaded_before same rows modes root is = subst (λ (x : Content). IsLoaded x rows modes root) (sym same.content) is
+
+  -- what is kept in memory of it, where a call stored another root or was refused
+  pub loaded_or_before : (old new : PlainRoot) (result : Result Unit Fault)
+      → OnOk result ((disk_of g b).keeps_word → (rows : DimRows) (modes : List (List ℕ))
+      → IsLoaded (content_of g a) rows modes old → IsLoaded (content_of g b) rows modes new)
+      → OnErr result (new ≡ old) → IfErr result (λ fault. fault ≢ Device → IsAsBefore g a b)
+      → (IsErrOf result Device → Breaks g a b) → has_failed b ≡ false → (disk_of g b).keeps_word → (rows : DimRows)
+      (modes : List (List ℕ)) → IsLoaded (content_of g a) rows modes old → IsLoaded (content_of g b) rows modes new
+  loaded_or_before old new (Ok done) ok kept refused device fine k rows modes is = ok k rows modes is
+  loaded_or_before old new (Err fault) ok kept refused device fine k rows modes is =
+      let other : fault ≢ Device = λ e.
+      let broken : has_failed b ≡ true = (device (ap (λ (f : Fault). Err f) e)).failed in
+      absurd cc in
+      subst (λ (root : PlainRoot). IsLoaded (content_of g b) rows modes root) (sym kept)
+      (loaded_before (refused other) rows modes old is)
+
+-- before its first call, a store leaves the warehouse that it represents
+module _ {D : Type 0} (g : Ghosts D)
+    (only : (d : D) (image : Image) → g.keeps_word d → (g.state d).left_since (g.state d).moment image
+    → IsImage (g.state d) image) (store : Store D g) (w : Warehouse) (root : PlainRoot) (at : StoreAt g store root w)
+  where
+    pub leaves_first : (P : Content → Type 0) → ((c : Content) → Represents c w → P c)
+        → Leaves (disk_of g store) (disk_of g store) P
+    leaves_first P so =
+        leaves_weaker (λ c. c ≡ content_of g store) P (disk_of g store) (disk_of g store)
+        (λ k c is. so c (subst (λ (x : Content). Represents x w) (sym is) (at.represents k)))
+        (leaves_now g only store at.fine)
 
 -- where the word counts alone
 pub leaves_if : (P : Content → Type 0) (old new : Disk) → (new.keeps_word → old.keeps_word)

@@ -67,9 +67,10 @@ module _ (c : Content) (drops : List ℕ) (next : PlainRoot) (runs : All (λ id.
       ∙ without_high drops low (bytes_of c low) runs (omega (arith, few))
 
   -- what is kept in memory then
-  pub loaded_replaced : (rows : DimRows) (modes : List (List ℕ)) (root : PlainRoot) → next.layout ≡ root.layout
-      → IsLoaded c rows modes root → IsLoaded (content_replaced next drops c) rows modes next
-  loaded_replaced rows modes root same is = record {
+  pub loaded_replaced : roots.IsProperRoot next → (rows : DimRows) (modes : List (List ℕ)) (root : PlainRoot)
+      → next.layout ≡ root.layout → IsLoaded c rows modes root
+      → IsLoaded (content_replaced next drops c) rows modes next
+  loaded_replaced proper rows modes root same is = record {
     layout = layout_after [] drops (roots.root_spelling next) (layout_number next.layout) c;
     has_rows = record {
       customers = same_at 1 (omega arith) ∙ is.has_rows.customers;
@@ -80,7 +81,11 @@ module _ (c : Content) (drops : List ℕ) (next : PlainRoot) (runs : All (λ id.
     has_modes = modes_still c (content_replaced next drops c) next.layout modes (same_at 5 (omega arith))
         (subst (λ (l : Layout). HasModes c l modes) (sym same) is.has_modes);
     are_modes = is.are_modes;
-    root_bytes = root_after [] drops (roots.root_spelling next) (layout_number next.layout) c;
+    storable = is.storable;
+    is_root = record {
+      spelled = root_after [] drops (roots.root_spelling next) (layout_number next.layout) c;
+      proper = proper;
+    };
   }
 
 pub generation_replaced : (c : Content) (drops : List ℕ) (next : PlainRoot)

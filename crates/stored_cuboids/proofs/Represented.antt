@@ -22,12 +22,14 @@ use Rattle.cuboid_cells.specs.Spelled.{IsSpan}
 use Rattle.cuboid_cells.specs.Steps.{cells_of}
 use Rattle.cuboid_upkeep.specs.Grouping.{NumbersFit, RepresentRows, key_of, rows_of_number}
 use Rattle.cuboid_upkeep.specs.Lawful.{MergesRepresentBoth}
+use Rattle.cuboid_upkeep.proofs.LawsLemmas.{merges_represent_both}
 use Rattle.cuboid_upkeep.proofs.CallerLemmas.{Climbs, ascending_apart, ascends, at_insert, cell_fits, climbs_insert}
 use Rattle.cuboid_upkeep.proofs.CallerLemmas.{insert, inserted, none_after, only_one, part_small, tail_ascends}
 use Rattle.warehouse_root.specs.declared.cuboid.StoredCuboid.{StoredCuboid}
 use Rattle.warehouse_objects.specs.Represents.{Follow, HoldsGroupings, Represents, rows_in, said_of}
 use Rattle.warehouse_objects.specs.Warehouse.{Cuboid, StoredRun, Warehouse, cell_count, ship_modes_of}
 use Rattle.warehouse_objects.proofs.CallerLemmas.{foldable}
+use Rattle.stored_cuboids.specs.Lawful.{KeptCuboidsAreSound}
 use Rattle.stored_cuboids.specs.Merged.{AreMergedWith, HasMerge, IsSound}
 
 -- ---- the rows of batches, one after another
@@ -304,3 +306,7 @@ kept_sound law c w represents = λ k d lt.
     omega (arith, proper.most_cells, ap (λ (s : StoredCuboid). s.cells) said) in
     let there = sound_there law c w represents stored.view stored refl holds mark few in
     record { cells = there.0; merge = there.1; grouping = merge_represents law w stored there.0 holds there.1 }
+
+-- the law of stored cuboids, as callers cite it
+pub kept_cuboids_are_sound : KeptCuboidsAreSound
+kept_cuboids_are_sound = kept_sound merges_represent_both

@@ -58,8 +58,6 @@ pub fn aim<D: Sectors>(alloc: Global, store: &mut Store<D>, root: &mut Root) -> 
         → IsLoaded (content_of D.Sectors store.new) rows modes root.new }
     ensures word { D.keeps_word (device_of store.new) → D.keeps_word (device_of store.old) }
 {
-    let _usable = store.is_broken();
-    let _layout = root.layout();
     let next = match root.with_target(alloc, root.batches().len() as u32) {
         Ok(next) => next,
         Err(fault) => return Err(fault),

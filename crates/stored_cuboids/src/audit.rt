@@ -16,7 +16,6 @@ use crate::batches::cells_of_batches;
 use crate::runs::merged_runs;
 use cube_model::Fault;
 use cuboid_cells::{Cell, Cells, Span};
-use cuboid_upkeep::cells_are_the_one;
 use dimensions::Dims;
 use object_store::Store;
 use sector_device::Sectors;
@@ -47,8 +46,6 @@ pub fn audited<D: Sectors>(
     ensures reads { ReadsOnly D.Sectors store.old store.new result }
     ensures causes { IfErr result (λ fault. (fault ≡ Memory) ⊎ ((fault ≡ Device) ⊎ (fault ≡ BadLayout))) }
 {
-    let _usable = store.is_broken();
-    let _layout = root.layout();
     for cuboid in root.cuboids() {
         let sound = is_sound(alloc, store, root, dims, modes, *cuboid)?;
         if !sound {
@@ -112,8 +109,6 @@ fn are_grouping<D: Sectors>(
     ensures reads { ReadsOnly D.Sectors store.old store.new result }
     ensures causes { IfErr result (λ fault. (fault ≡ Memory) ⊎ ((fault ≡ Device) ⊎ (fault ≡ BadLayout))) }
 {
-    cells_are_the_one();
-    let _usable = store.is_broken();
     let span = Span { from: 0, to: mark };
     match cells_of_batches(alloc, store, root, dims, modes, cells.view(), span) {
         Ok(own) => Ok(are_same(own.as_slice(), cells.as_slice())),

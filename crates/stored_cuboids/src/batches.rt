@@ -19,9 +19,7 @@ use column_segment::Segment;
 use cube_model::Fault;
 use cube_query::RowsWithModes;
 use cuboid_cells::{Cells, Span};
-use cuboid_upkeep::{
-    GrowingCells, more_rows_have_no_fewer_cells, rows_have_cells, rows_in_range_fit,
-};
+use cuboid_upkeep::GrowingCells;
 use dimensions::Dims;
 use lattice::View;
 use object_store::Store;
@@ -67,11 +65,6 @@ pub fn cells_of_batches<D: Sectors>(
         (λ fault. (fault ≡ Memory)
         ⊎ ((fault ≡ Device) ⊎ ((fault ≡ BadLayout) ⊎ (fault ≡ TooManyCells (index_of view))))) }
 {
-    rows_in_range_fit();
-    rows_have_cells();
-    more_rows_have_no_fewer_cells();
-    let _usable = store.is_broken();
-    let _layout = root.layout();
     let batches = root.batches();
     let mut cells = GrowingCells::new(alloc, dims, view)?;
     for before in span.from..span.to {

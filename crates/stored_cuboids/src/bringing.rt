@@ -72,7 +72,6 @@ pub(crate) fn bring_on<D: Sectors>(
         → IsLoaded (content_of D.Sectors store.new) rows kept root.new }
     ensures word { D.keeps_word (device_of store.new) → D.keeps_word (device_of store.old) }
 {
-    let _usable = store.is_broken();
     let (cuboid, view) = cuboid_at(root, place);
     if root.target() <= cuboid.mark {
         return Ok(None);
@@ -102,7 +101,6 @@ fn cuboid_at(root: &Root, place: usize) -> (StoredCuboid, View)
     ensures view { index_of result.1 ≡ result.0.view }
     ensures target { root.now.target ≤ length root.now.batches }
 {
-    let _proper = root.layout();
     let cuboid = root.cuboids()[place];
     (cuboid, View::new(cuboid.view).unwrap()) // there are at most 512 views
 }
@@ -141,7 +139,6 @@ fn put_next<D: Sectors>(
     ensures device { IsErrOf result Device → Breaks D.Sectors store.old store.new }
     ensures word { D.keeps_word (device_of store.new) → D.keeps_word (device_of store.old) }
 {
-    let _usable = store.is_broken();
     if store.objects() as usize >= MOST_OBJECTS {
         return Err(Fault::BadLayout); // more than a warehouse has
     }

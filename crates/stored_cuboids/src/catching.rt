@@ -70,8 +70,6 @@ pub fn catch_up<D: Sectors>(
         → IsLoaded (content_of D.Sectors store.new) rows kept root.new }
     ensures word { D.keeps_word (device_of store.new) → D.keeps_word (device_of store.old) }
 {
-    let _usable = store.is_broken();
-    let _layout = root.layout();
     let count = root.cuboids().len();
     let mut first = None;
     for place in 0..count {

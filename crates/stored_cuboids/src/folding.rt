@@ -70,7 +70,6 @@ pub fn fold_runs<D: Sectors>(
     ensures reads { ReadsOnly D.Sectors store.old store.new result }
     ensures causes { IfErr result (λ fault. (fault ≡ Memory) ⊎ ((fault ≡ Device) ⊎ (fault ≡ BadLayout))) }
 {
-    let _usable = store.is_broken();
     let mut at = Progress {
         end: 0,
         left: cuboid.cells,

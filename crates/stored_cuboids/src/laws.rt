@@ -1,11 +1,7 @@
 //! Laws of the definitions: each function proves the statement that its contract names, and does nothing.
 ghost use Rattle.stored_cuboids.specs.Lawful.{KeptCuboidsAreSound};
 
-use cuboid_upkeep::merges_represent_both;
-
 /// The cuboids of the warehouse of a content are sound.
 pub fn kept_cuboids_are_sound()
     ensures { KeptCuboidsAreSound }
-{
-    merges_represent_both();
-}
+{}

@@ -21,9 +21,6 @@ use crate::making::{appended, has_room, replaced};
 use crate::runs::merged_runs;
 use cube_model::Fault;
 use cuboid_cells::{Cells, Span};
-use cuboid_upkeep::{
-    merges_represent_both, more_rows_have_no_fewer_cells, rows_have_cells, rows_in_range_fit,
-};
 use dimensions::Dims;
 use lattice::View;
 use object_store::Store;
@@ -69,9 +66,6 @@ pub(crate) fn next_of<D: Sectors>(
         (λ fault. (fault ≡ Memory)
         ⊎ ((fault ≡ Device) ⊎ ((fault ≡ BadLayout) ⊎ (fault ≡ TooManyCells (index_of view))))) }
 {
-    let _usable = store.is_broken();
-    rows_have_cells();
-    more_rows_have_no_fewer_cells();
     let span = Span {
         from: cuboid.mark,
         to: root.target(),
@@ -114,7 +108,6 @@ fn next_run<D: Sectors>(
         (λ fault. (fault ≡ Memory)
         ⊎ ((fault ≡ Device) ⊎ ((fault ≡ BadLayout) ⊎ (fault ≡ TooManyCells (index_of tail.now.view))))) }
 {
-    let _usable = store.is_broken();
     let _proper = tail.view();
     if has_room(cuboid, tail.as_slice().len()) {
         return appended(alloc, root, cuboid, tail, span);
@@ -159,8 +152,6 @@ fn merged_with<D: Sectors>(
         (λ fault. (fault ≡ Memory)
         ⊎ ((fault ≡ Device) ⊎ ((fault ≡ BadLayout) ⊎ (fault ≡ TooManyCells (index_of tail.now.view))))) }
 {
-    merges_represent_both();
-    rows_in_range_fit();
     let mut cells = match merged_runs(alloc, store, cuboid) {
         Ok(cells) => cells,
         Err(fault) => return Err(fault),

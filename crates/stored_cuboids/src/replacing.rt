@@ -59,7 +59,6 @@ pub(crate) fn replace_root<D: Sectors>(
     // Also after an error.
     ensures word { D.keeps_word (device_of store.new) → D.keeps_word (device_of store.old) }
 {
-    let _usable = store.is_broken();
     if store.objects() as usize > MOST_OBJECTS {
         return Err(Fault::BadLayout);
     }

@@ -14,11 +14,9 @@ ghost use Rattle.stored_cuboids.specs.Merged.{HasMerge, IsSound};
 ghost use Rattle.stored_cuboids.specs.Steps.{MergesRun};
 ghost use Rattle.stored_cuboids.specs.declared.reading.Progress.{Progress};
 
-use crate::laws::kept_cuboids_are_sound;
 use crate::reading::{Progress, read_next};
 use cube_model::Fault;
 use cuboid_cells::Cells;
-use cuboid_upkeep::merges_represent_both;
 use lattice::View;
 use object_store::Store;
 use sector_device::Sectors;
@@ -58,9 +56,6 @@ pub fn merged_runs<D: Sectors>(
     ensures reads { ReadsOnly D.Sectors store.old store.new result }
     ensures causes { IfErr result (λ fault. (fault ≡ Memory) ⊎ ((fault ≡ Device) ⊎ (fault ≡ BadLayout))) }
 {
-    merges_represent_both();
-    kept_cuboids_are_sound();
-    let _usable = store.is_broken();
     let Some(view) = View::new(cuboid.view) else {
         return Err(Fault::BadLayout);
     };
@@ -86,7 +81,6 @@ fn merge_all<D: Sectors>(
     ensures reads { ReadsOnly D.Sectors store.old store.new result }
     ensures causes { IfErr result (λ fault. (fault ≡ Memory) ⊎ ((fault ≡ Device) ⊎ (fault ≡ BadLayout))) }
 {
-    let _usable = store.is_broken();
     let mut cells = Cells::empty(alloc, view);
     let mut at = Progress {
         end: 0,

@@ -64,8 +64,6 @@ pub fn keep_up<D: Sectors>(
         → IsLoaded (content_of D.Sectors store.new) rows kept root.new }
     ensures word { D.keeps_word (device_of store.new) → D.keeps_word (device_of store.old) }
 {
-    let _usable = store.is_broken();
-    let _layout = root.layout();
     if are_whole(root.cuboids(), root.batches().len() as u32) {
         return Ok(None);
     }

@@ -71,7 +71,6 @@ pub fn set_views<D: Sectors>(
         → IsLoaded (content_of D.Sectors store.new) rows modes root.new }
     ensures word { D.keeps_word (device_of store.new) → D.keeps_word (device_of store.old) }
 {
-    let _usable = store.is_broken();
     let drops = match dropped(alloc, root.cuboids(), views) {
         Ok(drops) => drops,
         Err(fault) => return Err(fault),

@@ -35,7 +35,6 @@ pub fn has_own_ship_modes<D: Sectors>(
     ensures reads { ReadsOnly D.Sectors store.old store.new result }
     ensures causes { IfErr result (λ fault. (fault ≡ Memory) ⊎ (fault ≡ Device)) }
 {
-    let _usable = store.is_broken();
     match root.layout() {
         Layout::First => Ok(true),
         Layout::Second => has_those_of_batches(alloc, store, root),

@@ -44,7 +44,6 @@ pub fn read_rows<D: Sectors>(
     ensures reads { ReadsOnly D.Sectors store.old store.new result }
     ensures causes { IfErr result (λ fault. (fault ≡ Memory) ⊎ ((fault ≡ Device) ⊎ (fault ≡ BadLayout))) }
 {
-    let _usable = store.is_broken();
     match count_of(root, before) {
         None => Ok(None),
         Some(count) => {
@@ -59,7 +58,6 @@ fn count_of(root: &Root, before: u32) -> Option<u32>
     ensures count { result ≡ slice_get root.now.batches before }
     ensures few { IfSome result (λ _. before < most_batches) }
 {
-    let _layout = root.layout();
     let count = root.batches().get(before as usize)?;
     Some(*count)
 }

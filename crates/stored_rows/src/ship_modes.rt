@@ -43,8 +43,6 @@ pub fn read_ship_modes<D: Sectors>(
     // The content stays, at each moment.
     ensures reads { ReadsOnly D.Sectors store.old store.new result }
 {
-    let _usable = store.is_broken();
-    let _layout = root.layout();
     let counts = root.batches();
     let mut gathered = Gathered::none(alloc);
     for before in 0..counts.len() as u32 {

@@ -13,15 +13,15 @@ use Rattle.warehouse_root.specs.Root.{PlainRoot}
 use Rattle.warehouse.specs.Reads.{RefusesQuery}
 use Rattle.warehouse.specs.Session.{AskingRefuses, IsAskable, IsAt, device_of, disk_of}
 use Rattle.warehouse.specs.declared.session.Session.{Session}
-use Rattle.warehouse.proofs.Cuboids.{Tells, agrees}
+use Rattle.warehouse.proofs.Cuboids.{agrees}
 
 -- the root of a session has as many batches as its warehouse
 pub counted_at : {D : Type 0} (g : Ghosts D) (w : Warehouse) (session : Session D g) → IsAt g session w
-    → Tells g w session → (disk_of g session).keeps_word → (batches : List ℕ) → batches ≡ session.root.batches
+    → (disk_of g session).keeps_word → (batches : List ℕ) → batches ≡ session.root.batches
     → length batches ≡ length w.batches
-counted_at g w session at tells k batches are =
+counted_at g w session at k batches are =
     ap (λ (l : List ℕ). length l) are
-    ∙ ap (λ (root : PlainRoot). length root.batches) (sym (agrees g w session at tells k).root_is)
+    ∙ ap (λ (root : PlainRoot). length root.batches) (sym (agrees g w session at k).root_is)
     ∙ length-map w.batches (λ (batch : List LineOrder). length batch)
 
 -- a query that is proper, over batches that the root has

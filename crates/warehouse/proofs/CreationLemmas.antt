@@ -99,7 +99,8 @@ module _ (l : Layout) (rows : DimRows) (puts : List (ℕ × List ℕ)) (bytes : 
         has_modes = subst (λ (r : PlainRoot). HasModes (created puts bytes layout) r.layout []) (sym root_is)
             (no_modes_there l rows (created puts bytes layout) represents);
         are_modes = no_modes;
-        root_bytes = represents.root.spelled ∙ ap roots.root_spelling (same ∙ sym root_is);
+        storable = storable;
+        is_root = subst (roots.IsRoot (created puts bytes layout).root) (same ∙ sym root_is) represents.root;
       } where
         same : root_of (fresh_in l rows) ≡ roots.first_root l
         same = refl

@@ -1,8 +1,8 @@
 -- Lemmas of `growing`, by subject.
 use Rattle.std.proofs.Common.{◌≡◌, ⊎_elim, inl, inr, ℕ, ◌≤◌, Option, Some, None, Result, Ok, Err, List, [], ◌∷◌, ◌++◌}
-use Rattle.std.proofs.Common.{length, map, refl, sym, ◌∙◌, ap, subst, arith, true, false, All, is_some}
+use Rattle.std.proofs.Common.{length, map, refl, sym, ◌∙◌, ap, subst, arith, true, false, is_some}
 use Rattle.std.proofs.lemmas.List.{length-map, map-append}
-use Rattle.std.proofs.lemmas.List.Elements.{All-map, All-append, All-nil}
+use Rattle.std.proofs.lemmas.List.Elements.{All-map}
 use Rattle.std.specs.Int.{from_le_bytes, w16}
 use Rattle.cube_model.specs.declared.fault.Fault.{Fault}
 use Rattle.cube_model.specs.declared.fault.MemberPlace.TheVariants.{InBatch}
@@ -18,7 +18,7 @@ use Rattle.dictionary.specs.Columns.{text_of_code}
 use Rattle.dictionary.specs.Dictionary.{firsts}
 use Rattle.dictionary.specs.Spelling.{AreShort}
 use Rattle.column_segment.specs.Coding.{AreModesOf}
-use Rattle.column_segment.specs.Segment.{IsBatch, FitColumns}
+use Rattle.column_segment.specs.Segment.{IsBatch, segment_of}
 use Rattle.column_segment.specs.declared.columns.TextColumn.TheVariants.{ShipMode}
 use Rattle.warehouse_root.specs.declared.layout.Layout.{Layout}
 use Rattle.warehouse_root.specs.declared.layout.Layout.TheVariants.{First, Second}
@@ -27,22 +27,21 @@ use Rattle.warehouse_objects.specs.Facts.{PassesChecksIn, refusal_in, refusal_of
 use Rattle.warehouse_objects.specs.Warehouse.{Warehouse, loaded, ship_modes_of}
 use Rattle.warehouse_objects.proofs.Batches.{both}
 use Rattle.warehouse.specs.declared.prepared.MoreModes.{MoreModes}
-use Rattle.warehouse.specs.Prepared.{AddsModes, AreMore, ChecksModes, HasFitModes, Admitted, Prepares}
-use Rattle.std.specs.Prelude.{IfOk, IfErr}
-use Rattle.std.specs.List.{AllByRecursion}
+use Rattle.warehouse.specs.Prepared.{AddsModes, AreMore, ChecksModes, HasFitModes, Admitted, Prepares, CanBePut, IsPrepared, MayFollow}
+use Rattle.std.specs.Prelude.{IfOk, IfErr, IfSome}
 use Rattle.cube_model.specs.declared.fault.Fault.TheVariants.{Memory}
-use Rattle.column_segment.specs.Columns.{Column, FitsColumn, number_columns}
 use Rattle.column_segment.specs.Encoding.{HaveRows}
 use Rattle.column_segment.specs.declared.encoding.BatchColumns.{BatchColumns}
 use Rattle.batch_admission.specs.Found.{Found, found_in}
 use Rattle.batch_admission.specs.Totals.{totals_of}
 use Rattle.cube_model.specs.declared.totals.Totals.{Totals}
-use Rattle.warehouse_root.specs.Root.{PlainRoot, root_with_batch}
+use Rattle.warehouse_root.specs.Root.{PlainRoot, root_with_batch, IsRoot}
 use Rattle.warehouse_objects.proofs.CallerLemmas.{batch_of}
 use Rattle.warehouse_objects.specs.Represents.{root_of, said_of}
 use Rattle.warehouse.specs.Growing.{IsGrown}
 use Rattle.warehouse.specs.declared.growing.GrowingBatch.{GrowingBatch}
 use Rattle.warehouse.specs.declared.prepared.Prepared.{Prepared}
+use Rattle.column_segment.proofs.CallerLemmas.{rows_fit}
 
 -- ==== The ship modes of a further batch, where a layout keeps them.
 
@@ -167,26 +166,6 @@ module _ (rows : List LineOrder) (texts codes : List (List ℕ)) (are : AreModes
 
 -- ==== A batch that grows.
 
--- ---- the numbers of rows fit their columns
-
-no_row_fits : (columns : List Column) → AllByRecursion (λ column. All (FitsColumn column) []) columns
-no_row_fits [] = tt
-no_row_fits (column ∷ columns) = (All-nil (FitsColumn column), no_row_fits columns)
-
-pub fits-none : FitColumns []
-fits-none = no_row_fits number_columns
-
-both_fit : (columns : List Column) (before rows : List LineOrder)
-    → AllByRecursion (λ column. All (FitsColumn column) before) columns
-    → AllByRecursion (λ column. All (FitsColumn column) rows) columns
-    → AllByRecursion (λ column. All (FitsColumn column) (before ++ rows)) columns
-both_fit [] before rows fit also = tt
-both_fit (column ∷ columns) before rows fit also =
-    (All-append (FitsColumn column) before rows fit.0 also.0, both_fit columns before rows fit.1 also.1)
-
-pub fits-both : (before rows : List LineOrder) → FitColumns before → FitColumns rows → FitColumns (before ++ rows)
-fits-both = both_fit number_columns
-
 -- ---- further rows
 
 no_long : (long : Option Fault) → is_some long ≡ false → long ≡ None
@@ -207,21 +186,19 @@ module _ (dimensions : DimRows) (root : PlainRoot) (before rows : List LineOrder
       ∙ long_before 1 before rows (sym (ap (λ (f : Found). f.long_text) looked) ∙ no_long more.long_text none))
 
   -- and then these have columns too
-  pub grown-more : (columns : BatchColumns) → is_some more.long_text ≡ false → FitColumns rows
+  pub grown-more : (columns : BatchColumns) → is_some more.long_text ≡ false
       → (HaveRows before batch.columns → HaveRows (before ++ rows) columns)
       → IsGrown dimensions root (before ++ rows) (record { found = more; columns = columns })
-  grown-more columns none fits push = record {
+  grown-more columns none push = record {
     found = looked;
-    fits = fits-both before rows grown.fits fits;
     columns = λ short. push (had_columns none);
   }
 
   -- where one is, no columns are asked for
-  pub grown-long : is_some more.long_text ≡ true → FitColumns rows
+  pub grown-long : is_some more.long_text ≡ true
       → IsGrown dimensions root (before ++ rows) (record { found = more; columns = batch.columns })
-  grown-long some fits = record {
+  grown-long some = record {
     found = looked;
-    fits = fits-both before rows grown.fits fits;
     columns = λ short. absurd (some_long more.long_text some short);
   }
 
@@ -280,3 +257,25 @@ module _ (w : Warehouse) (number : ℕ) (rows : List LineOrder) (more : Option M
   pub refused-with : (fault : Fault) → refusal w.rows w.batches number rows ≡ Some fault
       → refusal_of w number rows ≡ Some fault
   refused-with fault e = fit_refusal w.rows w.batches number rows w.layout fit ∙ e
+
+-- what is made ready of a batch that is refused for no cause
+pub prepared-is : (batch : GrowingBatch) (root : PlainRoot) (number : ℕ) (segment : List ℕ) (more : Option MoreModes)
+    (count : ℕ) (totals : Totals) (result : Result Prepared Fault) → IfOk result (λ p. p.segment.items ≡ segment)
+    → IfOk result (λ p. p.more ≡ more) → IfOk result (λ p. p.root ≡ root_with_batch count totals root)
+    → IfOk result (λ p. IsRoot p.root_bytes.items p.root) → batch.found.long_text ≡ None
+    → ((rows : List LineOrder) → HaveRows rows batch.columns → segment ≡ segment_of number rows)
+    → ((dimensions : DimRows) (rows : List LineOrder) → batch.found ≡ found_in dimensions root.totals rows
+    → MayFollow (length root.batches) number rows) → IfSome more (CanBePut root.layout)
+    → IfOk result (λ p. (dimensions : DimRows) (rows : List LineOrder) → IsGrown dimensions root rows batch
+    → IsPrepared root number rows p)
+prepared-is batch root number segment more count totals (Ok p) put modes rooted spelled short encoded follows can =
+    λ dimensions rows grown. record {
+      follows = follows dimensions rows grown.found;
+      fits = rows_fit rows batch.columns (grown.columns short);
+      segment = put ∙ encoded rows (grown.columns short);
+      more = subst (λ (m : Option MoreModes). IfSome m (CanBePut root.layout)) (sym modes) can;
+      of_layout = ap (λ (r : PlainRoot). r.layout) rooted;
+      spelled = spelled;
+    }
+prepared-is batch root number segment more count totals (Err fault) put modes rooted spelled short encoded follows can =
+    tt

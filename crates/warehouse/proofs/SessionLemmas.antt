@@ -8,8 +8,10 @@ use Rattle.cube_model.specs.declared.fault.Fault.{Fault}
 use Rattle.cube_model.specs.declared.rows.DimRows.{DimRows}
 use Rattle.object_store.specs.Content.{Content, bytes_of}
 use Rattle.object_store.specs.Commit.{ArePuts, IsFew, committed, among}
-use Rattle.object_store.specs.Disk.{Disk, Leaves}
-use Rattle.object_store.specs.Moments.{leaves_weaker}
+use Rattle.sector_device.specs.declared.device.Sectors.{Ghosts}
+use Rattle.sector_device.specs.Device.{Image, IsImage}
+use Rattle.object_store.specs.Disk.{Disk, Leaves, ShowsSome}
+use Rattle.object_store.specs.Moments.{begins, leaves_weaker}
 use Rattle.object_store.specs.Room.{Room}
 use Rattle.object_store.specs.Store.{IsOneOf, Refuses}
 use Rattle.object_store.proofs.CallerLemmas.{bytes_after, few_after, layout_after, once_after, one_put, root_after}
@@ -44,6 +46,8 @@ use Rattle.warehouse.specs.Loaded.{Agrees}
 use Rattle.warehouse.specs.Widening.{WidenedOrNot}
 use Rattle.warehouse.proofs.Numbering.{neither, next_of}
 use Rattle.warehouse_root.specs.Root as roots
+use Rattle.warehouse.specs.declared.session.Session.{Session}
+use Rattle.warehouse.specs.Session.{IsAt, device_of, disk_of}
 
 -- ==== A move to the second layout, over what its commit did.
 
@@ -111,7 +115,11 @@ module _ (c : Content) (root : PlainRoot) (m : Migration) (is : IsMigration root
     };
     has_modes = subst (λ (l : Layout). HasModes (committed puts [] bytes layout c) l m.modes) (sym second) has_modes;
     are_modes = is.are;
-    root_bytes = root_after puts [] bytes layout c ∙ bytes_are ∙ is.spelled.spelled;
+    storable = was.storable;
+    is_root = record {
+      spelled = root_after puts [] bytes layout c ∙ bytes_are ∙ is.spelled.spelled;
+      proper = is.spelled.proper;
+    };
   }
 
   module _ (w : Warehouse) (of : IsMigrationOf w root m) where
@@ -320,10 +328,10 @@ module _ (c : Content) (puts : List (ℕ × List ℕ)) (bytes : List ℕ) (layou
   modes_are (Some m) modes l can are = can.are
 
   -- what is kept in memory then
-  pub loaded_after : (rows : DimRows) (modes : List (List ℕ)) (root : PlainRoot) → IsLoaded c rows modes root
-      → after.layout ≡ root.layout → IfSome more (CanBePut root.layout)
+  pub loaded_after : roots.IsProperRoot after → (rows : DimRows) (modes : List (List ℕ)) (root : PlainRoot)
+      → IsLoaded c rows modes root → after.layout ≡ root.layout → IfSome more (CanBePut root.layout)
       → IsLoaded (committed puts [] bytes layout c) rows (modes_now modes more) after
-  loaded_after rows modes root is same can = record {
+  loaded_after proper rows modes root is same can = record {
     layout = layout_after puts [] bytes layout c ∙ layout_is;
     has_rows = record {
       customers = kept-submitted 1 (omega arith) ∙ is.has_rows.customers;
@@ -334,7 +342,8 @@ module _ (c : Content) (puts : List (ℕ × List ℕ)) (bytes : List ℕ) (layou
     has_modes = subst (λ (l : Layout). HasModes (committed puts [] bytes layout c) l (modes_now modes more)) (sym same)
         (modes_then more refl modes root.layout can is.has_modes);
     are_modes = modes_are more modes root.layout can is.are_modes;
-    root_bytes = root_after puts [] bytes layout c ∙ bytes_are;
+    storable = is.storable;
+    is_root = record { spelled = root_after puts [] bytes layout c ∙ bytes_are; proper = proper };
   }
 
   module _ (batch : List LineOrder) where
@@ -438,16 +447,18 @@ module _ (c : Content) (puts : List (ℕ × List ℕ)) (bytes : List ℕ) (layou
       ap (λ (p : List (ℕ × List ℕ)). bytes_of (committed p [] bytes layout c) 5) puts_are
       ∙ bytes_after (widening_puts rows more) [] bytes layout c 5 ∙ no_modes_put rows more (bytes_of c 5)
 
-  pub loaded_wider : (modes : List (List ℕ)) → IsLoaded c rows modes root
+  pub loaded_wider : roots.IsProperRoot after → AreStorable (joined rows more) → (modes : List (List ℕ))
+      → IsLoaded c rows modes root
       → IsLoaded (committed puts [] bytes layout c) (joined rows more) modes after
-  loaded_wider modes is = record {
+  loaded_wider proper storable modes is = record {
     layout = layout_after puts [] bytes layout c ∙ layout_is;
     has_rows = subst (λ (p : List (ℕ × List ℕ)). HasRows (committed p [] bytes layout c) (joined rows more))
         (sym puts_are) (rows_widened c rows more bytes layout is.has_rows);
     has_modes = modes_still c (committed puts [] bytes layout c) after.layout modes modes_kept
         (subst (λ (r : PlainRoot). HasModes c r.layout modes) (sym after_is) is.has_modes);
     are_modes = is.are_modes;
-    root_bytes = root_after puts [] bytes layout c ∙ bytes_are;
+    storable = storable;
+    is_root = record { spelled = root_after puts [] bytes layout c ∙ bytes_are; proper = proper };
   }
 
   module _ (w : Warehouse) (number : ℕ) where
@@ -495,3 +506,13 @@ module _ (c : Content) (puts : List (ℕ × List ℕ)) (bytes : List ℕ) (layou
         subst (λ (b : List ℕ). Refuses c room (widening_puts w.rows more) [] b fault)
         (bytes_are ∙ ap roots.root_spelling (root_wider agrees))
         (subst (λ (p : List (ℕ × List ℕ)). Refuses c room p [] bytes fault) (own_puts agrees) refuses)
+
+-- ==== Before the first call.
+
+-- a session that represents a warehouse leaves it
+pub leaves_at : {D : Type 0} (g : Ghosts D)
+    → ((d : D) (image : Image) → g.keeps_word d → (g.state d).left_since (g.state d).moment image
+    → IsImage (g.state d) image) → (session : Session D g) (w : Warehouse) → IsAt g session w
+    → Leaves (disk_of g session) (disk_of g session) (λ c. Represents c w)
+leaves_at g only session w at =
+    begins (ShowsSome (λ c. Represents c w)) (disk_of g session) (λ k image. only (device_of session) image k) at.all

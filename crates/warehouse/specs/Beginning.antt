@@ -6,10 +6,12 @@ use Rattle.warehouse_root.specs.declared.layout.Layout.{Layout}
 use Rattle.warehouse_root.specs.Modes.{modes_spelling}
 use Rattle.warehouse_root.specs.Root.{IsRoot, first_root}
 use Rattle.warehouse_objects.specs.Represents.{dimension_of}
+use Rattle.warehouse_objects.specs.Warehouse.{AreStorable}
 use Rattle.warehouse.specs.declared.beginning.Beginning.{Beginning}
 
--- the bytes of the four dimensions and of no ship modes, and the root of no batch with its bytes
+-- the bytes of the four dimensions, which can be stored, and of no ship modes, and the root of no batch with its bytes
 pub record IsBeginning (layout : Layout) (rows : DimRows) (b : Beginning) : Type 0 where
+  pub storable : AreStorable rows
   pub customers : b.customers.items ≡ dimension_of rows Customer
   pub suppliers : b.suppliers.items ≡ dimension_of rows Supplier
   pub parts : b.parts.items ≡ dimension_of rows Part

@@ -5,7 +5,6 @@ use Rattle.cube_model.specs.declared.rows.DimRows.{DimRows}
 use Rattle.cube_model.specs.declared.rows.LineOrder.{LineOrder}
 use Rattle.cube_model.specs.Limits.{most_batch_rows}
 use Rattle.column_segment.specs.Encoding.{HaveRows}
-use Rattle.column_segment.specs.Segment.{FitColumns}
 use Rattle.batch_admission.specs.Found.{found_in}
 use Rattle.warehouse_root.specs.Root.{PlainRoot}
 use Rattle.warehouse.specs.declared.growing.GrowingBatch.{GrowingBatch}
@@ -16,7 +15,6 @@ use Rattle.warehouse.specs.declared.session.Session.{Session}
 pub record IsGrown (dimensions : DimRows) (root : PlainRoot) (rows : List LineOrder) (batch : GrowingBatch) : Type 0
   where
     pub found : batch.found ≡ found_in dimensions root.totals rows
-    pub fits : FitColumns rows
     pub columns : batch.found.long_text ≡ None → HaveRows rows batch.columns
 
 -- a batch has some rows so far, and so many more are not too many

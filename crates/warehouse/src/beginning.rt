@@ -7,7 +7,7 @@ use cube_model::{Axis, Fault};
 use dimension_objects::encode;
 use dimensions::Dims;
 use std::alloc::Global;
-use warehouse_objects::ShipModes;
+use warehouse_objects::{ShipModes, rows_are_storable};
 use warehouse_root::{Layout, Root};
 
 /// The bytes of the four dimensions and of no ship modes, and the root of no batch.
@@ -30,6 +30,7 @@ impl Beginning {
         ensures ok { IfOk result (IsBeginning layout dims.now) }
         ensures memory { IfErr result (λ fault. fault ≡ Memory) }
     {
+        rows_are_storable(dims);
         let root = Root::new(alloc, layout);
         let root_bytes = root.encode(alloc)?;
         let (customers, suppliers) = two_encoded(alloc, dims, Axis::Customer, Axis::Supplier)?;

@@ -9,7 +9,6 @@ ghost use Rattle.warehouse.specs.ByModes.{IsAskedByModes};
 ghost use Rattle.warehouse.specs.Reads.{OnlyReads, RefusesQuery};
 ghost use Rattle.warehouse.specs.Session.{has_failed, device_of, IsAt};
 
-use crate::prepared::kept_is_represented;
 use crate::querying::are_there;
 use crate::session::Session;
 use cube_model::Fault;
@@ -46,7 +45,6 @@ impl<D: Sectors> Session<D> {
         if self.is_broken() {
             return Err(Fault::Failed);
         }
-        kept_is_represented(&self.dims, &self.root);
         let proper = match check_by_modes(asked, as_of, self.root.batches().len() as u32) {
             Ok(proper) => proper,
             Err(fault) => return Err(fault),
@@ -88,7 +86,6 @@ impl<D: Sectors> Session<D> {
         if self.store.is_broken() {
             return Err(Fault::Failed);
         }
-        kept_is_represented(&self.dims, &self.root);
         if let Err(fault) = check_by_modes(asked, as_of, self.root.batches().len() as u32) {
             return Err(fault);
         }

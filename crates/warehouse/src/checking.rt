@@ -9,7 +9,6 @@ ghost use Rattle.warehouse.specs.Reads.{OnlyReads};
 ghost use Rattle.warehouse.specs.Session.{IsAt, content_of, device_of};
 ghost use Rattle.warehouse.specs.Upkeep.{IsLaidAt};
 
-use crate::prepared::kept_is_represented;
 use crate::session::Session;
 use cube_model::Fault;
 use sector_device::Sectors;
@@ -50,7 +49,6 @@ impl<D: Sectors> Session<D> {
         if self.is_broken() {
             return Err(Fault::Failed);
         }
-        kept_is_represented(&self.dims, &self.root);
         match checked(alloc, &mut self.store, &self.root, &self.dims, &self.modes) {
             Ok(found) => Ok(found),
             Err(fault) => Err(fault),

@@ -16,7 +16,6 @@ ghost use Rattle.warehouse.specs.declared.chosen.Chosen.{Chosen};
 ghost use Rattle.warehouse.specs.Session.{CallsDevice, CommitsOnce, IsAt, KeepsContent, device_of, disk_of, has_failed};
 
 use crate::chosen::Chosen;
-use crate::prepared::kept_is_represented;
 use crate::session::Session;
 use crate::status::row_total;
 use cube_model::{Attr, Fault};
@@ -57,7 +56,6 @@ impl<D: Sectors> Session<D> {
         if self.is_broken() {
             return Err(Fault::Failed);
         }
-        kept_is_represented(&self.dims, &self.root);
         match stored_cuboids::set_views(alloc, &mut self.store, &mut self.root, views) {
             Ok(()) => Ok(()),
             Err(fault) => Err(fault),
@@ -171,7 +169,6 @@ impl<D: Sectors> Session<D> {
         if are_too_many(k, asked) {
             return Err(Fault::BadQuery);
         }
-        kept_is_represented(&self.dims, &self.root);
         let rows = row_total(self.root.batches());
         let counts = counts_of(&self.dims, self.ship_mode_count());
         match Choice::of(alloc, rows, &counts, k, asked) {

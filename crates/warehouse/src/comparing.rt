@@ -17,7 +17,6 @@ ghost use Rattle.warehouse_objects.specs.Warehouse.{Warehouse};
 ghost use Rattle.wire.specs.Runs.{HasRead, IsRefused};
 
 use crate::growing::GrowingBatch;
-use crate::prepared::kept_is_represented;
 use crate::session::Session;
 use cube_model::Fault;
 use object_store::Store;
@@ -35,7 +34,6 @@ impl<D: Sectors> Session<D> {
         ensures { (w : Warehouse) → IsAt D.Sectors self.now w → D.keeps_word (device_of self.now)
             → result ≡ option_map length (numbered w.batches number) }
     {
-        kept_is_represented(&self.dims, &self.root);
         rows_of(&self.root, number)
     }
 
@@ -66,7 +64,6 @@ impl<D: Sectors> Session<D> {
         if self.is_broken() {
             return Err(Fault::Failed);
         }
-        kept_is_represented(&self.dims, &self.root);
         match is_stored(alloc, &mut self.store, &self.root, number, batch) {
             Ok(yes) => Ok(yes),
             Err(fault) => Err(fault),
@@ -79,7 +76,6 @@ fn rows_of(root: &Root, number: u32) -> Option<u32>
     ensures rows { result ≡ numbered root.now.batches number }
     ensures few { IfSome result (λ _. number ≤ most_batches) }
 {
-    let _layout = root.layout();
     let before = number.checked_sub(1)?;
     let rows = root.batches().get(before as usize)?;
     Some(*rows)
@@ -103,7 +99,6 @@ fn is_stored<D: Sectors>(
     ensures reads { ReadsOnly D.Sectors store.old store.new result }
     ensures causes { IfErr result (λ fault. (fault ≡ Memory) ⊎ (fault ≡ Device)) }
 {
-    let _usable = store.is_broken();
     if rows_of(root, number) != Some(batch.row_count()) {
         return Ok(false);
     }

@@ -5,7 +5,6 @@ ghost use Rattle.warehouse.specs.Beginning.{IsBeginning};
 ghost use Rattle.warehouse.specs.Creating.{IsCreated, MakesStore, RefusesToMake};
 
 use crate::beginning::Beginning;
-use crate::prepared::kept_is_represented;
 use crate::session::{Session, shared};
 use cube_model::Fault;
 use dimensions::Dims;
@@ -70,7 +69,6 @@ fn make_store<D: Sectors>(
     ensures ok { IfOk result (MakesStore D.Sectors device layout dims.now.value beginning.now.root) }
     ensures refused { IfErr result (λ e. RefusesToMake D.Sectors device layout dims.now.value e.0 e.1) }
 {
-    kept_is_represented(dims, &beginning.root);
     let puts = [
         (1, beginning.customers.as_slice()),
         (2, beginning.suppliers.as_slice()),

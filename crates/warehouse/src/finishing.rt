@@ -8,7 +8,6 @@ ghost use Rattle.stored_cuboids.specs.Keeping.{IsCaughtUp};
 ghost use Rattle.warehouse.specs.Found.{IsFinished};
 ghost use Rattle.warehouse.specs.Session.{Breaks, IsAt, device_of, disk_of, has_failed};
 
-use crate::prepared::kept_is_represented;
 use crate::session::Session;
 use cube_model::Fault;
 use lattice::View;
@@ -33,8 +32,6 @@ impl<D: Sectors> Session<D> {
         ensures device { IsErrOf result Device → Breaks D.Sectors self.old self.new }
         ensures word { D.keeps_word (device_of self.new) → D.keeps_word (device_of self.old) }
     {
-        let _broken = self.is_broken();
-        kept_is_represented(&self.dims, &self.root);
         let caught = catch_up(
             alloc,
             &mut self.store,

@@ -5,7 +5,7 @@ ghost use Rattle.batch_admission.specs.Found.{cause_of, found_in};
 ghost use Rattle.cube_model.specs.declared.fault.Fault.TheVariants.{Device, Failed, Memory};
 ghost use Rattle.cube_model.specs.declared.rows.DimRows.{DimRows};
 ghost use Rattle.cube_model.specs.declared.rows.LineOrder.{LineOrder};
-ghost use Rattle.column_segment.specs.Segment.{IsBatch, segment_of};
+ghost use Rattle.column_segment.specs.Segment.{FitColumns, IsBatch, segment_of};
 ghost use Rattle.cube_model.specs.Admission.{early_refusal, long_text};
 ghost use Rattle.cube_model.specs.Limits.{most_batch_rows};
 ghost use Rattle.object_store.specs.Disk.{Leaves};
@@ -31,7 +31,7 @@ use cube_model::{Fault, LineOrder, Totals};
 use dimensions::Dims;
 use sector_device::Sectors;
 use std::alloc::Global;
-use warehouse_objects::{ShipModes, numbers_fit};
+use warehouse_objects::ShipModes;
 use warehouse_root::{Layout, Root};
 
 /// A batch that grows by rows until it is submitted to the session that began it, or compared with one that is stored.
@@ -88,7 +88,6 @@ impl GrowingBatch {
             → IsGrown dims.now root (before ++ rows.now) self.new) }
         ensures memory { IsOkUnless result Memory }
     {
-        numbers_fit(rows);
         self.found = self.found.more(dims, rows);
         if self.found.has_long_text() {
             return Ok(());
@@ -102,13 +101,12 @@ impl GrowingBatch {
             × IsGrown dimensions root rows self.now }
         ensures spelled { IfOk result (λ found. (dimensions : DimRows) (root : PlainRoot) (rows : List LineOrder)
             → IsGrown dimensions root rows self.now
-            → IfSome found (λ bytes. (bytes.items ≡ segment_of number rows) × IsBatch rows)) }
+            → IfSome found (λ bytes. (bytes.items ≡ segment_of number rows) × IsBatch rows × FitColumns rows)) }
         ensures long { IfOk result (λ found. (dimensions : DimRows) (root : PlainRoot) (rows : List LineOrder)
             → IsGrown dimensions root rows self.now
             → IfNone found (long_text 1 rows ≢ None)) }
         ensures memory { IfErr result (λ fault. fault ≡ Memory) }
     {
-        let _rows = self.found.row_count();
         if self.found.has_long_text() {
             return Ok(None);
         }
@@ -170,7 +168,6 @@ impl GrowingBatch {
         ensures short { OnOk result (self.now.found.long_text ≡ None) }
         ensures apart { IfErr result (λ fault. is_of_device fault ≡ false) }
     {
-        let _rows = self.found.row_count();
         if let Err(fault) = admission_of(root).check_number(number) {
             return Err(cause_of(fault));
         }

@@ -3,7 +3,6 @@ ghost use Rattle.warehouse.specs.Headline.{FewerIsNotFound, LaterCrashIsFound, R
 ghost use Rattle.warehouse.specs.Headline.{CrashedOpenIsFound, CrashedRunIsFound};
 
 use sector_device::Sectors;
-use warehouse_objects::laws::content_is_one_warehouse;
 
 /// However a run of commands crashes, before, between or within its device calls: the restarted device has a prefix of
 /// the submitted batches with every acknowledged one. By its contract, opening finds this one, also where it crashes
@@ -20,9 +19,7 @@ pub fn later_crash_is_found<D: Sectors>()
 /// What is found after a run has no fewer batches than there were where it began.
 pub fn fewer_is_not_found<D: Sectors>()
     ensures { FewerIsNotFound D.Sectors }
-{
-    content_is_one_warehouse();
-}
+{}
 
 /// A device that was restarted with an image shows what the image shows.
 pub fn restarted_shows<D: Sectors>()

@@ -17,7 +17,6 @@ ghost use Rattle.warehouse.specs.Session.{Breaks, CallsDevice, CommitsOnce, IsAt
 ghost use Rattle.warehouse.specs.Session.{disk_of};
 ghost use Rattle.warehouse.specs.Session.{has_failed};
 
-use crate::prepared::kept_is_represented;
 use crate::session::Session;
 use cube_model::Fault;
 use object_store::Store;
@@ -72,7 +71,6 @@ impl<D: Sectors> Session<D> {
         if self.is_broken() {
             return Err(Fault::Failed);
         }
-        kept_is_represented(&self.dims, &self.root);
         match self.root.layout() {
             Layout::First => self.move_on(alloc),
             Layout::Second => Ok(()),
@@ -133,7 +131,6 @@ impl<D: Sectors> Session<D> {
         ensures device { IsErrOf result Device → Breaks D.Sectors self.old self.new }
         ensures word { D.keeps_word (device_of self.new) → D.keeps_word (device_of self.old) }
     {
-        let _broken = self.is_broken();
         let Migration {
             modes,
             bytes,

@@ -171,7 +171,6 @@ fn read<D: Sectors>(alloc: Global, store: &mut Store<D>) -> Result<Kept, Fault>
     ensures device { IsErrOf result Device → stores.Breaks D.Sectors store.old store.new }
     ensures causes { IfErr result (λ fault. (fault ≡ Memory) ⊎ ((fault ≡ Device) ⊎ (fault ≡ BadLayout))) }
 {
-    let _broken = store.is_broken();
     let root = known_root(alloc, store)?;
     let modes = read_modes(alloc, store, root.layout())?;
     let dims = read_dims(alloc, store)?;

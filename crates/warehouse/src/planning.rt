@@ -7,7 +7,6 @@ ghost use Rattle.warehouse_objects.specs.Warehouse.{Warehouse};
 ghost use Rattle.warehouse.specs.Reads.{RefusesQuery};
 ghost use Rattle.warehouse.specs.Session.{has_failed, device_of, IsAt, IsAsked};
 
-use crate::prepared::kept_is_represented;
 use crate::querying::check;
 use crate::session::Session;
 use cube_model::{Fault, Query};
@@ -34,7 +33,6 @@ impl<D: Sectors> Session<D> {
         if self.store.is_broken() {
             return Err(Fault::Failed);
         }
-        kept_is_represented(&self.dims, &self.root);
         if let Err(fault) = check(query, as_of, self.root.batches().len() as u32) {
             return Err(fault);
         }
@@ -56,7 +54,6 @@ impl<D: Sectors> Session<D> {
         if self.store.is_broken() {
             return Err(Fault::Failed);
         }
-        kept_is_represented(&self.dims, &self.root);
         if let Err(fault) = check(query, as_of, self.root.batches().len() as u32) {
             return Err(fault);
         }

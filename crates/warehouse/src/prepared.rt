@@ -1,26 +1,17 @@
 //! What a submit puts on the device, made ready before the first device call.
-ghost use Rattle.std.specs.Prelude.{◌≡◌, ◌<◌, ◌≤◌, ℕ, List, false, length, IfOk, IfErr};
+ghost use Rattle.std.specs.Prelude.{◌≡◌, ◌<◌, ◌≤◌, false, length, IfOk, IfErr};
 ghost use Rattle.cube_model.specs.declared.fault.Fault.TheVariants.{Memory};
 ghost use Rattle.cube_model.specs.Limits.{most_batch_rows, most_batches};
 ghost use Rattle.batch_admission.specs.Accepted.{HasAccepted};
-ghost use Rattle.warehouse_root.specs.declared.layout.Layout.{Layout};
-ghost use Rattle.warehouse_root.specs.Root.{AreProperTotals, IsProperRoot};
-ghost use Rattle.object_store.specs.Commit.{ArePuts};
-ghost use Rattle.object_store.specs.Content.{Content};
-ghost use Rattle.warehouse_objects.specs.Lawful.{beginning_puts};
-ghost use Rattle.warehouse_objects.specs.Represents.{AreItsMembers, IsLaidOut, Represents, root_of};
-ghost use Rattle.warehouse_objects.specs.Warehouse.{Warehouse, AreStorable};
-ghost use Rattle.warehouse_objects.specs.Loaded.{IsLoaded};
-ghost use Rattle.warehouse.specs.Loaded.{Agrees};
+ghost use Rattle.warehouse_root.specs.Root.{AreProperTotals};
+ghost use Rattle.warehouse_objects.specs.Represents.{root_of};
+ghost use Rattle.warehouse_objects.specs.Warehouse.{Warehouse};
 ghost use Rattle.warehouse.specs.Refusing.{is_of_device};
 
 use batch_admission::Admission;
 use cube_model::{Fault, Totals};
-use dimensions::Dims;
 use std::alloc::Global;
-use std::rc::Rc;
-use warehouse_objects::laws::{objects_are_storable, rows_are_one};
-use warehouse_objects::{ShipModes, rows_are_storable};
+use warehouse_objects::ShipModes;
 use warehouse_root::Root;
 
 /// Ship modes of which some are new, and their bytes.
@@ -77,7 +68,6 @@ pub(crate) fn admission_of(root: &Root) -> Admission
     ensures totals { result.totals ≡ root.now.totals }
     ensures represents { (w : Warehouse) → root_of w ≡ root.now → HasAccepted result w.batches }
 {
-    let _layout = root.layout();
     Admission::resume(root.batches().len() as u32, root.totals())
 }
 
@@ -91,22 +81,4 @@ pub(crate) fn cause_of(fault: Fault) -> Fault
         Fault::Failed => Fault::BadLayout,
         cause => cause,
     }
-}
-
-/// What is kept in memory is what the content represents. It does nothing.
-pub(crate) fn kept_is_represented(dims: &Rc<Dims>, root: &Root)
-    ensures dims { AreStorable dims.now.value }
-    ensures puts { (layout : Layout) → ArePuts (beginning_puts layout dims.now.value) }
-    ensures root { IsProperRoot root.now }
-    ensures agrees { (c : Content) (w : Warehouse) (modes : List (List ℕ)) → IsLoaded c dims.now.value modes root.now
-        → Represents c w → Agrees w dims.now.value root.now }
-    ensures laid { (c : Content) (w : Warehouse) (modes : List (List ℕ)) → IsLoaded c dims.now.value modes root.now
-        → IsLaidOut c w → Agrees w dims.now.value root.now }
-    ensures members { (c : Content) (w : Warehouse) (modes : List (List ℕ)) → IsLoaded c dims.now.value modes root.now
-        → IsLaidOut c w → AreItsMembers w dims.now.value modes }
-{
-    rows_are_one();
-    objects_are_storable();
-    rows_are_storable(dims);
-    let _layout = root.layout();
 }

@@ -7,7 +7,6 @@ ghost use Rattle.warehouse_objects.specs.Warehouse.{Warehouse};
 ghost use Rattle.warehouse.specs.Reads.{OnlyReads, RefusesQuery};
 ghost use Rattle.warehouse.specs.Session.{device_of, IsAt, IsAsked};
 
-use crate::prepared::kept_is_represented;
 use crate::session::Session;
 use cube_model::{Answer, Fault, ProperQuery, Query};
 use planned_queries::{Found, groups_by_plan};
@@ -58,7 +57,6 @@ impl<D: Sectors> Session<D> {
         if self.is_broken() {
             return Err(Fault::Failed);
         }
-        kept_is_represented(&self.dims, &self.root);
         let proper = match check(query, as_of, self.root.batches().len() as u32) {
             Ok(proper) => proper,
             Err(fault) => return Err(fault),

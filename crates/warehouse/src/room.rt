@@ -9,7 +9,6 @@ ghost use Rattle.warehouse_objects.specs.Warehouse.{Warehouse};
 ghost use Rattle.warehouse.specs.Room.{object_sectors, sectors_of_size, sectors_taken};
 ghost use Rattle.warehouse.specs.Session.{content_of, device_of, IsAt};
 
-use crate::prepared::kept_is_represented;
 use crate::session::Session;
 use cube_model::Fault;
 use object_store::Store;
@@ -28,7 +27,6 @@ impl<D: Sectors> Session<D> {
             → taken ≡ min (sectors_taken (content_of D.Sectors self.now) w) u64.MAX) }
         ensures memory { IfErr result (λ fault. fault ≡ Memory) }
     {
-        kept_is_represented(&self.dims, &self.root);
         let ids = self.root.object_ids(alloc)?;
         let objects = sectors_of_objects(&self.store, ids.as_slice());
         let catalogue = catalogue_sectors(self.store.objects(), self.store.root().len() as u64);

@@ -9,7 +9,6 @@ ghost use Rattle.warehouse_objects.specs.Reads.{ReadsOnly};
 ghost use Rattle.warehouse_objects.specs.Represents.{Represents, root_of};
 ghost use Rattle.warehouse_objects.specs.Warehouse.{Warehouse};
 
-use crate::prepared::kept_is_represented;
 use crate::session::Session;
 use cube_model::{Fault, Items, LineOrder};
 use object_store::Store;
@@ -43,7 +42,6 @@ impl<D: Sectors> Session<D> {
         if self.is_broken() {
             return Err(Fault::Failed);
         }
-        kept_is_represented(&self.dims, &self.root);
         match read_numbered(alloc, &mut self.store, &self.root, number) {
             Ok(found) => Ok(found),
             Err(fault) => Err(fault),
@@ -68,7 +66,6 @@ fn read_numbered<D: Sectors>(
     ensures reads { ReadsOnly D.Sectors store.old store.new result }
     ensures causes { IfErr result (λ fault. (fault ≡ Memory) ⊎ ((fault ≡ Device) ⊎ (fault ≡ BadLayout))) }
 {
-    let _usable = store.is_broken();
     match number.checked_sub(1) {
         None => Ok(None),
         Some(before) => read_rows(alloc, store, root, before),

@@ -41,7 +41,6 @@ pub fn run<D: Sectors>(
     ensures failed { IfOk result (λ replies. has_failed session.old ≡ true
         → RanAll D.Sectors session.old broken commands.now replies.items session.new broken) }
 {
-    let _broken = session.is_broken();
     let mut slots = match QuerySlots::new(alloc) {
         Ok(slots) => slots,
         Err(fault) => return Err(fault),
@@ -126,7 +125,6 @@ fn status<D: Sectors>(session: &mut Session<D>) -> Reply
     ensures ran { (w : Warehouse) (started : Slots) → IsAt D.Sectors session.old w
         → D.keeps_word (device_of session.new) → Does D.Sectors session.old w started asks.Status result session.new }
 {
-    let _broken = session.is_broken();
     match session.status() {
         Ok(numbers) => Reply::Numbers(numbers),
         Err(fault) => Reply::Refused(fault),
@@ -211,7 +209,6 @@ fn start<D: Sectors>(
         → DoesWith D.Sectors session.old w started (asks.Start slot as_of query.now) result session.new
         slots.new.queries.items }
 {
-    let _broken = session.is_broken();
     if usize::from(slot) >= MOST_RUNNING {
         return Reply::Refused(Fault::NotRunning);
     }
@@ -237,7 +234,6 @@ fn step<D: Sectors>(
         → D.keeps_word (device_of session.new)
         → DoesWith D.Sectors session.old w started (asks.Step slot) result session.new slots.new.queries.items }
 {
-    let _broken = session.is_broken();
     let Some(running) = slots.take(slot) else {
         return Reply::Refused(Fault::NotRunning);
     };

@@ -9,7 +9,6 @@ ghost use Rattle.warehouse_objects.specs.Warehouse.{Warehouse};
 ghost use Rattle.warehouse.specs.Session.{has_failed, device_of, content_of, IsAt};
 ghost use Rattle.warehouse.specs.Status.{IsStatus};
 
-use crate::prepared::kept_is_represented;
 use crate::session::Session;
 use cube_model::Fault;
 use sector_device::Sectors;
@@ -48,7 +47,6 @@ impl<D: Sectors> Session<D> {
         if self.store.is_broken() {
             return Err(Fault::Failed);
         }
-        kept_is_represented(&self.dims, &self.root);
         let batches = self.root.batches();
         Ok(Status {
             layout: self.root.layout(),

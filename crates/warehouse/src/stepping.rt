@@ -8,7 +8,6 @@ ghost use Rattle.warehouse.specs.Reads.{OnlyReads, RefusesQuery};
 ghost use Rattle.warehouse.specs.Session.{device_of, IsAt, IsAsked};
 ghost use Rattle.warehouse.specs.Stepping.{StepsTo, refused_by};
 
-use crate::prepared::kept_is_represented;
 use crate::querying::check;
 use crate::session::Session;
 use cube_model::{Answer, Fault, Query};
@@ -47,7 +46,6 @@ impl<D: Sectors> Session<D> {
         if self.is_broken() {
             return Err(Fault::Failed);
         }
-        kept_is_represented(&self.dims, &self.root);
         let proper = match check(query, as_of, self.root.batches().len() as u32) {
             Ok(proper) => proper,
             Err(fault) => return Err(fault),
@@ -84,7 +82,6 @@ impl<D: Sectors> Session<D> {
         if self.is_broken() {
             return Stepped::Refused(running, Fault::Failed);
         }
-        kept_is_represented(&self.dims, &self.root);
         match running.advance(alloc, &mut self.store, &self.root) {
             Ok(found) => match found {
                 None => Stepped::More(running),

@@ -23,7 +23,7 @@ ghost use Rattle.warehouse.specs.Session.{KeepsContent, SubmitRefuses};
 ghost use Rattle.warehouse.specs.Submitting.{BatchIsReady, WithOrWithout};
 
 use crate::growing::GrowingBatch;
-use crate::prepared::{Prepared, admission_of, cause_of, kept_is_represented};
+use crate::prepared::{Prepared, admission_of, cause_of};
 use crate::session::Session;
 use batch_admission::Admission;
 use cube_model::limits::MOST_BATCH_ROWS;
@@ -156,7 +156,6 @@ impl<D: Sectors> Session<D> {
         ensures leaves { (w : Warehouse) → IsAt D.Sectors self.now w
             → Leaves (disk_of D.Sectors self.now) (disk_of D.Sectors self.now) (λ c. Represents c w) }
     {
-        kept_is_represented(&self.dims, &self.root);
         if self.is_broken() {
             return Err(Fault::Failed);
         }

@@ -4,7 +4,6 @@ ghost use Rattle.warehouse_objects.specs.Warehouse.{Warehouse, ship_modes_of};
 ghost use Rattle.warehouse.specs.Choosing.{modes_counted};
 ghost use Rattle.warehouse.specs.Session.{device_of, IsAt};
 
-use crate::prepared::kept_is_represented;
 use crate::session::Session;
 use dimensions::Dims;
 use sector_device::Sectors;
@@ -16,7 +15,6 @@ impl<D: Sectors> Session<D> {
         ensures { (w : Warehouse) → IsAt D.Sectors self.now w → D.keeps_word (device_of self.now)
             → result.now ≡ w.rows }
     {
-        kept_is_represented(&self.dims, &self.root);
         &self.dims
     }
 
@@ -25,7 +23,6 @@ impl<D: Sectors> Session<D> {
         ensures { (w : Warehouse) → IsAt D.Sectors self.now w → D.keeps_word (device_of self.now)
             → result ≡ w.layout }
     {
-        kept_is_represented(&self.dims, &self.root);
         self.root.layout()
     }
 
@@ -34,7 +31,6 @@ impl<D: Sectors> Session<D> {
         ensures { (w : Warehouse) → IsAt D.Sectors self.now w → D.keeps_word (device_of self.now)
             → result ≡ modes_counted w.layout (ship_modes_of w) }
     {
-        kept_is_represented(&self.dims, &self.root);
         match self.root.layout() {
             Layout::First => None,
             Layout::Second => Some(self.modes.len() as u32), // at most 65,535

@@ -11,12 +11,10 @@ ghost use Rattle.warehouse.specs.Reads.{OnlyReads};
 ghost use Rattle.warehouse.specs.Session.{CallsDevice, IsAt, device_of, disk_of};
 ghost use Rattle.warehouse.specs.Upkeep.{IsLaidAt, UpkeepRefuses};
 
-use crate::prepared::kept_is_represented;
 use crate::session::Session;
 use cube_model::Fault;
 use sector_device::Sectors;
 use std::alloc::Global;
-use stored_cuboids::laws::kept_cuboids_are_sound;
 use stored_cuboids::{audited, keep_up};
 
 impl<D: Sectors> Session<D> {
@@ -48,7 +46,6 @@ impl<D: Sectors> Session<D> {
         if self.is_broken() {
             return Err(Fault::Failed);
         }
-        kept_is_represented(&self.dims, &self.root);
         match keep_up(
             alloc,
             &mut self.store,
@@ -86,8 +83,6 @@ impl<D: Sectors> Session<D> {
         if self.is_broken() {
             return Err(Fault::Failed);
         }
-        kept_is_represented(&self.dims, &self.root);
-        kept_cuboids_are_sound();
         match audited(alloc, &mut self.store, &self.root, &self.dims, &self.modes) {
             Ok(yes) => Ok(yes),
             Err(fault) => Err(fault),

@@ -17,7 +17,6 @@ use dimension_objects::encode;
 use dimensions::Dims;
 use std::alloc::Global;
 use std::rc::Rc;
-use warehouse_objects::laws::objects_are_storable;
 use warehouse_objects::rows_are_storable;
 use warehouse_root::Root;
 
@@ -67,7 +66,6 @@ impl Widening {
             → IsWidening old root.now rows.now wider) }
         ensures memory { IfErr result (λ fault. fault ≡ Memory) }
     {
-        objects_are_storable();
         rows_are_storable(&dims);
         let root = root.with_addition(alloc)?;
         let root_bytes = root.encode(alloc)?;

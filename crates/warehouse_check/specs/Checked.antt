@@ -9,8 +9,8 @@ use Rattle.column_segment.specs.Segment.{IsSegment}
 use Rattle.batch_admission.specs.Accepted.{Accepted, HasAccepted}
 use Rattle.batch_admission.specs.Totals.{totals_of}
 use Rattle.warehouse_root.specs.Objects.{segment_id}
-use Rattle.warehouse_root.specs.Root.{IsProperRoot, PlainRoot}
-use Rattle.warehouse_objects.specs.Warehouse.{AreInOrder, AreStorable, IsNext}
+use Rattle.warehouse_root.specs.Root.{PlainRoot}
+use Rattle.warehouse_objects.specs.Warehouse.{AreInOrder, IsNext}
 use Rattle.warehouse_objects.specs.Represents.{HasItsObjects}
 use Rattle.warehouse_objects.specs.Loaded.{IsLoaded}
 
@@ -54,7 +54,5 @@ pub record IsChecked (c : Content) : Type 0 where
   pub modes : List (List ℕ)
   pub root : PlainRoot
   pub loaded : IsLoaded c rows modes root
-  pub storable : AreStorable rows
-  pub proper : IsProperRoot root
   pub objects : HasItsObjects c root
   pub has : HasBatches c rows root

@@ -42,8 +42,6 @@ pub(crate) fn check_batches<D: Sectors>(
     ensures reads { ReadsOnly D.Sectors store.old store.new result }
     ensures causes { IfErr result (λ fault. (fault ≡ Memory) ⊎ (fault ≡ Device)) }
 {
-    let _usable = store.is_broken();
-    let _layout = root.layout();
     let mut admission = Admission::new();
     for said in root.batches() {
         let found = check_batch(alloc, store, dims, &mut admission, *said)?;

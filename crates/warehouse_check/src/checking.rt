@@ -16,7 +16,6 @@ use dimensions::Dims;
 use object_store::Store;
 use sector_device::Sectors;
 use std::alloc::Global;
-use stored_cuboids::laws::kept_cuboids_are_sound;
 use stored_rows::has_own_ship_modes;
 use warehouse_objects::{ShipModes, has_its_objects};
 use warehouse_root::Root;
@@ -63,8 +62,6 @@ pub fn checked<D: Sectors>(
     ensures reads { ReadsOnly D.Sectors store.old store.new result }
     ensures causes { IfErr result (λ fault. (fault ≡ Memory) ⊎ ((fault ≡ Device) ⊎ (fault ≡ BadLayout))) }
 {
-    kept_cuboids_are_sound();
-    let _usable = store.is_broken();
     if !has_its_objects(alloc, store, root)? {
         return Ok(Some(Finding::Objects));
     }

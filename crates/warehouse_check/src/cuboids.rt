@@ -38,8 +38,6 @@ pub(crate) fn check_cuboids<D: Sectors>(
     ensures reads { ReadsOnly D.Sectors store.old store.new result }
     ensures causes { IfErr result (λ fault. (fault ≡ Memory) ⊎ ((fault ≡ Device) ⊎ (fault ≡ BadLayout))) }
 {
-    let _usable = store.is_broken();
-    let _layout = root.layout();
     for cuboid in root.cuboids() {
         let sound = is_sound(alloc, store, root, dims, modes, *cuboid)?;
         if !sound {

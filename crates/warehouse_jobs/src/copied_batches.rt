@@ -37,8 +37,6 @@ pub(crate) fn copy_batches<D: Sectors, E: Sectors>(
     ensures from_word { D.keeps_word (device_of from.new) → D.keeps_word (device_of from.old) }
     ensures word { E.keeps_word (device_of to.new) → E.keeps_word (device_of to.old) }
 {
-    let _read = from.is_broken();
-    let _written = to.is_broken();
     let status = from.status()?;
     for before in 0..status.batches {
         copy_batch(alloc, from, to, before)?;
@@ -70,7 +68,6 @@ fn copy_batch<D: Sectors, E: Sectors>(
     ensures from_word { D.keeps_word (device_of from.new) → D.keeps_word (device_of from.old) }
     ensures word { E.keeps_word (device_of to.new) → E.keeps_word (device_of to.old) }
 {
-    let _written = to.is_broken();
     let number = before + 1;
     let found = from.rows_of_batch(alloc, number)?;
     match found {

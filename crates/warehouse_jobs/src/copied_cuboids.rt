@@ -11,7 +11,7 @@ ghost use Rattle.warehouse.specs.Session.{IsAt, device_of, disk_of};
 ghost use Rattle.warehouse_jobs.specs.Copied.{AreBroughtOn, AreSaidOf, HoldsPart, IsCopy, IsCopyFault, with_first};
 
 use cube_model::Fault;
-use lattice::{View, indexes_name_views};
+use lattice::View;
 use sector_device::Sectors;
 use std::alloc::Global;
 use warehouse::{MOST_CUBOIDS, Session, StoredCuboid};
@@ -35,7 +35,6 @@ pub(crate) fn copy_cuboids<D: Sectors, E: Sectors>(
         → D.keeps_word (device_of from.now) → E.keeps_word (device_of to.new) → IsCopyFault fault) }
     ensures word { E.keeps_word (device_of to.new) → E.keeps_word (device_of to.old) }
 {
-    let _written = to.is_broken();
     let status = from.status()?;
     let views = views_in(alloc, &status.cuboids)?;
     put_views(alloc, to, views.as_slice())
@@ -52,7 +51,6 @@ fn views_in(
     ensures refused { IfErr result (λ fault. (fault ≡ Memory) ⊎ ((fault ≡ BadLayout)
         × ((stored : List Cuboid) → AreSaidOf stored cuboids.now → ⊥))) }
 {
-    indexes_name_views();
     let mut views = Vec::new(alloc);
     for place in 0..MOST_CUBOIDS {
         match cuboids[place] {

@@ -50,7 +50,6 @@ pub fn write_batches<D: Sectors, W: Write>(
     ensures device { IsErrOf result Device → has_failed session.new ≡ true }
     ensures word { D.keeps_word (device_of session.new) → D.keeps_word (device_of session.old) }
 {
-    let _usable = session.is_broken();
     let status = session.status()?;
     for before in 0..status.batches {
         write_batch(alloc, session, before + 1, out)?;

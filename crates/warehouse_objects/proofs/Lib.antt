@@ -9,7 +9,6 @@ pub mod ReadingLemmas
 pub mod Folded
 pub mod Lengths
 pub mod ModesRead
-pub mod StorableLemmas
 pub mod OneMoreRead
 pub mod Rows
 pub mod KeptModes

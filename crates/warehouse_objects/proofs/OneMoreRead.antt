@@ -4,9 +4,12 @@ use Rattle.std.specs.Prelude.{IsErrOf}
 use Rattle.cube_model.specs.declared.fault.Fault.{Fault}
 use Rattle.cube_model.specs.declared.fault.Fault.TheVariants.{Device}
 use Rattle.sector_device.specs.declared.device.Sectors.{Ghosts}
+use Rattle.sector_device.specs.Device.{Image, IsImage}
 use Rattle.object_store.specs.Disk.{Leaves}
 use Rattle.object_store.specs.Moments.{leaves_then, leaves_weaker}
+use Rattle.object_store.specs.Sourced.{still_here}
 use Rattle.object_store.specs.Store.{Breaks, IsStill, content_of, disk_of, has_failed}
+use Rattle.object_store.proofs.CallerLemmas.{leaves_now}
 use Rattle.object_store.specs.declared.store.Store.{Store}
 use Rattle.warehouse_objects.specs.Reads.{ReadsOnly}
 
@@ -69,3 +72,11 @@ module _ {D A : Type 0} (g : Ghosts D) (old new : Store D g) where
     stays = λ other. still;
     device = λ is. absurd (none is);
   }
+
+-- a call that reads nothing, and for which the device did not fail
+pub reads_nothing : {D A : Type 0} (g : Ghosts D)
+    → ((d : D) (image : Image) → g.keeps_word d → (g.state d).left_since (g.state d).moment image
+    → IsImage (g.state d) image) → (store : Store D g) → has_failed store ≡ false → (result : Result A Fault)
+    → (IsErrOf result Device → ⊥) → ReadsOnly g store store result
+reads_nothing g only store fine result none =
+    has_read g store store result none (still_here g store) (leaves_now g only store fine)

@@ -1,13 +1,12 @@
 -- What a warehouse is, apart from how it is stored. Our own.
 use Rattle.std.specs.Prelude.{◌≡◌, ℕ, ◌+◌, ◌==◌, if◌then◌else◌, Bool, not, Option, None, Some, List, [], ◌∷◌}
 use Rattle.std.specs.Prelude.{◌++◌, length, map, take, slice_get}
-use Rattle.std.specs.List.{AllByRecursion, filter, find, flat_map, list_any, range_with_len, sum_by}
+use Rattle.std.specs.List.{filter, find, flat_map, list_any, range_with_len, sum_by}
 use Rattle.cube_model.specs.declared.attr.Axis.{Axis}
 use Rattle.cube_model.specs.declared.rows.DimRows.{DimRows}
 use Rattle.cube_model.specs.declared.rows.LineOrder.{LineOrder}
 use Rattle.cube_model.specs.Admission.{IsAdmissible, all_rows}
 use Rattle.cube_model.specs.Validity.{HaveShortTexts, IsValid}
-use Rattle.column_segment.specs.Columns.{FitsColumn, number_columns}
 use Rattle.column_segment.specs.Segment.{FitColumns}
 use Rattle.dimensions.specs.Shown.{rows_on}
 use Rattle.dimension_objects.specs.Spelled.{KeysFit}
@@ -118,10 +117,6 @@ pub record AreStorable (rows : DimRows) : Type 0 where
   pub valid : IsValid rows
   pub short : HaveShortTexts rows
   pub keys : (axis : Axis) → KeysFit (rows_on rows axis)
-
--- the numbers of a fact row are within the limits of their columns
-abbrev pub FitsColumns : LineOrder → Type 0
-FitsColumns row = AllByRecursion (λ column. FitsColumn column row) number_columns
 
 -- a batch that may follow others: it is admissible after them, and its numbers fit their columns
 pub record IsNext (rows : DimRows) (batches : List (List LineOrder)) (batch : List LineOrder) : Type 0 where

@@ -60,8 +60,6 @@ pub fn fold_batches<D: Sectors>(
     ensures reads { ReadsOnly D.Sectors store.old store.new result }
     ensures causes { IfErr result (λ fault. (fault ≡ Memory) ⊎ ((fault ≡ Device) ⊎ (fault ≡ BadLayout))) }
 {
-    let _usable = store.is_broken();
-    let _layout = root.layout();
     let batches = root.batches();
     let columns = fold.asked_columns()?;
     let mut buffer = ColumnBuffer::new(alloc)?;
@@ -104,8 +102,6 @@ pub fn fold_batch<D: Sectors>(
     ensures reads { ReadsOnly D.Sectors store.old store.new result }
     ensures causes { IfErr result (λ fault. (fault ≡ Memory) ⊎ ((fault ≡ Device) ⊎ (fault ≡ BadLayout))) }
 {
-    let _usable = store.is_broken();
-    let _layout = root.layout();
     let batches = root.batches();
     if before as usize >= batches.len() {
         return Err(Fault::BadLayout);

@@ -3,8 +3,6 @@ ghost use Rattle.warehouse_objects.specs.Lawful.{AimingRepresents, AppendingRepr
 ghost use Rattle.warehouse_objects.specs.Lawful.{ContentIsOneWarehouse, CreatingRepresents, LoadingRepresents};
 ghost use Rattle.warehouse_objects.specs.Lawful.{MergingRepresents, ModesAreOne, ObjectsAreStorable, RowsAreOne};
 
-use cube_model::valid_rows_keep_the_rules;
-
 /// A content that is made of storable dimension rows and the first root of a layout represents the warehouse of no
 /// batch.
 pub fn creating_represents()
@@ -19,16 +17,12 @@ pub fn loading_represents()
 /// The objects of storable dimension rows and of an admissible batch are such as a store takes.
 pub fn objects_are_storable()
     ensures { ObjectsAreStorable }
-{
-    valid_rows_keep_the_rules();
-}
+{}
 
 /// Objects 1 to 4 are the dimensions of one list of rows at most.
 pub fn rows_are_one()
     ensures { RowsAreOne }
-{
-    valid_rows_keep_the_rules();
-}
+{}
 
 /// Object 5 has the ship modes of the warehouse that a content represents.
 pub fn modes_are_one()
@@ -38,9 +32,7 @@ pub fn modes_are_one()
 /// A content represents one warehouse at most: one list of dimension rows, and one list of batches.
 pub fn content_is_one_warehouse()
     ensures { ContentIsOneWarehouse }
-{
-    valid_rows_keep_the_rules();
-}
+{}
 
 /// A commit of the root with the count of batches as its target makes a content whose cuboids are to hold all of them.
 pub fn aiming_represents()

@@ -12,7 +12,6 @@ ghost use Rattle.warehouse_objects.specs.Warehouse.{AreStorable, Warehouse};
 ghost use Rattle.warehouse_objects.specs.Reads.{ReadsOnly};
 ghost use Rattle.warehouse_objects.specs.Represents.{HasModes, HasRows, Represents, dimension_of, root_of};
 
-use crate::laws::rows_are_one;
 use crate::ship_modes::ShipModes;
 use cube_model::Fault;
 use dimension_objects::decode;
@@ -68,7 +67,6 @@ pub fn read_modes<D: Sectors>(
     ensures reads { ReadsOnly D.Sectors store.old store.new result }
     ensures causes { IfErr result (λ fault. (fault ≡ Memory) ⊎ ((fault ≡ Device) ⊎ (fault ≡ BadLayout))) }
 {
-    let _usable = store.is_broken();
     match layout {
         Layout::First => Ok(ShipModes::none(alloc)),
         Layout::Second => {
@@ -94,7 +92,6 @@ pub fn read_dims<D: Sectors>(alloc: Global, store: &mut Store<D>) -> Result<Dims
     ensures reads { ReadsOnly D.Sectors store.old store.new result }
     ensures causes { IfErr result (λ fault. (fault ≡ Memory) ⊎ ((fault ≡ Device) ⊎ (fault ≡ BadLayout))) }
 {
-    rows_are_one();
     let (customers, suppliers) = read_two(alloc, store, 1)?;
     read_others(alloc, store, &customers, &suppliers)
 }

@@ -268,7 +268,10 @@ impl Root {
 
     /// How many rows each batch has, the first batch first.
     pub fn batches(&self) -> &[u32]
-        ensures { result.now ≡ self.now.batches }
+        ensures value { result.now ≡ self.now.batches }
+
+        // Each root keeps the rules.
+        ensures proper { IsProperRoot self.now }
     {
         &self.batches
     }
@@ -296,7 +299,10 @@ impl Root {
 
     /// The stored cuboids, by ascending view.
     pub fn cuboids(&self) -> &[StoredCuboid]
-        ensures { result.now ≡ self.now.cuboids }
+        ensures value { result.now ≡ self.now.cuboids }
+
+        // Each root keeps the rules.
+        ensures proper { IsProperRoot self.now }
     {
         &self.cuboids
     }

@@ -4,13 +4,12 @@ use crate::cells::sample::{
 };
 use cube_model::Fault;
 use cuboid_cells::{Cell, Cells, Key};
-use lattice::indexes_name_views;
 use std::alloc::Global;
 use std::test::Fail;
 
 // Takes in the cells, where they are of the same view.
+#[tactic(auto, using(lattice::proofs::LawsLemmas::indexes_name_views))]
 fn take_in(alloc: Global, cells: &mut Cells, other: &Cells) -> Result<(), Fault> {
-    indexes_name_views();
     if cells.view().index() != other.view().index() {
         return Ok(());
     }

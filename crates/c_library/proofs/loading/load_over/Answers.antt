@@ -4,6 +4,7 @@ use Rattle.warehouse.specs.Found.{MayRepresent}
 use Rattle.object_store.specs.Disk.{ShowsSome}
 use Rattle.c_library.proofs.Ends.{loads}
 use Rattle.c_library.proofs.Files.{at_first}
+use Rattle.journal_device.proofs.LawsLemmas.{prefix_is_left}
 use Rattle.c_library.proofs.loading.load_over.Goals as goal
 
 pub returns-in-Ok-clause-loads : goal.returns-in-Ok-clause-loads
@@ -14,7 +15,7 @@ returns-in-Ok-clause-loads g c =
       λ facts holds.
           let done = c.in-Ok.ensures.loads (λ d. tt) facts
           (at_first image before (ShowsSome (MayRepresent facts None)) c.in-Some.ensures.none_yet holds) in
-          loads c.prefix_is_left.ensures image before (calls_of c.in-Ok.device) c.into_calls.result.items
+          loads prefix_is_left image before (calls_of c.in-Ok.device) c.into_calls.result.items
           c.in-Some.ensures.none_yet c.into_calls.ensures.calls
           facts c.args.first c.args.rows c.args.lineorder.now done.all done.represents (done.leaves.moments tt),
     )

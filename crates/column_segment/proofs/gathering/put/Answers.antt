@@ -1,4 +1,13 @@
-use Rattle.std.proofs.Common.{◌*◌, arith}
+use Rattle.std.proofs.Common.{◌≡◌, ◌*◌, ◌+◌, ◌<◌, ◌∙◌, ◌++◌, ℕ, All, List, [], ◌∷◌, add-one, ap, arith, length, length-set, subst, sym}
+use Rattle.std.proofs.Common.{take}
+use Rattle.std.proofs.Math.ListN.{set}
+use Rattle.std.proofs.Math.Seq.{take-suc-set}
+use Rattle.std.proofs.lemmas.List.{map-append, take_more}
+use Rattle.wire.specs.Spelling.{spelling}
+use Rattle.column_segment.specs.Encoding.{number_chunks}
+use Rattle.std.proofs.lemmas.List.Elements.{All-append, All-cons, All-nil}
+use Rattle.cube_model.specs.declared.rows.LineOrder.{LineOrder}
+use Rattle.column_segment.specs.Columns.{FitsColumn}
 use Rattle.std.proofs.lemmas.Nat.{mul-le}
 use Rattle.column_segment.proofs.gathering.put.Goals as goal
 
@@ -13,3 +22,27 @@ offset_bounds-chunks-place g c =
 pub shared_whole_as_front-extend_from_slice : goal.shared_whole_as_front-extend_from_slice
 shared_whole_as_front-extend_from_slice g c =
     (c.requires.piece, omega (arith, g.met.C.OfWidth.width.1))
+
+pub loop-place-preserved : goal.loop-place-preserved
+loop-place-preserved g c =
+    let so_far = c.loop-place.invariant in
+    let rows = c.args.rows.now in
+    let place : ℕ = c.loop-place.place in
+    let row : LineOrder = c.index-rows-place.result in
+    let column = g.C.OfWidth.column c.args.column in
+    let chunk = λ (r : LineOrder). spelling column.width (column.value r) in
+    let room : place < length c.loop-place.chunks =
+    omega (arith, c.loop-place-test.true, c.requires.piece, so_far.count) in
+    let more : take (place + 1) rows ≡ take place rows ++ row ∷ [] =
+    take_more rows place row c.loop-place-test.true
+    ∙ ap (λ (r : LineOrder). take place rows ++ r ∷ []) (sym c.index-rows-place.is) in record {
+      fits = subst (All (FitsColumn column)) (sym more)
+          (All-append (FitsColumn column) (take place rows) (row ∷ []) so_far.fits
+          (All-cons (FitsColumn column) row [] c.bytes_of.ensures.fits (All-nil (FitsColumn column))));
+      chunks = ap (λ (n : ℕ). take n (set c.loop-place.chunks place c.bytes_of.result)) (add-one place)
+          ∙ take-suc-set c.loop-place.chunks place c.bytes_of.result room
+          ∙ ap (λ (l : List (List ℕ)). l ++ c.bytes_of.result ∷ []) so_far.chunks
+          ∙ ap (λ (l : List ℕ). number_chunks column (take place rows) ++ l ∷ []) c.bytes_of.ensures.value
+          ∙ sym (map-append chunk (take place rows) (row ∷ [])) ∙ ap (number_chunks column) (sym more);
+      count = length-set c.loop-place.chunks place c.bytes_of.result ∙ so_far.count;
+    }

@@ -3,6 +3,7 @@ use Rattle.std.proofs.lemmas.Grind.{get_or_default_zero}
 use Rattle.cube_model.specs.Places.{text_at}
 use Rattle.group_plan.specs.Kinds.{HasEachKind}
 use Rattle.group_plan.proofs.MemberRowsLemmas.{HaveSoFar, so_far_all, so_far_more}
+use Rattle.cube_model.proofs.LawsLemmas.{valid_rows_keep_the_rules}
 use Rattle.group_plan.proofs.member_rows.member_places.Goals as goal
 
 pub rank-rank-requires : goal.rank-rank-requires
@@ -36,6 +37,6 @@ returns c =
     let rows = c.in_ok-rows.rows.items in
     let hold = subst (λ axis. HasEachKind dims axis rows) c.axis-2.ensures c.in_ok-rows.ensures in
     let end : c.loop-i.i ≡ length rows = omega (arith, c.loop-i-test.false, c.loop-i.auto.i-end, c.len-i-end.ensures) in
-    so_far_all dims attr rows c.valid_rows_keep_the_rules.ensures c.row_count.ensures.valid c.row_count.ensures.short
+    so_far_all dims attr rows valid_rows_keep_the_rules c.row_count.ensures.valid c.row_count.ensures.short
     hold c.loop-i.places.items
     (subst (λ count. HaveSoFar dims attr rows count c.loop-i.places.items) end c.loop-i.invariant)

@@ -13,6 +13,7 @@ use Rattle.group_tallies.specs.Slots.{entries_of}
 use Rattle.group_tallies.proofs.Answered.{lines_are, unordered_lines}
 use Rattle.group_tallies.proofs.LineLaws.{fit_order, seen_apart, seen_below, seen_have_lines, seen_lines, sorted_answer}
 use Rattle.group_plan.specs.Numbers.{group_count, group_key_at}
+use Rattle.cube_model.proofs.LawsLemmas.{answer_is_the_one}
 use Rattle.group_tallies.proofs.lines.ordered_groups.Goals as goal
 
 pub returns-in-None-clause-groups : goal.returns-in-None-clause-groups
@@ -72,7 +73,7 @@ returns-in_ok-sorted-in-Some-clause-lines c = λ rows represents.
     let rising : IsAscending (line_cmp order) (map (entry_line key aggs columns) sorted) =
     subst (λ all. IsAscending (line_cmp order) (map (entry_line key all columns) sorted)) aggregates
     c.in_ok-sorted-in-Some.ensures.rising in
-    sorted_answer dims query rows order asked c.answer_is_the_one.ensures
+    sorted_answer dims query rows order asked answer_is_the_one
     (map (entry_line key aggs columns) (seen_entries (tallies_at columns) entries))
     (map (entry_line key aggs columns) sorted)
     (seen_lines key aggs columns entries ∙ ap (map (line_with aggs)) represents ∙ unordered_lines dims query rows)

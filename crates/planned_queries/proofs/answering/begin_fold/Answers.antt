@@ -1,4 +1,4 @@
-use Rattle.std.proofs.Common.{ℕ, Err, take, sym, ap, subst}
+use Rattle.std.proofs.Common.{ℕ, Err, take, sym, ap, subst, rules}
 use Rattle.std.proofs.lemmas.Result.{err_from_is_err_and}
 use Rattle.cube_model.specs.Admission.{all_rows}
 use Rattle.cube_model.specs.declared.fault.Fault.{Fault}
@@ -7,6 +7,7 @@ use Rattle.cube_query.specs.Groups.{RepresentsRows}
 use Rattle.object_store.specs.Store.{content_of}
 use Rattle.warehouse_objects.proofs.Folded.{err_fault}
 use Rattle.planned_queries.proofs.Cuboids.{of_cuboid}
+use Rattle.warehouse_objects.proofs.OneMoreRead.{reads_nothing}
 use Rattle.planned_queries.proofs.answering.begin_fold.Goals as goal
 
 pub returns-in_err-done-clause-refused : goal.returns-in_err-done-clause-refused
@@ -29,3 +30,7 @@ returns-clause-begun g c k w represents rooted same =
       subst (λ (n : ℕ). RepresentsRows c.args.dims.now c.begin_by_plan.new.fold (all_rows (take n w.batches)))
           (sym c.in_ok-done.ensures.from) (c.in_ok-done.ensures.ok k w represents rooted same own),
     )
+
+pub returns-in_err-plan-clause-reads : goal.returns-in_err-plan-clause-reads
+returns-in_err-plan-clause-reads g c =
+    reads_nothing g.D.Sectors g.met.D.Sectors.only_now c.args.store.now c.requires.fine _ (λ is. search rules)

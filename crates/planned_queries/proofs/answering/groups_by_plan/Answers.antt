@@ -1,4 +1,4 @@
-use Rattle.std.proofs.Common.{◌≤◌, ◌∙◌, length, take, sym, ap, subst, arith}
+use Rattle.std.proofs.Common.{◌≤◌, ◌∙◌, length, take, sym, ap, subst, arith, rules}
 use Rattle.std.proofs.lemmas.List.{length-map}
 use Rattle.std.proofs.lemmas.Result.{IfOk-weaker}
 use Rattle.cube_model.specs.Admission.{all_rows}
@@ -9,6 +9,7 @@ use Rattle.cube_query.specs.Groups.{Begins, RepresentsRows}
 use Rattle.group_tallies.specs.Limits.{AreFoldable}
 use Rattle.warehouse_objects.proofs.CallerLemmas.{foldable}
 use Rattle.planned_queries.proofs.Cuboids.{members_in}
+use Rattle.warehouse_objects.proofs.OneMoreRead.{reads_nothing}
 use Rattle.planned_queries.proofs.answering.groups_by_plan.Goals as goal
 
 pub fold_by_plan-requires-clause-begins : goal.fold_by_plan-requires-clause-begins
@@ -46,3 +47,7 @@ returns-clause-refused g c = λ is k w represents rooted same.
     subst (λ (d : DimRows). AreFoldable d rows) (sym same.rows)
     (foldable w.rows w.batches represents.batches c.args.as_of within) in
     c.of.ensures.refused is (rows, (folded, all))
+
+pub returns-in_err-fold-clause-reads : goal.returns-in_err-fold-clause-reads
+returns-in_err-fold-clause-reads g c =
+    reads_nothing g.D.Sectors g.met.D.Sectors.only_now c.args.store.now c.requires.fine _ (λ is. search rules)

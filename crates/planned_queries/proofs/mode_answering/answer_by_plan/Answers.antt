@@ -1,4 +1,4 @@
-use Rattle.std.proofs.Common.{Err, ◌∙◌, ◌≤◌, length, take, sym, ap, subst, arith}
+use Rattle.std.proofs.Common.{Err, ◌∙◌, ◌≤◌, length, take, sym, ap, subst, arith, rules}
 use Rattle.std.proofs.lemmas.List.{length-map}
 use Rattle.std.proofs.lemmas.Result.{err_from_is_err_and}
 use Rattle.cube_model.specs.Admission.{all_rows}
@@ -11,7 +11,7 @@ use Rattle.mode_queries.specs.Answers.{moded_answer}
 use Rattle.mode_queries.specs.declared.query.ModeQuery.{ModeQuery}
 use Rattle.object_store.specs.Store.{content_of}
 use Rattle.warehouse_objects.proofs.Folded.{err_fault, of_counts}
-use Rattle.warehouse_objects.proofs.OneMoreRead.{has_read}
+use Rattle.warehouse_objects.proofs.OneMoreRead.{has_read, reads_nothing}
 use Rattle.planned_queries.proofs.Cuboids.{members_in}
 use Rattle.planned_queries.proofs.Faults.{no_device}
 use Rattle.planned_queries.proofs.Folding.{foldable_first}
@@ -76,3 +76,7 @@ returns-clause-answer g c k w represents rooted same =
     ∙ ap (λ (q : ModeQuery). moded_answer q dims rows) c.in_ok-fold_by_plan.ensures.query
     ∙ ap (λ (d : DimRows). moded_answer asked d rows) c.deref-rows.ensures
     ∙ ap (λ (q : ModeQuery). moded_answer q c.args.dims.now.value rows) c.get-query.ensures.query
+
+pub returns-in_err-fold-clause-reads : goal.returns-in_err-fold-clause-reads
+returns-in_err-fold-clause-reads g c =
+    reads_nothing g.D.Sectors g.met.D.Sectors.only_now c.args.store.now c.requires.fine _ (λ is. search rules)

@@ -1,4 +1,4 @@
-use Rattle.std.proofs.Common.{Err, ◌∙◌, ℕ, take, sym, ap, subst}
+use Rattle.std.proofs.Common.{Err, ◌∙◌, ℕ, take, sym, ap, subst, rules}
 use Rattle.std.proofs.lemmas.Result.{err_from_is_err_and, on_ok_weaker}
 use Rattle.cube_model.specs.Admission.{all_rows}
 use Rattle.cube_model.specs.declared.fault.Fault.{Fault}
@@ -9,7 +9,7 @@ use Rattle.object_store.specs.Content.{Content}
 use Rattle.object_store.specs.Store.{IsStill, content_of}
 use Rattle.warehouse_objects.specs.Represents.{Represents}
 use Rattle.warehouse_objects.proofs.Folded.{err_fault}
-use Rattle.warehouse_objects.proofs.OneMoreRead.{then_reads}
+use Rattle.warehouse_objects.proofs.OneMoreRead.{then_reads, reads_nothing}
 use Rattle.planned_queries.specs.ModesPlanned.{ServesByModes}
 use Rattle.planned_queries.proofs.ModesPlanned.{of_cuboid}
 use Rattle.planned_queries.proofs.mode_answering.fold_by_plan.Goals as goal
@@ -67,3 +67,7 @@ returns-clause-reads g c =
     then_reads g.D.Sectors c.args.store.now c.begin_by_plan.new.store c.add_batches.new.store
     (c.in_ok-from.ensures.reads.stays (λ is. cc)) _ c.requires.fine c.in_ok-from.ensures.reads.leaves
     c.add_batches.ensures.reads
+
+pub returns-in_err-plan-clause-reads : goal.returns-in_err-plan-clause-reads
+returns-in_err-plan-clause-reads g c =
+    reads_nothing g.D.Sectors g.met.D.Sectors.only_now c.args.store.now c.requires.fine _ (λ is. search rules)

@@ -1,4 +1,4 @@
-use Rattle.std.proofs.Common.{Err, ◌≡◌, ◌<◌, ℕ, List, length, get_or, take, sym, ◌∙◌, ap, subst, arith}
+use Rattle.std.proofs.Common.{Err, ◌≡◌, ◌<◌, ℕ, List, length, get_or, take, sym, ◌∙◌, ap, subst, arith, refl}
 use Rattle.std.specs.Option.{IfSome}
 use Rattle.std.proofs.lemmas.List.{length-map}
 use Rattle.std.proofs.lemmas.Result.{err_from_is_err_and}
@@ -16,6 +16,8 @@ use Rattle.warehouse_objects.proofs.Folded.{count_there, err_fault, own_foldable
 use Rattle.warehouse_objects.proofs.OneMoreRead.{reads_more, same_error, still_then, then_reads}
 use Rattle.planned_queries.specs.ModesCounted.{ServesWithModes}
 use Rattle.planned_queries.proofs.Folding.{can_take_next, folds_next}
+use Rattle.object_store.specs.Sourced.{still_here}
+use Rattle.object_store.proofs.CallerLemmas.{leaves_now}
 use Rattle.planned_queries.proofs.mode_batches.add_batches.Goals as goal
 
 pub add_batch-requires-clause-over : goal.add_batch-requires-clause-over
@@ -59,7 +61,7 @@ returns-in_err-add_batch-clause-refused g c =
     ∙ length-map w.batches length in
     let lt : before < length w.batches = omega (arith, c.loop-before-test.true, c.requires.few, lengths) in
     let got = get_within w.batches before lt in
-    let many = ap (λ (l : List ℕ). get_or l before 0) (c.batches-batches.ensures ∙ ap (λ r. r.batches) rooted)
+    let many = ap (λ (l : List ℕ). get_or l before 0) (c.batches-batches.ensures.value ∙ ap (λ r. r.batches) rooted)
     ∙ count_there content w represents before got.0 got.1 in
     c.in_err-add_batch.ensures.refused (ap (λ (f : Fault). Err f) (err_fault c.in_err-add_batch.field-0.0 BadLayout is))
     k w (subst (λ (x : Content). Represents x w) (sym (so_far.still.content word)) represents) got.0 got.1 many
@@ -80,3 +82,13 @@ returns-clause-ok g c k w represents begun =
     omega (arith, c.loop-before-test.false, c.loop-before.auto.before-end) in
     subst (λ (n : ℕ). RepresentsModeRows c.args.dims.now c.loop-before.fold (all_rows (take n w.batches))) ends
     (c.loop-before.invariant.own k w represents begun)
+
+pub loop-before-init : goal.loop-before-init
+loop-before-init g c = record {
+  fine = c.requires.fine;
+  still = still_here g.D.Sectors c.args.store.now;
+  leaves = leaves_now g.D.Sectors g.met.D.Sectors.only_now c.args.store.now c.requires.fine;
+  query = refl;
+  over = c.requires.over;
+  own = λ k w represents begun. begun;
+}

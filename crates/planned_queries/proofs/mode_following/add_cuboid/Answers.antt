@@ -1,4 +1,4 @@
-use Rattle.std.proofs.Common.{Err, ◌≡◌, ◌∙◌, ◌≤◌, ℕ, [], length, sym, ap, subst, take, arith, refl}
+use Rattle.std.proofs.Common.{Err, ◌≡◌, ◌∙◌, ◌≤◌, ℕ, [], length, sym, ap, subst, take, arith, refl, rules}
 use Rattle.std.proofs.lemmas.List.{length-map}
 use Rattle.std.proofs.lemmas.Result.{IfErr-weaker, err_from_is_err_and, on_ok_weaker}
 use Rattle.cube_model.specs.Admission.{all_rows}
@@ -14,7 +14,7 @@ use Rattle.warehouse_root.specs.declared.cuboid.StoredCuboid.{StoredCuboid}
 use Rattle.warehouse_objects.specs.Warehouse.{cuboid_at}
 use Rattle.warehouse_objects.proofs.CallerLemmas.{found_said}
 use Rattle.warehouse_objects.proofs.Folded.{err_fault, of_counts, of_fault}
-use Rattle.warehouse_objects.proofs.OneMoreRead.{has_read}
+use Rattle.warehouse_objects.proofs.OneMoreRead.{has_read, reads_nothing}
 use Rattle.planned_queries.proofs.Cuboids.{said_found, said_is}
 use Rattle.planned_queries.proofs.Faults.{no_device}
 use Rattle.planned_queries.proofs.Folding.{foldable_first}
@@ -25,7 +25,7 @@ pub returns-in_default-clause-refused : goal.returns-in_default-clause-refused
 returns-in_default-clause-refused g c = λ is k w represents rooted same has.
     c.in_default.not-Some _
     (said_found w c.args.view c.cuboids.result.now c.index.result c.cuboid_of.result has.0
-    (c.cuboids.ensures ∙ ap (λ r. r.cuboids) rooted) c.index.ensures c.cuboid_of.ensures has.1)
+    (c.cuboids.ensures.value ∙ ap (λ r. r.cuboids) rooted) c.index.ensures c.cuboid_of.ensures has.1)
 
 pub add_cells-requires-clause-serves : goal.add_cells-requires-clause-serves
 add_cells-requires-clause-serves g c =
@@ -51,7 +51,7 @@ returns-in_err-cells-clause-refused g c =
     rw (p.1, p.2) (λ is k w represents rooted same has.
     let found = sym c.in-Some.is ∙ c.cuboid_of.ensures in
     let said = said_is w c.args.view c.cuboids.result.now c.index.result c.in-Some.cuboid has.0
-    (c.cuboids.ensures ∙ ap (λ r. r.cuboids) rooted) c.index.ensures found has.1 in
+    (c.cuboids.ensures.value ∙ ap (λ r. r.cuboids) rooted) c.index.ensures found has.1 in
     let number : c.in-Some.cuboid.view ≡ index_of c.args.view =
     found_said c.cuboids.result.now c.index.result c.in-Some.cuboid (sym found) ∙ c.index.ensures in
     c.in_err-cells.ensures.refused (ap (λ (f : Fault). Err f) (err_fault c.in_err-cells.field-0.0 BadLayout is)) k w
@@ -62,7 +62,7 @@ returns-clause-ok g c =
     on_ok_weaker c.add_cells.result (λ takes k w represents rooted same has.
     let found = sym c.in-Some.is ∙ c.cuboid_of.ensures in
     let said = said_is w c.args.view c.cuboids.result.now c.index.result c.in-Some.cuboid has.0
-    (c.cuboids.ensures ∙ ap (λ r. r.cuboids) rooted) c.index.ensures found has.1 in
+    (c.cuboids.ensures.value ∙ ap (λ r. r.cuboids) rooted) c.index.ensures found has.1 in
     let number : c.in-Some.cuboid.view ≡ index_of c.args.view =
     found_said c.cuboids.result.now c.index.result c.in-Some.cuboid (sym found) ∙ c.index.ensures in
     let mark : c.in-Some.cuboid.mark ≡ c.args.mark = sym (ap (λ (s : StoredCuboid). s.mark) said) ∙ has.2 in
@@ -77,7 +77,7 @@ pub returns-clause-refused : goal.returns-clause-refused
 returns-clause-refused g c = λ is k w represents rooted same has.
     let found = sym c.in-Some.is ∙ c.cuboid_of.ensures in
     let said = said_is w c.args.view c.cuboids.result.now c.index.result c.in-Some.cuboid has.0
-    (c.cuboids.ensures ∙ ap (λ r. r.cuboids) rooted) c.index.ensures found has.1 in
+    (c.cuboids.ensures.value ∙ ap (λ r. r.cuboids) rooted) c.index.ensures found has.1 in
     let number : c.in-Some.cuboid.view ≡ index_of c.args.view =
     found_said c.cuboids.result.now c.index.result c.in-Some.cuboid (sym found) ∙ c.index.ensures in
     let mark : c.in-Some.cuboid.mark ≡ c.args.mark = sym (ap (λ (s : StoredCuboid). s.mark) said) ∙ has.2 in
@@ -104,3 +104,7 @@ returns-clause-reads g c =
 
 pub returns-clause-causes : goal.returns-clause-causes
 returns-clause-causes g c = IfErr-weaker c.add_cells.result _ _ of_counts c.add_cells.ensures.only
+
+pub returns-in_default-clause-reads : goal.returns-in_default-clause-reads
+returns-in_default-clause-reads g c =
+    reads_nothing g.D.Sectors g.met.D.Sectors.only_now c.args.store.now c.requires.fine _ (λ is. search rules)

@@ -8,7 +8,7 @@ use Rattle.planned_queries.proofs.planning.stored_in.Goals.{in-Some+in_ok-push, 
 
 pub loop-cuboid-preserved : goal.loop-cuboid-preserved
 loop-cuboid-preserved c = λ w rooted.
-    let entries : c.cuboids-cuboids.result.now ≡ map said_of w.cuboids = c.cuboids-cuboids.ensures
+    let entries : c.cuboids-cuboids.result.now ≡ map said_of w.cuboids = c.cuboids-cuboids.ensures.value
     ∙ ap (λ r. r.cuboids) rooted in
     let next = seen_so_far w.cuboids c.cuboids-cuboids.result.now c.loop-cuboid.cuboid-index _
     c.loop-cuboid.stored.items entries c.loop-cuboid-test.true (c.loop-cuboid.invariant w rooted) in

@@ -1,5 +1,6 @@
 use Rattle.report_merge.proofs.LawsLemmas.{written_texts_can_be_merged}
+use Rattle.partial_reports.proofs.MergeLaws.{answers_merge, partial_answers_suffice}
 use Rattle.report_merge.proofs.laws.written_texts_can_be_merged.Goals as goal
 
 pub returns : goal.returns
-returns c = written_texts_can_be_merged c.answers_merge.ensures c.partial_answers_suffice.ensures
+returns c = written_texts_can_be_merged answers_merge partial_answers_suffice

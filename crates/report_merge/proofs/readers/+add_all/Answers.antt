@@ -4,6 +4,7 @@ use Rattle.std.proofs.lemmas.Result.{IfOk-weaker}
 use Rattle.report_merge.specs.declared.refused.Unmerged.{Unmerged}
 use Rattle.report_merge.specs.Mergeable.{CanAdd, IsOutside}
 use Rattle.report_merge.proofs.ReadersLemmas.{can_next, first_more, no_more, split}
+use Rattle.report_merge.proofs.Refusing.{partial_reports_are_of_one_part}
 use Rattle.report_merge.proofs.readers.+add_all.Goals as goal
 
 pub returns-in-Ok-clause-ok : goal.returns-in-Ok-clause-ok
@@ -29,7 +30,7 @@ returns-in-Ok-clause-complete g t c = λ texts e can.
     let s = split g.R.Read.remaining c.args.readers.items c.remove-reader.new.self.items c.remove-reader.result texts
     some c.remove-reader.ensures.value c.remove-reader.ensures.items e in
     c.add_all.ensures.complete s.others s.more
-    (can_next c.partial_reports_are_of_one_part.ensures s.text s.others texts c.args.merge c.in-Ok.merge s.are can
+    (can_next partial_reports_are_of_one_part s.text s.others texts c.args.merge c.in-Ok.merge s.are can
     (c.in-Ok.ensures.ok s.text s.one))
 
 pub returns-in-Err-clause-complete : goal.returns-in-Err-clause-complete

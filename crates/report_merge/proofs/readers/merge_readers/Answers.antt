@@ -4,6 +4,7 @@ use Rattle.std.proofs.lemmas.Result.{IfOk-weaker}
 use Rattle.report_merge.specs.declared.refused.Unmerged.{Unmerged}
 use Rattle.report_merge.specs.Mergeable.{CanMerge, IsOutside}
 use Rattle.report_merge.proofs.ReadersLemmas.{all_merged, can_first, no_texts, split}
+use Rattle.report_merge.proofs.Refusing.{partial_reports_are_of_one_part}
 use Rattle.report_merge.proofs.readers.merge_readers.Goals as goal
 
 pub returns-in-Ok-clause-ok : goal.returns-in-Ok-clause-ok
@@ -23,7 +24,7 @@ returns-in-Ok-clause-complete g c = λ texts e can.
     let s = split g.R.Read.remaining c.args.readers.items c.remove-reader.new.self.items c.remove-reader.result texts
     some c.remove-reader.ensures.value c.remove-reader.ensures.items e in
     c.add_all.ensures.complete s.others s.more
-    (can_first c.partial_reports_are_of_one_part.ensures s.text s.others texts c.in-Ok.merge s.are can
+    (can_first partial_reports_are_of_one_part s.text s.others texts c.in-Ok.merge s.are can
     (c.in-Ok.ensures.ok s.text s.one))
 
 pub returns-in-Err-clause-complete : goal.returns-in-Err-clause-complete

@@ -12,6 +12,7 @@ use Rattle.report_merge.proofs.Given.{spelled_if}
 use Rattle.report_merge.proofs.Refusing.{moded_words, unread_words, words_refused}
 use Rattle.report_merge.proofs.WordsLemmas.{after_agg, after_by, after_q, after_set, last_given, next_agg, next_by}
 use Rattle.report_merge.proofs.WordsLemmas.{next_q, next_set}
+use Rattle.query_words.proofs.Once.{spell_one_query}
 use Rattle.report_merge.proofs.words.query_of.Goals as goal
 
 pub returns-in_err-q-clause-refused : goal.returns-in_err-q-clause-refused
@@ -141,5 +142,5 @@ returns-clause-refused c =
     let after_set = c.in_ok-set.ensures.ok ∙ ap (λ (rest : List Word). word_if_any Set set ++ rest) after_by in
     let are = c.in_ok-q.ensures.ok ∙ ap (λ (rest : List Word). word_if_any Q q ++ rest) after_set in
     let read : SpellsProper words c.in_ok-asked.asked = rw c.as_slice.ensures.value at c.in_ok-asked.ensures in
-    moded_words c.words_spell_one_query.ensures c.plain_of.result c.args.words.now words c.in_ok-asked.asked are read.0
+    moded_words spell_one_query c.plain_of.result c.args.words.now words c.in_ok-asked.asked are read.0
     c.plain_of.ensures.refused

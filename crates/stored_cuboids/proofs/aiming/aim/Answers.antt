@@ -1,4 +1,4 @@
-use Rattle.std.proofs.Common.{[], refl, sym, ap, ◌∙◌, subst}
+use Rattle.std.proofs.Common.{[], refl, sym, ap, ◌∙◌, subst, inl}
 use Rattle.object_store.specs.Content.{Content}
 use Rattle.object_store.specs.Store as stores
 use Rattle.warehouse_root.specs.Root.{PlainRoot}
@@ -6,13 +6,15 @@ use Rattle.warehouse_objects.specs.Warehouse.{aimed}
 use Rattle.stored_cuboids.specs.Keeping.{StoreAt}
 use Rattle.stored_cuboids.proofs.Replaced.{before_at, before_leaves, generation_replaced, makes_target, replaced_at}
 use Rattle.stored_cuboids.proofs.Replaced.{replaced_causes, replaced_leaves}
+use Rattle.object_store.proofs.CallerLemmas.{leaves_now}
+use Rattle.stored_cuboids.proofs.LaterReads.{leaves_first}
 use Rattle.stored_cuboids.proofs.aiming.aim.Goals as goal
 
 pub returns-in-Ok-replace_root-clause-leaves : goal.returns-in-Ok-replace_root-clause-leaves
 returns-in-Ok-replace_root-clause-leaves g c w at =
     replaced_leaves g.D.Sectors c.args.store.now c.replace_root.new.store w (aimed w) c.args.root.now c.in-Ok.next [] at
     (makes_target (stores.content_of g.D.Sectors c.args.store.now) c.args.root.now c.in-Ok.next w c.batches.result.now
-    c.in-Ok.ensures.ok c.batches.ensures)
+    c.in-Ok.ensures.ok c.batches.ensures.value)
     c.replace_root.ensures.leaves
 
 pub returns-in-Ok-replace_root-clause-ok : goal.returns-in-Ok-replace_root-clause-ok
@@ -21,7 +23,7 @@ returns-in-Ok-replace_root-clause-ok g c w at =
     (sym c.in-Ok-replace_root.ensures.root)
     (replaced_at g.D.Sectors c.args.store.now c.replace_root.new.store w (aimed w) c.args.root.now c.in-Ok.next [] at
     (makes_target (stores.content_of g.D.Sectors c.args.store.now) c.args.root.now c.in-Ok.next w c.batches.result.now
-    c.in-Ok.ensures.ok c.batches.ensures)
+    c.in-Ok.ensures.ok c.batches.ensures.value)
     c.in-Ok-replace_root.ensures.fine c.replace_root.ensures.word c.in-Ok-replace_root.ensures.ok)
 
 pub returns-in-Ok-replace_root-clause-once : goal.returns-in-Ok-replace_root-clause-once
@@ -33,7 +35,7 @@ pub returns-in-Err-replace_root-clause-leaves : goal.returns-in-Err-replace_root
 returns-in-Err-replace_root-clause-leaves g c w at =
     replaced_leaves g.D.Sectors c.args.store.now c.replace_root.new.store w (aimed w) c.args.root.now c.in-Ok.next [] at
     (makes_target (stores.content_of g.D.Sectors c.args.store.now) c.args.root.now c.in-Ok.next w c.batches.result.now
-    c.in-Ok.ensures.ok c.batches.ensures)
+    c.in-Ok.ensures.ok c.batches.ensures.value)
     c.replace_root.ensures.leaves
 
 pub returns-in-Err-replace_root-clause-refused : goal.returns-in-Err-replace_root-clause-refused
@@ -43,13 +45,25 @@ returns-in-Err-replace_root-clause-refused g c cause w at =
           (sym c.in-Err-replace_root.ensures.kept)
           (before_at g.D.Sectors c.args.store.now c.replace_root.new.store w c.args.root.now at same),
       before_leaves g.D.Sectors c.args.store.now c.replace_root.new.store w c.args.root.now at same
-          (c.is_broken-usable.ensures.leaves at.fine),
+          (leaves_now g.D.Sectors g.met.D.Sectors.only_now c.args.store.now at.fine),
     )
 
 pub returns-in-Err-replace_root-clause-causes : goal.returns-in-Err-replace_root-clause-causes
 returns-in-Err-replace_root-clause-causes g c cause w at k =
     replaced_causes g.D.Sectors c.args.store.now c.replace_root.new.store w (aimed w) c.args.root.now c.in-Ok.next [] at
     (makes_target (stores.content_of g.D.Sectors c.args.store.now) c.args.root.now c.in-Ok.next w c.batches.result.now
-    c.in-Ok.ensures.ok c.batches.ensures)
+    c.in-Ok.ensures.ok c.batches.ensures.value)
     [] c.in-Err-replace_root.fault (λ same. refl)
     (c.replace_root.ensures.word k) (c.in-Err-replace_root.ensures.causes cause)
+
+pub returns-in-Err-clause-leaves : goal.returns-in-Err-clause-leaves
+returns-in-Err-clause-leaves g c w at =
+    leaves_first g.D.Sectors g.met.D.Sectors.only_now c.args.store.now w c.args.root.now at _
+    (λ content represents. inl represents)
+
+pub returns-in-Err-clause-refused : goal.returns-in-Err-clause-refused
+returns-in-Err-clause-refused g c other w at = (
+  at,
+  leaves_first g.D.Sectors g.met.D.Sectors.only_now c.args.store.now w c.args.root.now at _
+      (λ content represents. represents),
+)

@@ -7,12 +7,13 @@ use Rattle.lattice.specs.Views.{index_of}
 use Rattle.warehouse_root.specs.Layouts.{view_count}
 use Rattle.warehouse_objects.specs.Warehouse.{ship_modes_of}
 use Rattle.stored_cuboids.proofs.Auditing.{is_grouping, not_too_many, which_large}
+use Rattle.cuboid_upkeep.proofs.LawsLemmas.{cells_are_the_one}
 use Rattle.stored_cuboids.proofs.audit.are_grouping.Goals as goal
 
 pub returns-in-Ok-clause-answer : goal.returns-in-Ok-clause-answer
 returns-in-Ok-clause-answer g c = λ k w laid rooted same within.
     let view : c.in-Ok.own.view ≡ c.args.cells.now.view = c.in-Ok.ensures.view ∙ c.view.ensures.value in
-    let grouping = is_grouping c.cells_are_the_one.ensures w.rows (ship_modes_of w)
+    let grouping = is_grouping cells_are_the_one w.rows (ship_modes_of w)
     (all_rows (take c.args.mark w.batches)) c.in-Ok.own c.args.cells.now view (c.in-Ok.ensures.ok k w laid same) in (
       λ is. grouping.0 (sym c.as_slice.ensures ∙ c.are_same.ensures.0 is ∙ c.as_slice-in-Ok.ensures),
       λ represent. c.are_same.ensures.1 (c.as_slice.ensures ∙ grouping.1 represent ∙ sym c.as_slice-in-Ok.ensures),
@@ -30,6 +31,6 @@ returns-in-Err-TooManyCells-clause-answer g c = λ k w laid rooted same within.
     c.view.ensures.value (c.cells_of_batches.ensures.large is k w laid rooted same own) in (
       λ is. absurd cc,
       λ represent. absurd
-          (not_too_many c.cells_are_the_one.ensures w.rows (ship_modes_of w) (all_rows (take c.args.mark w.batches))
+          (not_too_many cells_are_the_one w.rows (ship_modes_of w) (all_rows (take c.args.mark w.batches))
           c.args.cells.now c.view.ensures.proper many represent),
     )

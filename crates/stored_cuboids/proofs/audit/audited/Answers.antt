@@ -14,6 +14,8 @@ use Rattle.warehouse_objects.proofs.Folded.{err_fault}
 use Rattle.warehouse_objects.proofs.OneMoreRead.{has_read, reads_more, same_error, still_then, then_reads}
 use Rattle.stored_cuboids.specs.Merged.{IsSound}
 use Rattle.stored_cuboids.proofs.Auditing.{found_there, said_there}
+use Rattle.object_store.specs.Sourced.{still_here}
+use Rattle.object_store.proofs.CallerLemmas.{leaves_now}
 use Rattle.stored_cuboids.proofs.audit.audited.Goals as goal
 
 pub loop-cuboid-preserved : goal.loop-cuboid-preserved
@@ -33,7 +35,7 @@ loop-cuboid-preserved g c =
           (λ not_before.
           let is : index ≡ j = omega (arith, not_before, lt) in
           let here : index < length w.cuboids = omega (arith, is, within) in
-          let entries : c.cuboids-cuboid-items.result.now ≡ map said_of w.cuboids = c.cuboids-cuboid-items.ensures
+          let entries : c.cuboids-cuboid-items.result.now ≡ map said_of w.cuboids = c.cuboids-cuboid-items.ensures.value
           ∙ ap (λ r. r.cuboids) rooted in
           let there = subst (λ (x : Content). IsLaidOut x w) (sym (so_far.still.content (still.word k))) laid in
           let answer = c.in_ok-sound.ensures.answer k w (get_or w.cuboids index d) there rooted same
@@ -50,7 +52,7 @@ returns-in_err-sound-clause-refused g c =
     let content = content_of g.D.Sectors c.args.store.now in
     let index : ℕ = c.loop-cuboid.cuboid-index in
     let word = c.in_err-sound.ensures.reads.leaves.word k in
-    let entries : c.cuboids-cuboid-items.result.now ≡ map said_of w.cuboids = c.cuboids-cuboid-items.ensures
+    let entries : c.cuboids-cuboid-items.result.now ≡ map said_of w.cuboids = c.cuboids-cuboid-items.ensures.value
     ∙ ap (λ r. r.cuboids) rooted in
     let here : index < length w.cuboids =
     omega (
@@ -79,7 +81,7 @@ returns-then-not-sound-clause-answer g c = λ k w laid rooted same.
     let content = content_of g.D.Sectors c.args.store.now in
     let index : ℕ = c.loop-cuboid.cuboid-index in
     let word = c.in_ok-sound.ensures.reads.leaves.word k in
-    let entries : c.cuboids-cuboid-items.result.now ≡ map said_of w.cuboids = c.cuboids-cuboid-items.ensures
+    let entries : c.cuboids-cuboid-items.result.now ≡ map said_of w.cuboids = c.cuboids-cuboid-items.ensures.value
     ∙ ap (λ r. r.cuboids) rooted in
     let here : index < length w.cuboids =
     omega (
@@ -105,3 +107,11 @@ returns-then-not-sound-clause-reads g c =
     c.loop-cuboid.invariant.leaves
     (has_read g.D.Sectors c.loop-cuboid.store c.is_sound.new.store _ (λ is. cc)
     (c.in_ok-sound.ensures.reads.stays (λ is. cc)) c.in_ok-sound.ensures.reads.leaves)
+
+pub loop-cuboid-init : goal.loop-cuboid-init
+loop-cuboid-init g c = record {
+  fine = c.requires.fine;
+  still = still_here g.D.Sectors c.args.store.now;
+  leaves = leaves_now g.D.Sectors g.met.D.Sectors.only_now c.args.store.now c.requires.fine;
+  own = λ word w laid rooted members k d none within. absurd (omega (arith, none));
+}

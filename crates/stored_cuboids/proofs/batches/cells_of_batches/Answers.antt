@@ -22,6 +22,8 @@ use Rattle.warehouse_objects.proofs.OneMoreRead.{has_read, reads_more, same_erro
 use Rattle.cuboid_upkeep.specs.Growing.{grown}
 use Rattle.stored_cuboids.proofs.BatchesLemmas.{too_many_of, unfit, its_members, many_then, never_bad, none_represent}
 use Rattle.stored_cuboids.proofs.BatchesLemmas.{own_modes, count_here, between, none_between, one_more}
+use Rattle.cuboid_upkeep.proofs.LawsLemmas.{more_rows_have_no_fewer_cells, rows_have_cells, rows_in_range_fit}
+use Rattle.object_store.proofs.CallerLemmas.{leaves_now}
 use Rattle.stored_cuboids.proofs.batches.cells_of_batches.Goals as goal
 
 pub loop-before-init : goal.loop-before-init
@@ -31,7 +33,7 @@ loop-before-init g c =
     c.in_ok-cells.ensures.none in record {
       fine = c.requires.fine;
       still = search rules;
-      leaves = c.is_broken-usable.ensures.leaves c.requires.fine;
+      leaves = leaves_now g.D.Sectors g.met.D.Sectors.only_now c.args.store.now c.requires.fine;
       view = ap (λ (cells : PlainCells). cells.view) c.in_ok-cells.ensures.none;
       some = ([], represent);
       own = λ k w laid. subst
@@ -98,7 +100,7 @@ returns-in_err-add_batch-clause-large g c =
     let high : before < to = omega (arith, c.loop-before-test.true) in
     let low : from ≤ before = omega arith in
     let got = get_within w.batches before (omega (arith, high, within)) in
-    let many = ap (λ (l : List ℕ). get_or l before 0) (c.batches-batches.ensures ∙ ap (λ r. r.batches) rooted)
+    let many = ap (λ (l : List ℕ). get_or l before 0) (c.batches-batches.ensures.value ∙ ap (λ r. r.batches) rooted)
     ∙ count_here w.batches before got.0 got.1 in
     let why = c.in_err-add_batch.ensures.refused
     (λ device. let no_fault : Device ≡ TooManyCells (index_of view) = sym device ∙ large in cc) k w there got.0
@@ -107,8 +109,8 @@ returns-in_err-add_batch-clause-large g c =
     subst (λ (v : View). IsAddFault c.args.dims.now c.args.modes.now v (between w.batches from before ++ got.0) fault)
     so_far.view why in
     many_then w.rows (ship_modes_of w) w.batches laid.batches view
-    (own_modes w.layout (all_rows w.batches) view laid.modes below) from to within c.rows_have_cells.ensures
-    c.more_rows_have_no_fewer_cells.ensures before got.0 high low got.1
+    (own_modes w.layout (all_rows w.batches) view laid.modes below) from to within rows_have_cells
+    more_rows_have_no_fewer_cells before got.0 high low got.1
     (its_members w c.args.dims.now c.args.modes.now same (λ (rows : DimRows) (modes : List (List ℕ)).
     HaveTooMany rows modes view (between w.batches from before ++ got.0))
     (too_many_of c.args.dims.now c.args.modes.now view (between w.batches from before ++ got.0) fault why_here large)))
@@ -130,7 +132,7 @@ returns-in_err-add_batch-clause-refused g c =
     let lt : before < length w.batches = omega (arith, c.loop-before-test.true, c.requires.few, lengths) in
     let low : from ≤ before = omega arith in
     let got = get_within w.batches before lt in
-    let many = ap (λ (l : List ℕ). get_or l before 0) (c.batches-batches.ensures ∙ ap (λ r. r.batches) rooted)
+    let many = ap (λ (l : List ℕ). get_or l before 0) (c.batches-batches.ensures.value ∙ ap (λ r. r.batches) rooted)
     ∙ count_here w.batches before got.0 got.1 in
     let why = c.in_err-add_batch.ensures.refused (λ device. let no_fault : Device ≡ BadLayout = sym device ∙ bad in cc)
     k w there got.0 got.1 many (between w.batches from before) (so_far.own word w laid) in
@@ -141,7 +143,7 @@ returns-in_err-add_batch-clause-refused g c =
     fault why bad) in
     never_bad w.rows (ship_modes_of w) w.batches laid.batches view
     (own_modes w.layout (all_rows w.batches) view laid.modes below) from (before + 1) (omega (arith, lt))
-    c.rows_in_range_fit.ensures before got.0 (sym (add-one before)) low got.1
+    rows_in_range_fit before got.0 (sym (add-one before)) low got.1
     (its_members w c.args.dims.now c.args.modes.now same (λ (rows : DimRows) (modes : List (List ℕ)).
     AreUnfit rows modes view (between w.batches from before ++ got.0)) none))
 
@@ -177,7 +179,7 @@ returns-in_err-cells-clause-refused g c =
 
 pub returns-in_err-cells-clause-reads : goal.returns-in_err-cells-clause-reads
 returns-in_err-cells-clause-reads g c = record {
-  leaves = c.is_broken-usable.ensures.leaves c.requires.fine;
+  leaves = leaves_now g.D.Sectors g.met.D.Sectors.only_now c.args.store.now c.requires.fine;
   stays = search rules;
   device = let p = err_from_is_err_and c.from_residual.result c.from_residual.ensures.1 in
       rw (p.1, p.2) (λ is. let none : Memory ≡ Device = sym c.in_err-cells.ensures.memory

@@ -14,12 +14,13 @@ use Rattle.warehouse_objects.specs.Loaded.{IsLoaded}
 use Rattle.warehouse_objects.proofs.Folded.{err_fault}
 use Rattle.stored_cuboids.proofs.LaterReads.{at_before, at_still, loaded_before, loaded_still}
 use Rattle.stored_cuboids.proofs.Turns.{same}
+use Rattle.object_store.proofs.CallerLemmas.{leaves_now}
 use Rattle.stored_cuboids.proofs.bringing.bring_on.Goals as goal
 
 pub returns-then-target-cuboid-clause-leaves : goal.returns-then-target-cuboid-clause-leaves
 returns-then-target-cuboid-clause-leaves g c w at rows =
     read_leaves g.D.Sectors c.args.store.now c.args.store.now c.args.root.now w at
-    (c.is_broken-usable.ensures.leaves c.requires.fine)
+    (leaves_now g.D.Sectors g.met.D.Sectors.only_now c.args.store.now c.requires.fine)
 
 pub returns-then-target-cuboid-clause-stays : goal.returns-then-target-cuboid-clause-stays
 returns-then-target-cuboid-clause-stays g c other w at rows = (w, same w, at)

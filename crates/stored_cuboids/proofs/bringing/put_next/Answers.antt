@@ -1,4 +1,4 @@
-use Rattle.std.proofs.Common.{◌⊎◌, sym, subst, arith}
+use Rattle.std.proofs.Common.{◌⊎◌, sym, subst, arith, inl}
 use Rattle.object_store.specs.Content.{Content}
 use Rattle.object_store.specs.Disk.{Leaves}
 use Rattle.object_store.specs.Store as stores
@@ -6,7 +6,7 @@ use Rattle.warehouse_objects.specs.Represents.{Represents}
 use Rattle.warehouse_objects.specs.Warehouse.{Warehouse}
 use Rattle.warehouse_objects.proofs.CallerLemmas.{few_objects}
 use Rattle.stored_cuboids.specs.Keeping.{StoreAt}
-use Rattle.stored_cuboids.proofs.LaterReads.{leaves_if}
+use Rattle.stored_cuboids.proofs.LaterReads.{leaves_if, leaves_first}
 use Rattle.stored_cuboids.proofs.bringing.put_next.Goals as goal
 
 pub returns-then-objects-ge-MOST_OBJECTS-clause-readable : goal.returns-then-objects-ge-MOST_OBJECTS-clause-readable
@@ -50,3 +50,9 @@ returns-in-Ok-clause-ok g c w v at by =
 
 pub returns-in-Ok-clause-loaded : goal.returns-in-Ok-clause-loaded
 returns-in-Ok-clause-loaded g c k rows modes is same = c.in-Ok.ensures.loaded k rows modes c.args.root.now is same
+
+pub returns-then-objects-ge-MOST_OBJECTS-clause-leaves :
+    goal.returns-then-objects-ge-MOST_OBJECTS-clause-leaves
+returns-then-objects-ge-MOST_OBJECTS-clause-leaves g c w v at brings =
+    leaves_first g.D.Sectors g.met.D.Sectors.only_now c.args.store.now w c.args.root.now at _
+    (λ content represents. inl represents)

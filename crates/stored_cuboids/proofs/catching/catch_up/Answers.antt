@@ -10,6 +10,7 @@ use Rattle.warehouse_objects.specs.Represents.{AreItsMembers, Represents, said_o
 use Rattle.warehouse_objects.proofs.Batches.{get_within}
 use Rattle.stored_cuboids.proofs.Turns.{AreReached, all_done, leaves_first, leaves_more, lower_reached, members_kept}
 use Rattle.stored_cuboids.proofs.Turns.{none_yet, one_more, same, still_reached, then_more}
+use Rattle.object_store.proofs.CallerLemmas.{leaves_now}
 use Rattle.stored_cuboids.proofs.catching.catch_up.Goals as goal
 
 pub loop-place-init : goal.loop-place-init
@@ -17,7 +18,7 @@ loop-place-init g c =
     let s = c.args.store.now in record {
       fine = c.requires.fine;
       failures = refl;
-      many = ap (λ (l : List _). length l) (sym c.cuboids-count.ensures);
+      many = ap (λ (l : List _). length l) (sym c.cuboids-count.ensures.value);
       word = λ k. k;
       loaded = λ k rows modes is. is;
       at = λ w at own. (w, same w, at, λ k. none_yet w);
@@ -26,7 +27,7 @@ loop-place-init g c =
           (leaves_weaker (λ (x : Content). x ≡ stores.content_of g.D.Sectors s) (λ (x : Content). Represents x w)
           (stores.disk_of g.D.Sectors s) (stores.disk_of g.D.Sectors s)
           (λ k x e. subst (λ (y : Content). Represents y w) (sym e) (at.represents k))
-          (c.is_broken-usable.ensures.leaves c.requires.fine));
+          (leaves_now g.D.Sectors g.met.D.Sectors.only_now c.args.store.now c.requires.fine));
     }
 
 -- as many cuboids as the root says

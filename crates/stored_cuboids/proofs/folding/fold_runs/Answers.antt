@@ -19,6 +19,7 @@ use Rattle.stored_cuboids.specs.Steps.{IsNextRun}
 use Rattle.stored_cuboids.specs.declared.reading.Progress.{Progress}
 use Rattle.stored_cuboids.proofs.CountedRuns.{can_count, counted_more, grouping}
 use Rattle.stored_cuboids.proofs.StoredRuns.{at_mark, can_read, none_left, none_read}
+use Rattle.object_store.proofs.CallerLemmas.{leaves_now}
 use Rattle.stored_cuboids.proofs.folding.fold_runs.Goals as goal
 
 pub loop-run-init : goal.loop-run-init
@@ -32,7 +33,7 @@ loop-run-init g c = record {
     failed = refl;
     failures = refl;
   };
-  leaves = c.is_broken-usable.ensures.leaves c.requires.fine;
+  leaves = leaves_now g.D.Sectors g.met.D.Sectors.only_now c.args.store.now c.requires.fine;
   over = c.requires.begun.over;
   query = refl;
   own = λ k w stored represents same found said. record {

@@ -10,6 +10,7 @@ use Rattle.warehouse_objects.specs.Warehouse.{kept}
 use Rattle.warehouse_objects.specs.Loaded.{IsLoaded}
 use Rattle.stored_cuboids.specs.Nexts.{first_run}
 use Rattle.stored_cuboids.proofs.KeepingLemmas.{after, few_one, loaded_next, next_leaves, refuses_same}
+use Rattle.warehouse_root.specs.Root.{IsRoot}
 use Rattle.stored_cuboids.proofs.keeping.keep_one.Goals as goal
 
 pub commit-requires-clause-root : goal.commit-requires-clause-root
@@ -62,7 +63,8 @@ returns-in-Ok-clause-loaded g c k rows modes root is same =
     c.as_slice-3.result.now c.number.result
     (subst (λ (d : List ℕ). All (λ i. first_run ≤ i) (next.id ∷ d)) (sym drops_are) c.requires.runs)
     next.root (c.number.ensures ∙ ap layout_number c.layout.ensures.value)
-    (c.as_slice-3.ensures.value ∙ c.requires.root.spelled) rows modes root same is)
+    (subst (λ (b : List ℕ). IsRoot b next.root) (sym c.as_slice-3.ensures.value) c.requires.root) rows modes root same
+    is)
 
 pub returns-in-Err-clause-causes : goal.returns-in-Err-clause-causes
 returns-in-Err-clause-causes g c device =

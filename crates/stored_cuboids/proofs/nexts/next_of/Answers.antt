@@ -20,6 +20,7 @@ use Rattle.warehouse_objects.proofs.OneMoreRead.{then_reads}
 use Rattle.stored_cuboids.specs.Nexts.{IsNextStep}
 use Rattle.stored_cuboids.proofs.Made.{next_weaker}
 use Rattle.stored_cuboids.proofs.NextsLemmas.{own_layout, whole_too_large}
+use Rattle.cuboid_upkeep.proofs.LawsLemmas.{more_rows_have_no_fewer_cells, rows_have_cells}
 use Rattle.stored_cuboids.proofs.nexts.next_of.Goals as goal
 
 pub returns-in-Ok-clause-reads : goal.returns-in-Ok-clause-reads
@@ -86,7 +87,7 @@ returns-in-Err-clause-large g c is k w stored represents has rows =
     (laid_of content w represents) has.root_is rows within in
     subst (λ (n : ℕ). HaveTooMany w.rows (ship_modes_of w) c.args.view (all_rows (take n w.batches))) target
     (subst (λ (v : View). HaveTooMany w.rows (ship_modes_of w) v (all_rows (take c.target.result w.batches))) (sym view)
-    (whole_too_large c.rows_have_cells.ensures c.more_rows_have_no_fewer_cells.ensures w stored has.holds span
+    (whole_too_large rows_have_cells more_rows_have_no_fewer_cells w stored has.holds span
     (ap (λ (s : StoredCuboid). s.mark) (sym has.said_is)) some
     (subst (λ (v : View). HaveTooMany w.rows (ship_modes_of w) v (rows_in w.batches span)) view tail)))
 

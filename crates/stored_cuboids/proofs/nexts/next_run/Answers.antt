@@ -1,4 +1,4 @@
-use Rattle.std.proofs.Common.{◌≤◌, ◌<◌, ◌++◌, ◌^◌, ℕ, List, length, take, Err, ap, subst, arith}
+use Rattle.std.proofs.Common.{◌≤◌, ◌<◌, ◌++◌, ◌^◌, ℕ, List, length, take, Err, ap, subst, arith, rules}
 use Rattle.std.proofs.lemmas.Result.{IfOk-weaker}
 use Rattle.cube_model.specs.declared.fault.Fault.{Fault}
 use Rattle.warehouse_objects.proofs.Folded.{err_fault}
@@ -10,6 +10,7 @@ use Rattle.warehouse_objects.specs.Warehouse.{ship_modes_of}
 use Rattle.warehouse_objects.specs.Represents.{rows_in}
 use Rattle.stored_cuboids.proofs.Made.{next_weaker}
 use Rattle.stored_cuboids.proofs.NextsLemmas.{count_of, whole_few, whole_in_range, whole_rows}
+use Rattle.warehouse_objects.proofs.OneMoreRead.{reads_nothing}
 use Rattle.stored_cuboids.proofs.nexts.next_run.Goals as goal
 
 pub returns-in-Ok-clause-ok : goal.returns-in-Ok-clause-ok
@@ -45,3 +46,7 @@ returns-in-Err-clause-refused g c is k w stored represents has represent =
     (whole_in_range w represents.batches span some within))
     (subst (λ (n : ℕ). length (all_rows (take n w.batches) ++ rows_in w.batches span) < 2 ^ 63) c.requires.from
     (whole_few w represents.batches span some within))
+
+pub returns-then-has_room-clause-reads : goal.returns-then-has_room-clause-reads
+returns-then-has_room-clause-reads g c =
+    reads_nothing g.D.Sectors g.met.D.Sectors.only_now c.args.store.now c.requires.fine _ (λ is. search rules)

@@ -1,4 +1,4 @@
-use Rattle.std.proofs.Common.{◌≤◌, List, ℕ, length, sym, ◌∙◌, subst, arith, ap}
+use Rattle.std.proofs.Common.{◌≤◌, List, ℕ, length, sym, ◌∙◌, subst, arith, ap, ◌≡◌, inl}
 use Rattle.wire.specs.Limits.{most_root_bytes}
 use Rattle.object_store.specs.Content.{Content}
 use Rattle.object_store.specs.Store as stores
@@ -6,6 +6,8 @@ use Rattle.warehouse_root.specs.Layouts.{layout_number}
 use Rattle.warehouse_root.proofs.CallerLemmas.{root_is_short}
 use Rattle.warehouse_objects.specs.Loaded.{IsLoaded}
 use Rattle.stored_cuboids.proofs.Replaced.{few_replaced, loaded_replaced, replaced_by}
+use Rattle.object_store.specs.Moments.{leaves_weaker}
+use Rattle.object_store.proofs.CallerLemmas.{leaves_now}
 use Rattle.stored_cuboids.proofs.replacing.replace_root.Goals as goal
 
 pub commit-requires-clause-root : goal.commit-requires-clause-root
@@ -27,5 +29,13 @@ returns-in-Ok-commit-clause-loaded g c k rows modes is =
     (c.as_slice.ensures.value ∙ c.in-Ok.ensures.ok.spelled)
     (c.number-layout.ensures ∙ ap layout_number c.layout.ensures.value) in
     subst (λ (x : Content). IsLoaded x rows modes c.args.next) (sym after)
-    (loaded_replaced before c.args.drops.now c.args.next c.requires.runs rows modes c.args.root.now c.requires.layout
+    (loaded_replaced before c.args.drops.now c.args.next c.requires.runs c.in-Ok.ensures.ok.proper rows modes
+    c.args.root.now c.requires.layout
     is)
+
+pub returns-in-Err-clause-leaves : goal.returns-in-Err-clause-leaves
+returns-in-Err-clause-leaves g c =
+    let store = c.args.store.now in
+    leaves_weaker (λ content. content ≡ stores.content_of g.D.Sectors store) _ (stores.disk_of g.D.Sectors store)
+    (stores.disk_of g.D.Sectors store) (λ k content is. inl is)
+    (leaves_now g.D.Sectors g.met.D.Sectors.only_now store c.requires.fine)

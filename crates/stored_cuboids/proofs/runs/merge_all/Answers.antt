@@ -11,6 +11,7 @@ use Rattle.warehouse_objects.proofs.Folded.{err_fault}
 use Rattle.warehouse_objects.proofs.OneMoreRead.{reads_more, same_error, still_then, then_reads}
 use Rattle.stored_cuboids.specs.Steps.{RunsAreMerged, MergesRun}
 use Rattle.stored_cuboids.proofs.StoredRuns.{at_mark, can_merge, has_merge, merged_with, none_left, none_merged}
+use Rattle.object_store.proofs.CallerLemmas.{leaves_now}
 use Rattle.stored_cuboids.proofs.runs.merge_all.Goals as goal
 
 pub loop-run-init : goal.loop-run-init
@@ -24,7 +25,7 @@ loop-run-init g c = record {
     failed = refl;
     failures = refl;
   };
-  leaves = c.is_broken-usable.ensures.leaves c.requires.fine;
+  leaves = leaves_now g.D.Sectors g.met.D.Sectors.only_now c.args.store.now c.requires.fine;
   view = ap (λ (p : PlainCells). p.view) c.empty-cells.ensures;
   own = λ k w stored laid found said.
       none_merged stored c.args.view c.empty-cells.result (record { end = 0; left = c.args.cuboid.cells })

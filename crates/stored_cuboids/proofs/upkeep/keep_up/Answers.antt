@@ -10,13 +10,14 @@ use Rattle.warehouse_objects.specs.Warehouse.{aimed}
 use Rattle.stored_cuboids.proofs.Turns.{kept_same}
 use Rattle.stored_cuboids.proofs.UpkeepLemmas.{all_whole, from_aimed, leaves_aimed, leaves_both, leaves_same}
 use Rattle.stored_cuboids.proofs.UpkeepLemmas.{members_aimed, memory_or, target_is, whole_by_root}
+use Rattle.object_store.proofs.CallerLemmas.{leaves_now}
 use Rattle.stored_cuboids.proofs.upkeep.keep_up.Goals as goal
 
 pub returns-then-are_whole-clause-leaves : goal.returns-then-are_whole-clause-leaves
 returns-then-are_whole-clause-leaves g c w at own =
     let s = c.args.store.now in
     leaves_same w (stores.content_of g.D.Sectors s) (stores.disk_of g.D.Sectors s) (stores.disk_of g.D.Sectors s)
-    at.represents (c.is_broken-usable.ensures.leaves c.requires.fine)
+    at.represents (leaves_now g.D.Sectors g.met.D.Sectors.only_now c.args.store.now c.requires.fine)
 
 pub returns-then-are_whole-clause-stays : goal.returns-then-are_whole-clause-stays
 returns-then-are_whole-clause-stays g c other w at own = (w, kept_same w, at)
@@ -26,8 +27,9 @@ returns-then-are_whole-clause-ok g c w at own = (
   w,
   kept_same w,
   at,
-  λ k. whole_by_root w c.args.root.now _ (at.root_is k) (ap (λ (l : List ℕ). length l) c.batches.ensures)
-      (subst (λ (l : List StoredCuboid). All (λ cuboid. cuboid.mark ≡ length c.batches.result.now) l) c.cuboids.ensures
+  λ k. whole_by_root w c.args.root.now _ (at.root_is k) (ap (λ (l : List ℕ). length l) c.batches.ensures.value)
+      (subst (λ (l : List StoredCuboid). All (λ cuboid. cuboid.mark ≡ length c.batches.result.now) l)
+      c.cuboids.ensures.value
       (c.are_whole.ensures.0 c.if-are_whole.true)),
 )
 

@@ -1,4 +1,4 @@
-use Rattle.std.proofs.Common.{◌≤◌, ℕ, List, All, sym, ap, ◌∙◌, subst}
+use Rattle.std.proofs.Common.{◌≤◌, ℕ, List, All, sym, ap, ◌∙◌, subst, inl}
 use Rattle.object_store.specs.Content.{Content}
 use Rattle.object_store.specs.Store as stores
 use Rattle.warehouse_root.specs.Root.{PlainRoot}
@@ -8,6 +8,8 @@ use Rattle.stored_cuboids.specs.Nexts.{first_run}
 use Rattle.stored_cuboids.specs.Replacing.{dropped_of}
 use Rattle.stored_cuboids.proofs.Replaced.{before_at, before_leaves, drops_high, generation_replaced, makes_views}
 use Rattle.stored_cuboids.proofs.Replaced.{replaced_at, replaced_causes, replaced_leaves, viewed_drops}
+use Rattle.object_store.proofs.CallerLemmas.{leaves_now}
+use Rattle.stored_cuboids.proofs.LaterReads.{leaves_first, loaded_or_before}
 use Rattle.stored_cuboids.proofs.viewing.set_views.Goals as goal
 
 pub replace_root-requires-clause-runs : goal.replace_root-requires-clause-runs
@@ -21,7 +23,7 @@ returns-in-Ok-replace_root-clause-leaves g c w at =
     c.args.root.now c.in-Ok-viewed.next c.as_slice.result.now at
     (makes_views (stores.content_of g.D.Sectors c.args.store.now) c.args.root.now c.in-Ok-viewed.next w c.args.views.now
     c.as_slice.result.now c.requires.few c.in-Ok-viewed.ensures.ok
-    (c.as_slice.ensures.value ∙ c.in-Ok.ensures.ok ∙ ap (dropped_of c.args.views.now) c.cuboids.ensures))
+    (c.as_slice.ensures.value ∙ c.in-Ok.ensures.ok ∙ ap (dropped_of c.args.views.now) c.cuboids.ensures.value))
     c.replace_root.ensures.leaves
 
 pub returns-in-Ok-replace_root-clause-ok : goal.returns-in-Ok-replace_root-clause-ok
@@ -32,7 +34,7 @@ returns-in-Ok-replace_root-clause-ok g c w at =
     c.in-Ok-viewed.next c.as_slice.result.now at
     (makes_views (stores.content_of g.D.Sectors c.args.store.now) c.args.root.now c.in-Ok-viewed.next w c.args.views.now
     c.as_slice.result.now c.requires.few c.in-Ok-viewed.ensures.ok
-    (c.as_slice.ensures.value ∙ c.in-Ok.ensures.ok ∙ ap (dropped_of c.args.views.now) c.cuboids.ensures))
+    (c.as_slice.ensures.value ∙ c.in-Ok.ensures.ok ∙ ap (dropped_of c.args.views.now) c.cuboids.ensures.value))
     c.in-Ok-replace_root.ensures.fine c.replace_root.ensures.word c.in-Ok-replace_root.ensures.ok)
 
 pub returns-in-Ok-replace_root-clause-once : goal.returns-in-Ok-replace_root-clause-once
@@ -46,7 +48,7 @@ returns-clause-leaves g c w at =
     c.args.root.now c.in-Ok-viewed.next c.as_slice.result.now at
     (makes_views (stores.content_of g.D.Sectors c.args.store.now) c.args.root.now c.in-Ok-viewed.next w c.args.views.now
     c.as_slice.result.now c.requires.few c.in-Ok-viewed.ensures.ok
-    (c.as_slice.ensures.value ∙ c.in-Ok.ensures.ok ∙ ap (dropped_of c.args.views.now) c.cuboids.ensures))
+    (c.as_slice.ensures.value ∙ c.in-Ok.ensures.ok ∙ ap (dropped_of c.args.views.now) c.cuboids.ensures.value))
     c.replace_root.ensures.leaves
 
 pub returns-clause-refused : goal.returns-clause-refused
@@ -56,7 +58,7 @@ returns-clause-refused g c cause w at =
           (sym c.in-Err-replace_root.ensures.kept)
           (before_at g.D.Sectors c.args.store.now c.replace_root.new.store w c.args.root.now at same),
       before_leaves g.D.Sectors c.args.store.now c.replace_root.new.store w c.args.root.now at same
-          (c.is_broken-usable.ensures.leaves at.fine),
+          (leaves_now g.D.Sectors g.met.D.Sectors.only_now c.args.store.now at.fine),
     )
 
 pub returns-clause-causes : goal.returns-clause-causes
@@ -65,8 +67,38 @@ returns-clause-causes g c cause w at k =
     c.args.root.now c.in-Ok-viewed.next c.as_slice.result.now at
     (makes_views (stores.content_of g.D.Sectors c.args.store.now) c.args.root.now c.in-Ok-viewed.next w c.args.views.now
     c.as_slice.result.now c.requires.few c.in-Ok-viewed.ensures.ok
-    (c.as_slice.ensures.value ∙ c.in-Ok.ensures.ok ∙ ap (dropped_of c.args.views.now) c.cuboids.ensures))
+    (c.as_slice.ensures.value ∙ c.in-Ok.ensures.ok ∙ ap (dropped_of c.args.views.now) c.cuboids.ensures.value))
     (dropped_ids w c.args.views.now) c.in-Err-replace_root.fault
-    (λ same. c.as_slice.ensures.value ∙ c.in-Ok.ensures.ok ∙ ap (dropped_of c.args.views.now) c.cuboids.ensures
+    (λ same. c.as_slice.ensures.value ∙ c.in-Ok.ensures.ok ∙ ap (dropped_of c.args.views.now) c.cuboids.ensures.value
     ∙ viewed_drops c.args.root.now w c.args.views.now same)
     (c.replace_root.ensures.word k) (c.in-Err-replace_root.ensures.causes cause)
+
+pub returns-in-Err-clause-leaves : goal.returns-in-Err-clause-leaves
+returns-in-Err-clause-leaves g c w at =
+    leaves_first g.D.Sectors g.met.D.Sectors.only_now c.args.store.now w c.args.root.now at _
+    (λ content represents. inl represents)
+
+pub returns-in-Err-clause-refused : goal.returns-in-Err-clause-refused
+returns-in-Err-clause-refused g c other w at = (
+  at,
+  leaves_first g.D.Sectors g.met.D.Sectors.only_now c.args.store.now w c.args.root.now at _
+      (λ content represents. represents),
+)
+
+pub returns-in-Err-viewed-clause-leaves : goal.returns-in-Err-viewed-clause-leaves
+returns-in-Err-viewed-clause-leaves g c w at =
+    leaves_first g.D.Sectors g.met.D.Sectors.only_now c.args.store.now w c.args.root.now at _
+    (λ content represents. inl represents)
+
+pub returns-in-Err-viewed-clause-refused : goal.returns-in-Err-viewed-clause-refused
+returns-in-Err-viewed-clause-refused g c other w at = (
+  at,
+  leaves_first g.D.Sectors g.met.D.Sectors.only_now c.args.store.now w c.args.root.now at _
+      (λ content represents. represents),
+)
+
+pub returns-clause-loaded : goal.returns-clause-loaded
+returns-clause-loaded g c =
+    loaded_or_before g.D.Sectors c.args.store.now c.replace_root.new.store c.args.root.now c.replace_root.new.root
+    c.replace_root.result c.replace_root.ensures.loaded c.replace_root.ensures.kept c.replace_root.ensures.refused
+    c.replace_root.ensures.device

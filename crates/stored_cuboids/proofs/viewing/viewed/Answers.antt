@@ -14,7 +14,7 @@ with_cuboids-requires-clause-few c =
     c.in_ok-cuboids.ensures.ok
     ∙ ap (λ (n : ℕ). said_below n c.args.views.now c.cuboids.result.now)
     (c.views.ensures ∙ ap view_count c.layout.ensures.value)
-    ∙ ap (said_with root.layout c.args.views.now) c.cuboids.ensures in
+    ∙ ap (said_with root.layout c.args.views.now) c.cuboids.ensures.value in
     subst (λ (l : List StoredCuboid). length l ≤ most_cuboids) (sym said)
     (said_few c.args.views.now root.cuboids root.layout c.requires.few)
 
@@ -25,7 +25,7 @@ with_cuboids-requires-clause-each c =
     c.in_ok-cuboids.ensures.ok
     ∙ ap (λ (n : ℕ). said_below n c.args.views.now c.cuboids.result.now)
     (c.views.ensures ∙ ap view_count c.layout.ensures.value)
-    ∙ ap (said_with root.layout c.args.views.now) c.cuboids.ensures in
+    ∙ ap (said_with root.layout c.args.views.now) c.cuboids.ensures.value in
     subst (λ (l : List StoredCuboid). All (IsProperCuboid root.layout (length root.batches)) l) (sym said)
     (said_each c.args.views.now root.cuboids root.layout (length root.batches) c.layout.ensures.proper.each)
 
@@ -36,6 +36,6 @@ with_cuboids-requires-clause-ascending c =
     c.in_ok-cuboids.ensures.ok
     ∙ ap (λ (n : ℕ). said_below n c.args.views.now c.cuboids.result.now)
     (c.views.ensures ∙ ap view_count c.layout.ensures.value)
-    ∙ ap (said_with root.layout c.args.views.now) c.cuboids.ensures in
+    ∙ ap (said_with root.layout c.args.views.now) c.cuboids.ensures.value in
     subst (λ (l : List StoredCuboid). ViewsAscend l) (sym said)
     (said_ascend c.args.views.now root.cuboids root.layout)

@@ -5,6 +5,7 @@ use Rattle.cube_model.specs.declared.fault.Fault.TheVariants.{BadLayout}
 use Rattle.object_store.specs.Store.{content_of}
 use Rattle.warehouse_objects.proofs.Folded.{err_fault}
 use Rattle.stored_rows.proofs.Rows.{never_none, none_said, rows_are}
+use Rattle.object_store.proofs.CallerLemmas.{leaves_now}
 use Rattle.stored_rows.proofs.reading.read_rows.Goals as goal
 
 pub returns-in-None-clause-rows : goal.returns-in-None-clause-rows
@@ -13,7 +14,7 @@ returns-in-None-clause-rows g c k w represents rooted =
 
 pub returns-in-None-clause-reads : goal.returns-in-None-clause-reads
 returns-in-None-clause-reads g c = record {
-  leaves = c.is_broken-usable.ensures.leaves c.requires.fine;
+  leaves = leaves_now g.D.Sectors g.met.D.Sectors.only_now c.args.store.now c.requires.fine;
   stays = search rules;
   device = search rules;
 }

@@ -12,13 +12,14 @@ use Rattle.warehouse_objects.proofs.OneMoreRead.{has_read, reads_more, same_erro
 use Rattle.stored_rows.specs.Gathered.{IsGathered}
 use Rattle.stored_rows.proofs.OneBatchMore.{all_gathered, all_refused}
 use Rattle.stored_rows.proofs.Rows.{never_said, only_memory, said_modes}
+use Rattle.object_store.proofs.CallerLemmas.{leaves_now}
 use Rattle.stored_rows.proofs.ship_modes.read_ship_modes.Goals as goal
 
 pub loop-before-init : goal.loop-before-init
 loop-before-init g c = record {
   fine = c.requires.fine;
   still = search rules;
-  leaves = c.is_broken-usable.ensures.leaves c.requires.fine;
+  leaves = leaves_now g.D.Sectors g.met.D.Sectors.only_now c.args.store.now c.requires.fine;
   own = λ k w represents rooted. c.none-gathered.ensures w.batches;
 }
 
@@ -32,9 +33,9 @@ returns-in_err-column-clause-refused g c =
     inl (only_memory fault c.in_err-column.ensures.causes other (λ bad.
     never_said (content_of g.D.Sectors c.loop-before.store) w
     (subst (λ (x : Content). Represents x w) (sym (so_far.still.content word)) represents) c.args.root.now rooted
-    c.layout-layout.ensures.proper c.loop-before.before
-    (omega (arith, c.loop-before-test.true, ap (λ (l : List ℕ). length l) c.batches-counts.ensures))
-    c.batches-counts.result.now c.batches-counts.ensures
+    c.batches-counts.ensures.proper c.loop-before.before
+    (omega (arith, c.loop-before-test.true, ap (λ (l : List ℕ). length l) c.batches-counts.ensures.value))
+    c.batches-counts.result.now c.batches-counts.ensures.value
     (c.in_err-column.ensures.refused (ap (λ (f : Fault). Err f) bad) k))))
 
 pub returns-in_err-column-clause-reads : goal.returns-in_err-column-clause-reads
@@ -52,8 +53,8 @@ returns-in_err-add-clause-refused g c =
     let word = c.in_ok-column.ensures.reads.leaves.word k in
     let there = said_modes (content_of g.D.Sectors c.loop-before.store) w
     (subst (λ (x : Content). Represents x w) (sym (so_far.still.content word)) represents) c.args.root.now rooted
-    c.layout-layout.ensures.proper c.loop-before.before
-    (omega (arith, c.loop-before-test.true, ap (λ (l : List ℕ). length l) c.batches-counts.ensures))
+    c.batches-counts.ensures.proper c.loop-before.before
+    (omega (arith, c.loop-before-test.true, ap (λ (l : List ℕ). length l) c.batches-counts.ensures.value))
     c.in_ok-column.column (c.in_ok-column.ensures.modes k) in
     ⊎_elim (λ memory. inl memory)
     (λ cause. inr (cause w.batches c.loop-before.before there.0 refl there.1 there.2
@@ -93,8 +94,8 @@ loop-before-preserved g c =
           let word = still.word k in
           let there = said_modes (content_of g.D.Sectors c.loop-before.store) w
           (subst (λ (x : Content). Represents x w) (sym (so_far.still.content word)) represents) c.args.root.now rooted
-          c.layout-layout.ensures.proper c.loop-before.before
-          (omega (arith, c.loop-before-test.true, ap (λ (l : List ℕ). length l) c.batches-counts.ensures))
+          c.batches-counts.ensures.proper c.loop-before.before
+          (omega (arith, c.loop-before-test.true, ap (λ (l : List ℕ). length l) c.batches-counts.ensures.value))
           c.in_ok-column.column (c.in_ok-column.ensures.modes k) in
           c.in_ok-add.ensures.ok w.batches c.loop-before.before there.0 refl there.1 there.2
           (so_far.own word w represents rooted);
@@ -107,7 +108,7 @@ returns-in-Some-clause-refused g c = λ other k w represents rooted.
       arith,
       c.loop-before-test.false,
       c.loop-before.auto.before-end,
-      ap (λ (l : List ℕ). length l) (c.batches-counts.ensures ∙ ap (λ (r : PlainRoot). r.batches) rooted),
+      ap (λ (l : List ℕ). length l) (c.batches-counts.ensures.value ∙ ap (λ (r : PlainRoot). r.batches) rooted),
       length-map w.batches length,
     ) in
     inr (all_refused w.batches c.loop-before.gathered
@@ -121,7 +122,7 @@ returns-in-None-clause-ok g c = λ k w represents rooted.
       arith,
       c.loop-before-test.false,
       c.loop-before.auto.before-end,
-      ap (λ (l : List ℕ). length l) (c.batches-counts.ensures ∙ ap (λ (r : PlainRoot). r.batches) rooted),
+      ap (λ (l : List ℕ). length l) (c.batches-counts.ensures.value ∙ ap (λ (r : PlainRoot). r.batches) rooted),
       length-map w.batches length,
     ) in
     all_gathered w.batches c.loop-before.gathered

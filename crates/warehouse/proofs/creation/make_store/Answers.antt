@@ -5,6 +5,8 @@ use Rattle.warehouse_root.specs.Root as roots
 use Rattle.warehouse_root.proofs.CallerLemmas.{root_is_short}
 use Rattle.warehouse_objects.specs.Lawful.{beginning_puts}
 use Rattle.warehouse.proofs.CreationLemmas.{few_at_first, makes_store, puts_are, refuses_to_make}
+use Rattle.cube_model.proofs.LawsLemmas.{valid_rows_keep_the_rules}
+use Rattle.warehouse_objects.proofs.Contents.{beginning_is_put, dimensions_are_puts}
 use Rattle.warehouse.proofs.creation.make_store.Goals as goal
 
 pub create-requires-clause-puts : goal.create-requires-clause-puts
@@ -19,7 +21,8 @@ create-requires-clause-puts g c =
     (c.as_slice.ensures.value ∙ is.customers) (c.as_slice-2.ensures.value ∙ is.suppliers)
     (c.as_slice-3.ensures.value ∙ is.parts) (c.as_slice-4.ensures.value ∙ is.dates)
     (c.as_slice-5.ensures.value ∙ is.modes) in
-    subst ArePuts (sym are) (c.kept_is_represented.ensures.puts c.args.layout)
+    subst ArePuts (sym are) (beginning_is_put c.args.dims.now.value
+    (dimensions_are_puts valid_rows_keep_the_rules c.args.dims.now.value is.storable) c.args.layout)
 
 pub create-requires-clause-root : goal.create-requires-clause-root
 create-requires-clause-root g c =
@@ -43,7 +46,7 @@ create-requires-clause-few g c =
     (c.as_slice-5.ensures.value ∙ is.modes) in
     let bytes_are : bytes ≡ roots.root_spelling b.root = c.as_slice-6.ensures.value ∙ is.spelled.spelled in
     few_at_first c.args.layout c.args.dims.now.value puts bytes c.number.result b.root
-    c.kept_is_represented.ensures.dims are
+    is.storable are
     is.root_is bytes_are c.number.ensures
 
 pub returns-clause-ok : goal.returns-clause-ok
@@ -61,7 +64,7 @@ returns-clause-ok g c =
     (c.as_slice-3.ensures.value ∙ is.parts) (c.as_slice-4.ensures.value ∙ is.dates)
     (c.as_slice-5.ensures.value ∙ is.modes) in
     let bytes_are : bytes ≡ roots.root_spelling b.root = c.as_slice-6.ensures.value ∙ is.spelled.spelled in
-    makes_store c.args.layout c.args.dims.now.value puts bytes c.number.result b.root c.kept_is_represented.ensures.dims
+    makes_store c.args.layout c.args.dims.now.value puts bytes c.number.result b.root is.storable
     are
     is.root_is bytes_are c.number.ensures g.D.Sectors c.args.device c.create.result
     c.create.ensures.leaves c.create.ensures.fine c.create.ensures.ok c.create.ensures.unformatted
@@ -82,7 +85,7 @@ returns-clause-refused g c =
     (c.as_slice-5.ensures.value ∙ is.modes) in
     let bytes_are : bytes ≡ roots.root_spelling b.root = c.as_slice-6.ensures.value ∙ is.spelled.spelled in
     refuses_to_make c.args.layout c.args.dims.now.value puts bytes c.number.result b.root
-    c.kept_is_represented.ensures.dims are
+    is.storable are
     is.root_is bytes_are c.number.ensures g.D.Sectors c.args.device c.create.result
     c.create.ensures.leaves_err c.create.ensures.still_blank c.create.ensures.not_already c.create.ensures.only
     c.create.ensures.spared c.create.ensures.device c.create.ensures.size c.create.ensures.full

@@ -3,8 +3,10 @@ use Rattle.cube_model.specs.declared.rows.DimRows.{DimRows}
 use Rattle.object_store.specs.Content.{Content}
 use Rattle.warehouse_root.specs.declared.layout.Layout.{Layout}
 use Rattle.warehouse_objects.specs.Represents.{HasModes, HasRows}
+use Rattle.warehouse_objects.specs.Warehouse.{AreStorable}
 use Rattle.object_store.specs.Store as stores
 use Rattle.warehouse_objects.proofs.OneMoreRead.{then_reads}
+use Rattle.object_store.proofs.CallerLemmas.{leaves_now}
 use Rattle.warehouse.proofs.opening.read.Goals as goal
 
 pub returns-clause-loaded : goal.returns-clause-loaded
@@ -20,7 +22,8 @@ returns-clause-loaded g c k =
       has_modes = subst (λ (l : Layout). HasModes content l c.in_ok-modes.modes) c.layout.ensures.value
           (c.in_ok-modes.ensures.ok (c.read_dims.ensures.reads.leaves.word k));
       are_modes = c.in_ok-modes.ensures.are;
-      root_bytes = c.in_ok-root.ensures.ok.spelled;
+      storable = subst AreStorable (sym c.in_ok-dims-2.ensures.ok) c.in_ok-dims.ensures.storable;
+      is_root = c.in_ok-root.ensures.ok;
     }
 
 pub returns-in_err-dims-clause-leaves : goal.returns-in_err-dims-clause-leaves
@@ -40,3 +43,7 @@ returns-clause-leaves g c =
     (then_reads g.D.Sectors c.args.store.now c.read_modes.new.store c.read_dims.new.store
     (c.in_ok-modes.ensures.reads.stays (λ is. cc)) _ c.requires.fine c.read_modes.ensures.reads.leaves
     c.read_dims.ensures.reads).leaves
+
+pub returns-in_err-root-clause-leaves : goal.returns-in_err-root-clause-leaves
+returns-in_err-root-clause-leaves g c =
+    leaves_now g.D.Sectors g.met.D.Sectors.only_now c.args.store.now c.requires.fine

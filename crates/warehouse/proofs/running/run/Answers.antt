@@ -9,6 +9,7 @@ use Rattle.warehouse.specs.Running.{Phase, at, broken, none_running, RanAll}
 use Rattle.warehouse.specs.Slots.{HoldsWith}
 use Rattle.warehouse.proofs.Whole.{take_next, whole}
 use Rattle.warehouse.proofs.RunningLemmas.{ran_more, runs_on, begins_with, session_holds}
+use Rattle.warehouse.proofs.SessionLemmas.{leaves_at}
 use Rattle.warehouse.proofs.running.run.Goals as goal
 
 pub loop-command-init : goal.loop-command-init
@@ -98,7 +99,7 @@ returns-clause-found g c w holds k =
     (subst (λ (commands : List Command). RanAll g.D.Sectors c.args.session.now (at w) commands
     c.loop-command.replies.items c.loop-command.session all.0)
     (take_all c.loop-command.command-index c.args.commands.now (omega (arith, c.loop-command-test.false))) all.1)
-    (c.is_broken-broken.ensures.leaves w holds)
+    (leaves_at g.D.Sectors g.met.D.Sectors.only_now c.args.session.now w holds)
 
 pub returns-clause-failed : goal.returns-clause-failed
 returns-clause-failed g c failed =

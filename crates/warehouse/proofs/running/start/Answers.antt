@@ -4,13 +4,14 @@ use Rattle.warehouse.specs.declared.command.Command.TheVariants.{Start}
 use Rattle.warehouse.specs.declared.command.Reply.TheVariants.{Done}
 use Rattle.warehouse.specs.Slots.{DoesWith}
 use Rattle.warehouse.proofs.RunningLemmas.{start_beyond, start_done, start_refused}
+use Rattle.warehouse.proofs.SessionLemmas.{leaves_at}
 use Rattle.warehouse.proofs.running.start.Goals as goal
 
 pub returns-then-from-ge-MOST_RUNNING-clause-ran : goal.returns-then-from-ge-MOST_RUNNING-clause-ran
 returns-then-from-ge-MOST_RUNNING-clause-ran g c w started at are of k =
     let s = c.args.session.now in
     start_beyond g.D.Sectors s s w started c.args.slots.now.queries.items c.args.slot are of c.args.as_of
-    c.args.query.now (c.is_broken-broken.ensures.leaves w at)
+    c.args.query.now (leaves_at g.D.Sectors g.met.D.Sectors.only_now c.args.session.now w at)
     (omega (arith, c.from.ensures, c.if-from-ge-MOST_RUNNING.true)) (λ word. refl) at
 
 pub returns-in-Ok-clause-ran : goal.returns-in-Ok-clause-ran

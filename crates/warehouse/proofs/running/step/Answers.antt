@@ -8,6 +8,7 @@ use Rattle.warehouse.specs.declared.stepping.Stepped.{Stepped}
 use Rattle.warehouse.specs.Slots.{DoesWith}
 use Rattle.warehouse.specs.Stepping.{StepsTo, refused_by}
 use Rattle.warehouse.proofs.RunningLemmas.{step_done, step_more, step_none, step_refused}
+use Rattle.warehouse.proofs.SessionLemmas.{leaves_at}
 use Rattle.warehouse.proofs.running.step.Goals as goal
 
 pub returns-in_default-clause-ran : goal.returns-in_default-clause-ran
@@ -16,7 +17,8 @@ returns-in_default-clause-ran g c w started at are of k =
     subst (λ (l : List (Option RunningState)). DoesWith g.D.Sectors s w started (Step c.args.slot) (Refused NotRunning)
     s l) (sym c.take.ensures.empty)
     (step_none g.D.Sectors s s w started c.args.slots.now.queries.items c.args.slot are of
-    (c.is_broken-broken.ensures.leaves w at) (sym c.take.ensures.taken ∙ c.in_default.is) (λ word. refl) at)
+    (leaves_at g.D.Sectors g.met.D.Sectors.only_now c.args.session.now w at)
+    (sym c.take.ensures.taken ∙ c.in_default.is) (λ word. refl) at)
 
 pub returns-in-More-clause-ran : goal.returns-in-More-clause-ran
 returns-in-More-clause-ran g c w started at are of k =

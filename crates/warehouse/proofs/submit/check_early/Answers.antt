@@ -13,7 +13,7 @@ more-requires c =
 pub returns-in-Some-clause-model : goal.returns-in-Some-clause-model
 returns-in-Some-clause-model c = λ batches has.
     let few : length c.args.rows.now ≤ most_batch_rows = omega (arith, c.if-rows-gt-MOST_BATCH_ROWS.false) in
-    sym c.in-Some.is ∙ c.early_cause.ensures
+    sym c.in-Some.is ∙ c.early_cause.ensures.cause
     ∙ ap (λ (f : Found). first_cause (f.long_text ∷ f.unknown_key ∷ []))
     (c.more.ensures c.args.admission.now.totals [] (c.findings.ensures.found c.args.dims.now))
     ∙ early_found c.args.dims.now batches c.args.admission.now.count c.args.number c.args.rows.now has.count
@@ -22,7 +22,7 @@ returns-in-Some-clause-model c = λ batches has.
 pub returns-in-None-clause-model : goal.returns-in-None-clause-model
 returns-in-None-clause-model c = λ batches has.
     let few : length c.args.rows.now ≤ most_batch_rows = omega (arith, c.if-rows-gt-MOST_BATCH_ROWS.false) in
-    sym c.in-None.is ∙ c.early_cause.ensures
+    sym c.in-None.is ∙ c.early_cause.ensures.cause
     ∙ ap (λ (f : Found). first_cause (f.long_text ∷ f.unknown_key ∷ []))
     (c.more.ensures c.args.admission.now.totals [] (c.findings.ensures.found c.args.dims.now))
     ∙ early_found c.args.dims.now batches c.args.admission.now.count c.args.number c.args.rows.now has.count

@@ -11,13 +11,14 @@ use Rattle.warehouse_objects.proofs.Batches.{get_within}
 use Rattle.std.proofs.lemmas.Result.{err_from_is_err_and}
 use Rattle.warehouse_objects.proofs.OneMoreRead.{has_read, reads_more, same_error, still_then, then_reads}
 use Rattle.warehouse_check.proofs.Loop.{count_in, here_at, none_of, own_next, so_far_next, so_far_none}
+use Rattle.object_store.proofs.CallerLemmas.{leaves_now}
 use Rattle.warehouse_check.proofs.batches.check_batches.Goals as goal
 
 pub loop-said-init : goal.loop-said-init
 loop-said-init g c = record {
   fine = c.requires.fine;
   still = search rules;
-  leaves = c.is_broken-usable.ensures.leaves c.requires.fine;
+  leaves = leaves_now g.D.Sectors g.met.D.Sectors.only_now c.args.store.now c.requires.fine;
   so_far = so_far_none _ _ _ _ _ c.new-admission.ensures;
   own = λ k w laid rooted same. c.new-admission.ensures;
 }
@@ -42,7 +43,7 @@ returns-then-is_some-clause-found g c = λ is k w laid rooted same.
     let so_far = c.loop-said.invariant in
     let index : ℕ = c.loop-said.said-index in
     let word = c.in_ok-found.ensures.reads.leaves.word k in
-    let items : c.batches-said-items.result.now ≡ map length w.batches = c.batches-said-items.ensures
+    let items : c.batches-said-items.result.now ≡ map length w.batches = c.batches-said-items.ensures.value
     ∙ ap (λ r. r.batches) rooted in
     let lt : index < length (map length w.batches) =
     omega (arith, c.loop-said-test.true, ap (λ (l : List ℕ). length l) items) in
@@ -69,11 +70,11 @@ loop-said-preserved g c =
           (content_of g.D.Sectors first) (content_of g.D.Sectors was)
           c.args.dims.now c.args.root.now.batches index _ c.loop-said.admission c.check_batch.new.admission still.word
           (λ k. so_far.still.content (still.word k))
-          (ap (λ (l : List ℕ). slice_get l index) (sym c.batches-said-items.ensures)
+          (ap (λ (l : List ℕ). slice_get l index) (sym c.batches-said-items.ensures.value)
           ∙ here_at c.batches-said-items.result.now index _ c.loop-said-test.true)
           so_far.so_far (c.in_ok-found.ensures.sound none so_far.so_far.batches so_far.so_far.represent);
       own = λ k w laid rooted same.
-          let items : c.batches-said-items.result.now ≡ map length w.batches = c.batches-said-items.ensures
+          let items : c.batches-said-items.result.now ≡ map length w.batches = c.batches-said-items.ensures.value
           ∙ ap (λ r. r.batches) rooted in
           let within : index < length w.batches =
           omega (arith, c.loop-said-test.true, ap (λ (l : List ℕ). length l) items, length-map w.batches length) in
@@ -86,7 +87,7 @@ pub returns-clause-found : goal.returns-clause-found
 returns-clause-found g c = λ is k w laid rooted same.
     let so_far = c.loop-said.invariant in
     let index : ℕ = c.loop-said.said-index in
-    let items : c.batches-said-items.result.now ≡ map length w.batches = c.batches-said-items.ensures
+    let items : c.batches-said-items.result.now ≡ map length w.batches = c.batches-said-items.ensures.value
     ∙ ap (λ r. r.batches) rooted in
     let ends : length w.batches ≤ index =
     omega (arith, c.loop-said-test.false, ap (λ (l : List ℕ). length l) items, length-map w.batches length) in

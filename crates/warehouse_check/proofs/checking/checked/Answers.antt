@@ -1,11 +1,13 @@
-use Rattle.std.proofs.Common.{sym, subst}
+use Rattle.std.proofs.Common.{sym, subst, rules}
 use Rattle.std.proofs.lemmas.Result.{IfOk-weaker, err_from_is_err_and}
 use Rattle.object_store.specs.Content.{Content}
 use Rattle.object_store.specs.Store.{IsStill, content_of}
 use Rattle.warehouse_objects.specs.Represents.{IsLaidOut}
 use Rattle.warehouse_objects.proofs.CallerLemmas.{laid_of}
-use Rattle.warehouse_objects.proofs.OneMoreRead.{has_read, reads_more, same_error, still_then, then_reads}
+use Rattle.warehouse_objects.proofs.OneMoreRead.{has_read, reads_more, reads_nothing, same_error, still_then}
+use Rattle.warehouse_objects.proofs.OneMoreRead.{then_reads}
 use Rattle.warehouse_check.proofs.Loop.{never_both}
+use Rattle.stored_cuboids.proofs.Represented.{kept_cuboids_are_sound}
 use Rattle.warehouse_check.proofs.checking.checked.Goals as goal
 
 pub returns-in_err-has_own_ship_modes-clause-reads : goal.returns-in_err-has_own_ship_modes-clause-reads
@@ -47,7 +49,7 @@ returns-clause-found g c =
     let there =
     subst (λ (x : Content). IsLaidOut x w) (sym (still.content (c.check_cuboids.ensures.reads.leaves.word k)))
     (laid_of content w represents) in
-    never_both found ((answer k w there rooted same).1 (c.kept_cuboids_are_sound.ensures content w represents)) is)
+    never_both found ((answer k w there rooted same).1 (kept_cuboids_are_sound content w represents)) is)
     c.check_cuboids.ensures.answer
 
 pub returns-clause-refused : goal.returns-clause-refused
@@ -69,3 +71,11 @@ returns-clause-reads g c =
     (c.in_ok-has_own_ship_modes.ensures.reads.stays (λ is. cc))) c.check_cuboids.result c.requires.fine
     (reads_more g.D.Sectors c.args.store.now c.check_batches.new.store c.has_own_ship_modes.new.store still
     c.check_batches.ensures.reads.leaves c.has_own_ship_modes.ensures.reads.leaves) c.check_cuboids.ensures.reads
+
+pub returns-in_err-has_its_objects-clause-reads : goal.returns-in_err-has_its_objects-clause-reads
+returns-in_err-has_its_objects-clause-reads g c =
+    reads_nothing g.D.Sectors g.met.D.Sectors.only_now c.args.store.now c.requires.fine _ (λ is. search rules)
+
+pub returns-then-not-branch-clause-reads : goal.returns-then-not-branch-clause-reads
+returns-then-not-branch-clause-reads g c =
+    reads_nothing g.D.Sectors g.met.D.Sectors.only_now c.args.store.now c.requires.fine _ (λ is. search rules)

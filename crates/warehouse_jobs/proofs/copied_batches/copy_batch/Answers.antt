@@ -1,4 +1,4 @@
-use Rattle.std.proofs.Common.{Err, ap, subst, sym}
+use Rattle.std.proofs.Common.{subst}
 use Rattle.std.proofs.lemmas.Result.{IfErr-weaker, err_from_is_err_and}
 use Rattle.warehouse_objects.proofs.Folded.{ok_so}
 use Rattle.warehouse_objects.specs.Warehouse.{Warehouse}
@@ -7,6 +7,7 @@ use Rattle.warehouse_jobs.specs.Copied.{with_first}
 use Rattle.warehouse_jobs.proofs.CopyCauses.{memory_or_device}
 use Rattle.warehouse_jobs.proofs.CopiedParts.{leaves_part, never_missing, next_first, numbered_here, submit_fault}
 use Rattle.warehouse_jobs.proofs.CopiedParts.{submit_leaves}
+use Rattle.warehouse.proofs.SessionLemmas.{leaves_at}
 use Rattle.warehouse_jobs.proofs.copied_batches.copy_batch.Goals as goal
 
 pub returns-in_err-found-clause-from_stays : goal.returns-in_err-found-clause-from_stays
@@ -16,7 +17,8 @@ returns-in_err-found-clause-from_stays g c =
 
 pub returns-in_err-found-clause-leaves : goal.returns-in_err-found-clause-leaves
 returns-in_err-found-clause-leaves g c w from to k =
-    leaves_part w c.args.before _ _ (c.is_broken-written.ensures.leaves (with_first w c.args.before) to)
+    leaves_part w c.args.before _ _
+    (leaves_at g.E.Sectors g.met.E.Sectors.only_now c.args.to.now (with_first w c.args.before) to)
 
 pub returns-in_err-found-clause-refused : goal.returns-in_err-found-clause-refused
 returns-in_err-found-clause-refused g c =
@@ -27,7 +29,8 @@ returns-in_err-found-clause-refused g c =
 
 pub returns-in-None-clause-leaves : goal.returns-in-None-clause-leaves
 returns-in-None-clause-leaves g c w from to k =
-    leaves_part w c.args.before _ _ (c.is_broken-written.ensures.leaves (with_first w c.args.before) to)
+    leaves_part w c.args.before _ _
+    (leaves_at g.E.Sectors g.met.E.Sectors.only_now c.args.to.now (with_first w c.args.before) to)
 
 pub returns-in-None-clause-refused : goal.returns-in-None-clause-refused
 returns-in-None-clause-refused g c w from lt to k word =

@@ -1,12 +1,13 @@
-use Rattle.std.proofs.Common.{Err, ◌<◌, ◌∙◌, length, ap, subst, sym, arith}
+use Rattle.std.proofs.Common.{◌<◌, length, subst, arith}
 use Rattle.std.proofs.lemmas.Result.{err_from_is_err_and}
 use Rattle.object_store.specs.Content.{Content}
 use Rattle.object_store.specs.Moments.{leaves_then}
 use Rattle.warehouse_objects.specs.Represents.{Represents}
 use Rattle.warehouse_objects.specs.Warehouse.{Warehouse}
-use Rattle.warehouse.specs.Session.{IsAt, disk_of}
+use Rattle.warehouse.specs.Session.{IsAt}
 use Rattle.warehouse_jobs.specs.Copied.{HoldsPart, with_first}
 use Rattle.warehouse_jobs.proofs.CopiedParts.{all_first, leaves_part}
+use Rattle.warehouse.proofs.SessionLemmas.{leaves_at}
 use Rattle.warehouse_jobs.proofs.copied_batches.copy_batches.Goals as goal
 
 pub loop-before-init : goal.loop-before-init
@@ -14,9 +15,10 @@ loop-before-init g c = record {
   from_word = λ k. k;
   word = λ k. k;
   from_at = λ w from. from;
-  from_leaves = λ w from. c.is_broken-read.ensures.leaves w from;
+  from_leaves = λ w from. leaves_at g.D.Sectors g.met.D.Sectors.only_now c.args.from.now w from;
   at = λ w from to k. to;
-  leaves = λ w from to k. leaves_part w 0 _ _ (c.is_broken-written.ensures.leaves (with_first w 0) to);
+  leaves = λ w from to k. leaves_part w 0 _ _
+      (leaves_at g.E.Sectors g.met.E.Sectors.only_now c.args.to.now (with_first w 0) to);
 }
 
 pub loop-before-preserved : goal.loop-before-preserved

@@ -1,21 +1,23 @@
-use Rattle.std.proofs.Common.{◌≡◌, true, false, ⊎_elim, length, sym, ap, subst, ◌∙◌, Err, arith}
+use Rattle.std.proofs.Common.{length, ◌∙◌}
 use Rattle.std.proofs.lemmas.Result.{IfErr-weaker, err_from_is_err_and}
-use Rattle.cube_model.specs.declared.fault.Fault.TheVariants.{Memory}
 use Rattle.warehouse_objects.proofs.Folded.{ok_so}
 use Rattle.warehouse.specs.Session.{content_of}
 use Rattle.warehouse_jobs.specs.Copied.{with_first}
-use Rattle.warehouse_jobs.proofs.CopyCauses.{is_fault, views_fault}
+use Rattle.warehouse_jobs.proofs.CopyCauses.{views_fault}
 use Rattle.warehouse_jobs.proofs.CopiedCuboidsLemmas.{is_copy, said_are, views_leave}
 use Rattle.warehouse_jobs.proofs.CopiedParts.{leaves_part}
+use Rattle.warehouse.proofs.SessionLemmas.{leaves_at}
 use Rattle.warehouse_jobs.proofs.copied_cuboids.copy_cuboids.Goals as goal
 
 pub returns-in_err-status-clause-leaves : goal.returns-in_err-status-clause-leaves
 returns-in_err-status-clause-leaves g c w to =
-    leaves_part w (length w.batches) _ _ (c.is_broken-written.ensures.leaves (with_first w (length w.batches)) to)
+    leaves_part w (length w.batches) _ _
+    (leaves_at g.E.Sectors g.met.E.Sectors.only_now c.args.to.now (with_first w (length w.batches)) to)
 
 pub returns-in_err-views-clause-leaves : goal.returns-in_err-views-clause-leaves
 returns-in_err-views-clause-leaves g c w to =
-    leaves_part w (length w.batches) _ _ (c.is_broken-written.ensures.leaves (with_first w (length w.batches)) to)
+    leaves_part w (length w.batches) _ _
+    (leaves_at g.E.Sectors g.met.E.Sectors.only_now c.args.to.now (with_first w (length w.batches)) to)
 
 pub returns-in_err-views-clause-refused : goal.returns-in_err-views-clause-refused
 returns-in_err-views-clause-refused g c =

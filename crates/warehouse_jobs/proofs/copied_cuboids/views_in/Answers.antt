@@ -1,6 +1,7 @@
 use Rattle.std.proofs.Common.{◌+◌, [], ◌∷◌, length, length-append, inr, sym, ap, subst, arith}
 use Rattle.std.proofs.lemmas.Result.{err_from_is_err_and}
 use Rattle.warehouse_jobs.proofs.CopiedCuboidsLemmas.{AreFirst, first_all, first_more, never_high}
+use Rattle.lattice.proofs.LawsLemmas.{indexes_name_views}
 use Rattle.warehouse_jobs.proofs.copied_cuboids.views_in.Goals as goal
 
 pub returns-in_err-view-in-Some-clause-refused : goal.returns-in_err-view-in-Some-clause-refused
@@ -29,5 +30,5 @@ loop-place-preserved c =
       first = λ stored are. subst (AreFirst stored (c.loop-place.place + 1)) (sym items)
           (first_more stored c.args.cuboids.now are c.loop-place.place (omega (arith, c.loop-place-test.true))
           c.loop-place.views.items (so_far.first stored are) c.in-Some.said view c.in-Some.is found
-          c.indexes_name_views.ensures);
+          indexes_name_views);
     }

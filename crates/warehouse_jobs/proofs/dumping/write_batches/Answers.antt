@@ -4,13 +4,14 @@ use Rattle.object_store.specs.Content.{Content}
 use Rattle.object_store.specs.Moments.{leaves_then}
 use Rattle.warehouse_objects.specs.Represents.{Represents}
 use Rattle.warehouse_jobs.proofs.DumpingLemmas.{all_written, nothing_written, refused_next, written_next}
+use Rattle.warehouse.proofs.SessionLemmas.{leaves_at}
 use Rattle.warehouse_jobs.proofs.dumping.write_batches.Goals as goal
 
 pub loop-before-init : goal.loop-before-init
 loop-before-init g c = record {
   word = λ k. k;
   at = λ w at. at;
-  leaves = λ w at. c.is_broken-usable.ensures.leaves w at;
+  leaves = λ w at. leaves_at g.D.Sectors g.met.D.Sectors.only_now c.args.session.now w at;
   written = λ w at k. nothing_written (g.W.Write.contents c.args.out.now);
 }
 

@@ -1,5 +1,6 @@
-use Rattle.std.proofs.Common.{Err, ◌≡◌, ◌+◌, ◌<◌, ℕ, List, ◌++◌, length, take, get_or, sym, ◌∙◌, ap, subst, add-one}
-use Rattle.std.proofs.Common.{arith}
+use Rattle.std.proofs.Common.{rules, Err, ◌≡◌, ◌+◌, ◌<◌, ℕ, List, ◌++◌, length, take, get_or, sym, ◌∙◌, ap, subst}
+use Rattle.std.proofs.Common.{add-one}
+use Rattle.std.proofs.Common.{arith, refl}
 use Rattle.std.proofs.lemmas.List.{length-map}
 use Rattle.std.proofs.lemmas.Result.{err_from_is_err_and}
 use Rattle.cube_model.specs.Admission.{all_rows}
@@ -13,7 +14,9 @@ use Rattle.cube_query.specs.Groups.{RepresentsRows}
 use Rattle.warehouse_objects.specs.Represents.{Represents}
 use Rattle.warehouse_objects.proofs.Batches.{get_within, rows_next}
 use Rattle.warehouse_objects.proofs.Folded.{count_there, err_fault, own_foldable}
-use Rattle.warehouse_objects.proofs.OneMoreRead.{reads_more, same_error, still_then, then_reads}
+use Rattle.warehouse_objects.proofs.OneMoreRead.{reads_more, same_error, still_then, then_reads, reads_nothing}
+use Rattle.object_store.specs.Sourced.{still_here}
+use Rattle.object_store.proofs.CallerLemmas.{leaves_now}
 use Rattle.warehouse_objects.proofs.folding.fold_batches.Goals as goal
 
 pub add_batch-requires-clause-over : goal.add_batch-requires-clause-over
@@ -59,7 +62,7 @@ returns-in_err-add_batch-clause-refused g c =
     omega (arith, c.loop-before-test.true, c.requires.few, lengths) in
     let got = get_within w.batches c.loop-before.before lt in
     let many = ap (λ (l : List ℕ). get_or l c.loop-before.before 0)
-    (c.batches-batches.ensures ∙ ap (λ r. r.batches) rooted)
+    (c.batches-batches.ensures.value ∙ ap (λ r. r.batches) rooted)
     ∙ count_there (content_of g.D.Sectors c.args.store.now) w represents c.loop-before.before got.0 got.1 in
     c.in_err-add_batch.ensures.refused (ap (λ (f : Fault). Err f) (err_fault c.in_err-add_batch.field-0.0 BadLayout is))
     k w (subst (λ (x : Content). Represents x w) (sym (so_far.still.content word)) represents) got.0 got.1 many
@@ -79,3 +82,24 @@ returns-clause-ok g c k w represents begun =
     omega (arith, c.loop-before-test.false, c.loop-before.auto.before-end) in
     subst (λ (n : ℕ). RepresentsRows c.args.dims.now c.loop-before.fold (all_rows (take n w.batches))) ends
     (c.loop-before.invariant.own k w represents begun)
+
+pub returns-in_err-columns-clause-reads : goal.returns-in_err-columns-clause-reads
+returns-in_err-columns-clause-reads g c =
+    let p = err_from_is_err_and c.from_residual.result c.from_residual.ensures.1 in
+    let memory = c.in_err-columns.ensures.memory in
+    rw (p.1, p.2) (reads_nothing g.D.Sectors g.met.D.Sectors.only_now c.args.store.now c.requires.fine _
+    (λ is. absurd cc))
+
+pub returns-in_err-buffer-clause-reads : goal.returns-in_err-buffer-clause-reads
+returns-in_err-buffer-clause-reads g c =
+    reads_nothing g.D.Sectors g.met.D.Sectors.only_now c.args.store.now c.requires.fine _ (λ is. search rules)
+
+pub loop-before-init : goal.loop-before-init
+loop-before-init g c = record {
+  fine = c.requires.fine;
+  still = still_here g.D.Sectors c.args.store.now;
+  leaves = leaves_now g.D.Sectors g.met.D.Sectors.only_now c.args.store.now c.requires.fine;
+  query = refl;
+  over = c.requires.over;
+  own = λ k w represents begun. begun;
+}

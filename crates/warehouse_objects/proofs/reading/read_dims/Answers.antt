@@ -6,6 +6,8 @@ use Rattle.object_store.specs.Store.{content_of}
 use Rattle.warehouse_objects.proofs.ReadingLemmas.{first_two_there, rows_found, rows_refused, rows_there}
 use Rattle.warehouse_objects.proofs.Folded.{err_fault}
 use Rattle.warehouse_objects.proofs.OneMoreRead.{then_reads}
+use Rattle.cube_model.proofs.LawsLemmas.{valid_rows_keep_the_rules}
+use Rattle.warehouse_objects.proofs.Contents.{rows_one}
 use Rattle.warehouse_objects.proofs.reading.read_dims.Goals as goal
 
 pub returns-in_err-customers-clause-refused : goal.returns-in_err-customers-clause-refused
@@ -39,7 +41,7 @@ returns-clause-found g c =
       two.1
           ∙ ap (λ (l : List ℕ). Some l) (sym c.deref-2.ensures.value),
     ))
-    c.rows_are_one.ensures c.read_others.result c.read_others.ensures.ok c.read_others.ensures.storable
+    (rows_one valid_rows_keep_the_rules) c.read_others.result c.read_others.ensures.ok c.read_others.ensures.storable
 
 pub returns-clause-refused : goal.returns-clause-refused
 returns-clause-refused g c is =

@@ -1,4 +1,4 @@
-use Rattle.std.proofs.Common.{◌+◌, ◌<◌, Err, take, sym, ap, subst, arith}
+use Rattle.std.proofs.Common.{◌+◌, ◌<◌, Err, take, sym, ap, subst, arith, rules}
 use Rattle.std.proofs.lemmas.Result.{err_from_is_err_and}
 use Rattle.cube_model.specs.Admission.{all_rows}
 use Rattle.cube_model.specs.declared.fault.Fault.{Fault}
@@ -8,6 +8,7 @@ use Rattle.cube_query.specs.Groups.{RepresentsRows}
 use Rattle.warehouse_objects.proofs.Folded.{err_fault}
 use Rattle.planned_queries.specs.Stepping.{IsRunning, RunningState}
 use Rattle.planned_queries.proofs.SteppingLemmas.{can_finish, folds_first, next_foldable, next_is_there, next_step}
+use Rattle.warehouse_objects.proofs.OneMoreRead.{reads_nothing}
 use Rattle.planned_queries.proofs.stepping.Running.advance.Goals as goal
 
 pub returns-in_err-found-clause-refused : goal.returns-in_err-found-clause-refused
@@ -49,3 +50,11 @@ returns-clause-steps g c k w represents rooted s extends running =
     next_step state w s extends own c.fold_batch.new.fold lt c.in_ok-fold_batch.ensures.query
     (subst (λ (d : DimRows). RepresentsRows d c.fold_batch.new.fold (all_rows (take (inside.done + 1) w.batches)))
     c.deref-2.ensures (c.in_ok-fold_batch.ensures.ok k w represents begun))
+
+pub returns-in_err-found-clause-reads : goal.returns-in_err-found-clause-reads
+returns-in_err-found-clause-reads g c =
+    reads_nothing g.D.Sectors g.met.D.Sectors.only_now c.args.store.now c.requires.fine _ (λ is. search rules)
+
+pub returns-then-self-clause-reads : goal.returns-then-self-clause-reads
+returns-then-self-clause-reads g c =
+    reads_nothing g.D.Sectors g.met.D.Sectors.only_now c.args.store.now c.requires.fine _ (λ is. search rules)

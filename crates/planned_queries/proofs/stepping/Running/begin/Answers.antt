@@ -1,4 +1,4 @@
-use Rattle.std.proofs.Common.{◌≡◌, ◌∙◌, ◌≤◌, ℕ, length, take, refl, sym, ap, subst, arith}
+use Rattle.std.proofs.Common.{◌≡◌, ◌∙◌, ◌≤◌, ℕ, length, take, refl, sym, ap, subst, arith, rules}
 use Rattle.std.proofs.lemmas.List.{length-map}
 use Rattle.cube_model.specs.Admission.{all_rows}
 use Rattle.cube_model.specs.declared.query.Query.{Query}
@@ -7,6 +7,7 @@ use Rattle.cube_query.specs.Groups.{Begins, RepresentsRows}
 use Rattle.planned_queries.specs.Planned.{IsPlanOf}
 use Rattle.planned_queries.proofs.Cuboids.{members_in}
 use Rattle.planned_queries.proofs.SteppingLemmas.{begun}
+use Rattle.warehouse_objects.proofs.OneMoreRead.{reads_nothing}
 use Rattle.planned_queries.proofs.stepping.Running.begin.Goals as goal
 
 pub begin_fold-requires-clause-begins : goal.begin_fold-requires-clause-begins
@@ -34,3 +35,7 @@ returns-clause-begun g c k w represents rooted same =
     )
     (shared ∙ same.rows) (c.in_ok-done.ensures.query ∙ c.get-query.ensures.query) refl c.in_ok-done.ensures.in_time
     there represents.batches
+
+pub returns-in_err-fold-clause-reads : goal.returns-in_err-fold-clause-reads
+returns-in_err-fold-clause-reads g c =
+    reads_nothing g.D.Sectors g.met.D.Sectors.only_now c.args.store.now c.requires.fine _ (λ is. search rules)

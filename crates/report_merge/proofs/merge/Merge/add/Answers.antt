@@ -4,13 +4,14 @@ use Rattle.report_merge.specs.contracts.merge.Merge.{the_view}
 use Rattle.report_merge.specs.Merging.{AddsPart, Part}
 use Rattle.report_merge.specs.Refusals.{RefusesAdding}
 use Rattle.report_merge.proofs.Grown.{added}
-use Rattle.report_merge.proofs.Refusing.{add_memory, add_whole}
+use Rattle.report_merge.proofs.Refusing.{add_memory, add_whole, partial_reports_are_of_one_part}
+use Rattle.partial_reports.proofs.HeadTexts.{heads_read_back}
 use Rattle.report_merge.proofs.merge.Merge.add.Goals as goal
 
 pub returns-in_err-numbers-clause-complete : goal.returns-in_err-numbers-clause-complete
 returns-in_err-numbers-clause-complete c = λ other is alike apart.
     let p = err_from_is_err_and c.from_residual.result c.from_residual.ensures.1 in
-    rw p.1 (add_memory c.heads_read_back.ensures c.args.self other c.args.text.now p.0
+    rw p.1 (add_memory heads_read_back c.args.self other c.args.text.now p.0
     (subst (RefusesAdding c.args.self c.args.text.now) (sym p.2) c.in_err-numbers.ensures.refused) is alike apart)
 
 pub returns-clause-complete : goal.returns-clause-complete
@@ -25,4 +26,4 @@ returns-clause-complete c = λ other is alike apart.
       lines = c.in_ok-lines.lines;
     }) in
     let adds : AddsPart c.args.self c.args.text.now next = search (rules, added) in
-    add_whole c.partial_reports_are_of_one_part.ensures c.args.self other next c.args.text.now adds is
+    add_whole partial_reports_are_of_one_part c.args.self other next c.args.text.now adds is

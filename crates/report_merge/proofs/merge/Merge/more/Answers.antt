@@ -12,6 +12,7 @@ use Rattle.report_merge.specs.Refusals.{RefusesAdding, BeginsWith, IsUnlike, Num
 use Rattle.report_merge.proofs.Given.{one_query}
 use Rattle.report_merge.proofs.Grown.{one_more}
 use Rattle.report_merge.proofs.Refusing.{add_numbers, add_unlike, add_unread, answer_read}
+use Rattle.query_words.proofs.Once.{spell_one_query}
 use Rattle.report_merge.proofs.merge.Merge.more.Goals as goal
 
 pub returns-in_err-read-clause-refused : goal.returns-in_err-read-clause-refused
@@ -106,7 +107,7 @@ returns-in_err-answer-clause-refused c =
     let words : other.head.words ≡ inside.head.words = sym (ap (λ (head : Head). head.words) heads.0)
     ∙ c.in_ok-check_alike.ensures.words in
     let query : other.query ≡ inside.query =
-    one_query c.words_spell_one_query.ensures inside.head.words other.query inside.query
+    one_query spell_one_query inside.head.words other.query inside.query
     (subst (λ (list : List Word). SpellsWords list other.query) words is.words) c.self.invariant.words in
     let whole = answer_read c.args.text.now other inside.query inside.partial read.report.now is query
     c.self.invariant.partial_is heads.2 in

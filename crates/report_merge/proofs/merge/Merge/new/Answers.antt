@@ -8,7 +8,7 @@ use Rattle.ssb_reports.specs.Report.{report_of}
 use Rattle.report_merge.specs.Merging.{SpellsWords}
 use Rattle.report_merge.specs.Refusals.{WordsRefuse, refused_of}
 use Rattle.report_merge.proofs.Grown.{first_kept, first_report}
-use Rattle.report_merge.proofs.Refusing.{answer_read, new_unread, new_words, words_memory}
+use Rattle.report_merge.proofs.Refusing.{answer_read, new_unread, new_words, words_memory, partial_reports_are_of_one_part}
 use Rattle.report_merge.proofs.merge.Merge.new.Goals as goal
 
 pub returns-in_err-head-clause-complete : goal.returns-in_err-head-clause-complete
@@ -113,7 +113,7 @@ returns-clause-complete c = λ part is.
     let read = c.in_ok-head.field-0 in
     let digest : IsDigest read.digest =
     record { size = c.check_digest.ensures.size; bytes = c.check_digest.ensures.bytes } in
-    c.partial_reports_are_of_one_part.ensures c.args.text.now _ part
+    partial_reports_are_of_one_part c.args.text.now _ part
     (first_report c.args.text.now read.head read.digest c.in_ok-query.query c.in_ok-query.partial read.report.now
     c.in_ok-answer.answer c.in_ok-lines.lines.items
     c.in_ok-head.ensures.text c.in_ok-head.ensures.proper digest

@@ -11,9 +11,9 @@ pub returns-in-Some-clause-model : goal.returns-in-Some-clause-model
 returns-in-Some-clause-model c = λ w rows root_is grown.
     let many = ap (λ (f : Found). f.row_count) grown.found in
     let few : length rows ≤ most_batch_rows =
-    omega (arith, many, c.row_count-rows.ensures.count, c.row_count-rows.ensures.few) in
+    omega (arith, many, c.early_cause.ensures.few) in
     let refused : early_refusal w.rows w.batches c.args.number rows ≡ Some c.in-Some.fault =
-    sym (sym c.in-Some.is ∙ c.early_cause.ensures
+    sym (sym c.in-Some.is ∙ c.early_cause.ensures.cause
     ∙ ap (λ (f : Found). first_cause (f.long_text ∷ f.unknown_key ∷ [])) grown.found
     ∙ early_found w.rows w.batches c.admission_of.result.count c.args.number rows
     (c.admission_of.ensures.represents w root_is).count c.in_default.ensures.cause few) in

@@ -1,6 +1,7 @@
 use Rattle.std.proofs.Common.{inl}
 use Rattle.std.proofs.lemmas.Result.{err_from_is_err_and}
-use Rattle.warehouse.proofs.GrowingLemmas.{prepares-with, refused-with}
+use Rattle.warehouse.proofs.GrowingLemmas.{prepares-with, refused-with, prepared-is}
+use Rattle.batch_admission.proofs.CallerLemmas.{clean-texts}
 use Rattle.warehouse.proofs.growing.GrowingBatch.prepared.Goals as goal
 
 pub returns-in_err-totals-clause-model : goal.returns-in_err-totals-clause-model
@@ -19,3 +20,12 @@ returns-clause-model c = λ w rows root_is modes_are grown.
     (c.row_count.ensures.count w.rows c.args.root.now rows grown)
     (c.in_ok-totals.ensures.model w rows root_is grown.found) c.with_segment.ensures.more c.with_segment.ensures.root
     c.with_segment.ensures.memory
+
+pub returns-clause-ready : goal.returns-clause-ready
+returns-clause-ready c =
+    let batch = c.args.self.now in
+    prepared-is batch c.args.root.now c.args.number c.in_ok-segment.segment.items c.in_ok-more.more c.row_count.result
+    c.in_ok-totals.totals c.with_segment.result c.with_segment.ensures.segment c.with_segment.ensures.more
+    c.with_segment.ensures.root c.with_segment.ensures.spelled
+    (clean-texts batch.found c.in_ok-totals.ensures.clean) c.in_ok-segment.ensures.ok c.in_ok-totals.ensures.follows
+    c.in_ok-more.ensures.more

@@ -19,13 +19,12 @@ push-requires c =
 pub returns-then-has_long_text-clause-ok : goal.returns-then-has_long_text-clause-ok
 returns-then-has_long_text-clause-ok c = λ root before grown.
     grown-long c.args.dims.now root before c.args.rows.now c.args.self.now c.more-self.result grown
-    (c.more-self.ensures root.totals before grown.found) (search rules) c.numbers_fit.ensures
+    (c.more-self.ensures root.totals before grown.found) (search rules)
 
 pub returns-clause-ok : goal.returns-clause-ok
 returns-clause-ok c =
     on_ok_weaker c.push.result
     (λ pushed root before grown.
     grown-more c.args.dims.now root before c.args.rows.now c.args.self.now c.more-self.result grown
-    (c.more-self.ensures root.totals before grown.found) c.push.new.self (search rules) c.numbers_fit.ensures
-    (pushed before))
+    (c.more-self.ensures root.totals before grown.found) c.push.new.self (search rules) (pushed before))
     c.push.ensures.ok

@@ -1,6 +1,7 @@
 use Rattle.std.proofs.Common.{arith}
 use Rattle.warehouse_objects.proofs.CallerLemmas.{few_objects}
 use Rattle.warehouse.specs.Session.{content_of}
+use Rattle.warehouse.proofs.Cuboids.{represented_agrees}
 use Rattle.warehouse.proofs.session.Session.can_put.Goals as goal
 
 pub returns-then-objects-puts-gt-MOST_OBJECTS-clause-represents :
@@ -13,9 +14,9 @@ pub returns-then-objects-puts-gt-MOST_OBJECTS-clause-agrees :
     goal.returns-then-objects-puts-gt-MOST_OBJECTS-clause-agrees
 returns-then-objects-puts-gt-MOST_OBJECTS-clause-agrees g c w at k =
     let s = c.args.self.now in
-    c.kept_is_represented.ensures.agrees (content_of g.D.Sectors s) w s.modes (s.loaded at.fine k) (at.represents k)
+    represented_agrees (content_of g.D.Sectors s) w s.modes (s.loaded at.fine k) (at.represents k)
 
 pub returns-clause-agrees : goal.returns-clause-agrees
 returns-clause-agrees g c w at k =
     let s = c.args.self.now in
-    c.kept_is_represented.ensures.agrees (content_of g.D.Sectors s) w s.modes (s.loaded at.fine k) (at.represents k)
+    represented_agrees (content_of g.D.Sectors s) w s.modes (s.loaded at.fine k) (at.represents k)

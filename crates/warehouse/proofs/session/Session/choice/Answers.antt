@@ -11,13 +11,14 @@ use Rattle.warehouse.specs.Choosing.{choices_asked, counts_of, lattice_asked, me
 use Rattle.warehouse.specs.Session.{content_of}
 use Rattle.warehouse.proofs.Choices.{rows_at_most}
 use Rattle.warehouse.proofs.Preparing.{rows_together}
+use Rattle.warehouse.proofs.Cuboids.{represented_agrees}
 use Rattle.warehouse.proofs.session.Session.choice.Goals as goal
 
 pub of-requires : goal.of-requires
 of-requires g c =
-    let proper = c.kept_is_represented.ensures.root in
+    let proper = c.batches.ensures.proper in
     let total : c.row_total-rows.result ≡ sum_by (λ rows. rows) c.args.self.now.root.batches = c.row_total-rows.ensures
-    ∙ ap (λ (l : List ℕ). sum_by (λ rows. rows) l) c.batches.ensures in
+    ∙ ap (λ (l : List ℕ). sum_by (λ rows. rows) l) c.batches.ensures.value in
     record {
       rows = omega (arith, total, rows_at_most c.args.self.now.root.batches proper.rows, proper.most_batches);
       few = λ many. false≢true (c.if-are_too_many.ensures.1 many);
@@ -27,12 +28,12 @@ pub returns-in-Ok-clause-ok : goal.returns-in-Ok-clause-ok
 returns-in-Ok-clause-ok g c w at k =
     let s = c.args.self.now in
     let choice = c.in-Ok.choice in
-    let agree = c.kept_is_represented.ensures.agrees (content_of g.D.Sectors s) w s.modes (s.loaded at.fine k)
+    let agree = represented_agrees (content_of g.D.Sectors s) w s.modes (s.loaded at.fine k)
     (at.represents k) in
     let rows : c.row_total-rows.result ≡ length (all_rows w.batches)
     = c.row_total-rows.ensures
     ∙ ap (λ (l : List ℕ). sum_by (λ rows. rows) l)
-    (c.batches.ensures ∙ ap (λ (root : PlainRoot). root.batches) (sym agree.root_is)) ∙ rows_together w.batches in
+    (c.batches.ensures.value ∙ ap (λ (root : PlainRoot). root.batches) (sym agree.root_is)) ∙ rows_together w.batches in
     let rows_are : c.deref.result.now ≡ w.rows = c.deref.ensures ∙ sym agree.rows_are in
     let counted = c.ship_mode_count.ensures w at k in
     let counts : c.counts_of-counts.result ≡ counts_of w = c.counts_of-counts.ensures

@@ -1,7 +1,8 @@
-use Rattle.std.proofs.Common.{◌∙◌}
-use Rattle.warehouse.specs.Choosing.{IsChoiceFor}
+use Rattle.std.proofs.Common.{◌∙◌, List, inr, subst}
+use Rattle.warehouse.specs.Choosing.{IsChoiceFor, ViewsRefuse}
 use Rattle.warehouse.specs.Session.{disk_of}
 use Rattle.warehouse.proofs.Choices.{leaves_chosen}
+use Rattle.lattice.specs.declared.view.View.{View}
 use Rattle.warehouse.proofs.session.Session.choose_for.Goals as goal
 
 pub returns-in-Ok-set_views-clause-leaves : goal.returns-in-Ok-set_views-clause-leaves
@@ -17,3 +18,13 @@ returns-in-Err-set_views-clause-leaves g c w at =
     (IsChoiceFor w c.args.demanded.now c.args.k) c.in-Ok.choice.chosen.items c.as_slice.result.now
     (λ k. c.in-Ok.ensures.ok w at k) (c.as_slice.ensures.value ∙ c.in-Ok.ensures.views)
     (c.set_views.ensures.leaves w at)
+
+pub returns-in-Err-set_views-clause-causes : goal.returns-in-Err-set_views-clause-causes
+returns-in-Err-set_views-clause-causes g c other w at k =
+    let views = c.as_slice.ensures.value ∙ c.in-Ok.ensures.views in
+    inr (inr (
+      c.in-Ok.choice.chosen.items,
+      c.in-Ok.ensures.ok w at (c.set_views.ensures.calls.word k),
+      subst (λ (l : List View). ViewsRefuse g.D.Sectors c.args.self.now w l c.in-Err-set_views.fault) views
+          (c.in-Err-set_views.ensures.causes other w at k),
+    ))

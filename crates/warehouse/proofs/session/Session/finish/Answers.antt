@@ -16,18 +16,16 @@ invariant_of-self g c = record {
 
 pub returns-clause-leaves : goal.returns-clause-leaves
 returns-clause-leaves g c w at =
-    let tells = c.kept_is_represented.ensures.agrees in
-    c.catch_up-caught.ensures.leaves w (kept_at g.D.Sectors w c.args.self.now at tells)
-    (members_at g.D.Sectors w c.args.self.now at c.kept_is_represented.ensures.members _ c.deref.ensures)
+    c.catch_up-caught.ensures.leaves w (kept_at g.D.Sectors w c.args.self.now at)
+    (members_at g.D.Sectors w c.args.self.now at _ c.deref.ensures)
 
 pub returns-clause-ok : goal.returns-clause-ok
 returns-clause-ok g c =
     IfOk-weaker c.unless_no_room.result _ _
     (λ unit how w at.
-    let tells = c.kept_is_represented.ensures.agrees in
-    let store_at = kept_at g.D.Sectors w c.args.self.now at tells in
+    let store_at = kept_at g.D.Sectors w c.args.self.now at in
     let members =
-    members_at g.D.Sectors w c.args.self.now at c.kept_is_represented.ensures.members _ c.deref.ensures in
+    members_at g.D.Sectors w c.args.self.now at _ c.deref.ensures in
     let caught = c.catch_up-caught.result in
     let now = finished_at g.D.Sectors c.catch_up-caught.new.store c.catch_up-caught.new.root w caught how
     (IfOk-weaker caught _ _ (λ passed done. done w store_at members) c.catch_up-caught.ensures.ok)
@@ -38,10 +36,9 @@ returns-clause-ok g c =
 
 pub returns-clause-readable : goal.returns-clause-readable
 returns-clause-readable g c is k w at =
-    let tells = c.kept_is_represented.ensures.agrees in
     let bad = of_err c.unless_no_room.result _ BadLayout is c.unless_no_room.ensures.err in
-    c.catch_up-caught.ensures.readable bad.0 k w (kept_at g.D.Sectors w c.args.self.now at tells)
-    (members_at g.D.Sectors w c.args.self.now at c.kept_is_represented.ensures.members _ c.deref.ensures)
+    c.catch_up-caught.ensures.readable bad.0 k w (kept_at g.D.Sectors w c.args.self.now at)
+    (members_at g.D.Sectors w c.args.self.now at _ c.deref.ensures)
 
 pub returns-clause-causes : goal.returns-clause-causes
 returns-clause-causes g c =

@@ -10,6 +10,7 @@ use Rattle.warehouse_objects.specs.Warehouse.{Warehouse, migrated}
 use Rattle.warehouse.specs.Session.{is_at}
 use Rattle.warehouse.proofs.SessionLemmas.{second_already}
 use Rattle.warehouse.proofs.Represented.{session_at, store_at}
+use Rattle.warehouse.proofs.Cuboids.{represented_agrees}
 use Rattle.warehouse.proofs.session.Session.migrate.Goals as goal
 
 pub returns-in-First-clause-ok : goal.returns-in-First-clause-ok
@@ -33,7 +34,7 @@ returns-in-Second-clause-ok g c w at =
     let s = c.args.self.now in
     let content = stores.content_of g.D.Sectors s.store in
     let second : g.D.Sectors.keeps_word (stores.device_of s.store) → w.layout ≡ Second = λ k.
-    let agree = c.kept_is_represented.ensures.agrees content w s.modes (s.loaded at.fine k) (at.represents k) in
+    let agree = represented_agrees content w s.modes (s.loaded at.fine k) (at.represents k) in
     ap (λ (r : PlainRoot). r.layout) agree.root_is ∙ sym c.layout.ensures.value ∙ c.in-Second.is in (
       is_at g.D.Sectors _ (migrated w) at.fine
           (λ k. subst (λ (v : Warehouse). Represents content v) (second_already w (second k)) (at.represents k)),

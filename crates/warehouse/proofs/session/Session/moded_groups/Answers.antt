@@ -25,11 +25,11 @@ pub returns-in-Ok-answer_by_plan-clause-answer : goal.returns-in-Ok-answer_by_pl
 returns-in-Ok-answer_by_plan-clause-answer g c w at k =
     let s = c.args.self.now in
     let word = c.answer_by_plan.ensures.reads.leaves.word k in
-    let agree = agrees g.D.Sectors w s at c.kept_is_represented.ensures.agrees word in
-    let many = counted_at g.D.Sectors w s at c.kept_is_represented.ensures.agrees word _ c.batches.ensures in (
+    let agree = agrees g.D.Sectors w s at word in
+    let many = counted_at g.D.Sectors w s at word _ c.batches.ensures.value in (
       asked_within _ w c.args.as_of (length c.batches.result.now) many c.in-Ok.ensures.ok,
       c.in-Ok-answer_by_plan.ensures.answer k w (at.represents word) (sym agree.root_is)
-          (members_at g.D.Sectors w s at c.kept_is_represented.ensures.members _ refl word)
+          (members_at g.D.Sectors w s at _ refl word)
           ∙ ap (λ (rows : DimRows). moded_answer_as_of c.in-Ok.proper c.args.as_of rows w.batches)
           (sym agree.rows_are)
           ∙ ap (λ (q : ModeQuery). moded_answer_as_of q c.args.as_of w.rows w.batches) c.in-Ok.ensures.query,
@@ -38,13 +38,13 @@ returns-in-Ok-answer_by_plan-clause-answer g c w at k =
 pub returns-in-Err-clause-refused : goal.returns-in-Err-clause-refused
 returns-in-Err-clause-refused g c =
     check_refuses g.D.Sectors c.args.as_of _ c.args.self.now _ (length c.batches.result.now)
-    (λ w at k. counted_at g.D.Sectors w c.args.self.now at c.kept_is_represented.ensures.agrees k _ c.batches.ensures)
+    (λ w at k. counted_at g.D.Sectors w c.args.self.now at k _ c.batches.ensures.value)
     (λ k. k) c.in-Err.fault c.in-Err.ensures.causes
 
 pub returns-in-Ok-answer_by_plan-clause-refused : goal.returns-in-Ok-answer_by_plan-clause-refused
 returns-in-Ok-answer_by_plan-clause-refused g c =
     read_refuses g.D.Sectors c.args.as_of _ _ c.args.self.now _ (length c.batches.result.now)
-    (λ w at k. counted_at g.D.Sectors w c.args.self.now at c.kept_is_represented.ensures.agrees k _ c.batches.ensures)
+    (λ w at k. counted_at g.D.Sectors w c.args.self.now at k _ c.batches.ensures.value)
     c.answer_by_plan.ensures.reads.leaves.word c.in-Ok.ensures.ok tt (λ w at k bad. absurd cc)
 
 pub returns-in-Err-answer_by_plan-clause-refused : goal.returns-in-Err-answer_by_plan-clause-refused
@@ -52,8 +52,8 @@ returns-in-Err-answer_by_plan-clause-refused g c =
     let s = c.args.self.now in
     let word = c.answer_by_plan.ensures.reads.leaves.word in
     read_refuses g.D.Sectors c.args.as_of _ _ s _ (length c.batches.result.now)
-    (λ w at k. counted_at g.D.Sectors w c.args.self.now at c.kept_is_represented.ensures.agrees k _ c.batches.ensures)
+    (λ w at k. counted_at g.D.Sectors w c.args.self.now at k _ c.batches.ensures.value)
     word c.in-Ok.ensures.ok c.in-Err-answer_by_plan.ensures.causes
     (λ w at k bad. c.in-Err-answer_by_plan.ensures.refused bad k w (at.represents (word k))
-    (sym (agrees g.D.Sectors w s at c.kept_is_represented.ensures.agrees (word k)).root_is)
-    (members_at g.D.Sectors w s at c.kept_is_represented.ensures.members _ refl (word k)))
+    (sym (agrees g.D.Sectors w s at (word k)).root_is)
+    (members_at g.D.Sectors w s at _ refl (word k)))

@@ -9,21 +9,21 @@ use Rattle.warehouse.proofs.session.Session.plans.Goals as goal
 pub returns-in-Err-clause-refused : goal.returns-in-Err-clause-refused
 returns-in-Err-clause-refused g c =
     check_refuses g.D.Sectors c.args.as_of _ c.args.self.now _ (length c.batches.result.now)
-    (λ w at k. counted_at g.D.Sectors w c.args.self.now at c.kept_is_represented.ensures.agrees k _ c.batches.ensures)
+    (λ w at k. counted_at g.D.Sectors w c.args.self.now at k _ c.batches.ensures.value)
     (λ k. k) c.in-Err.fault c.in-Err.ensures.causes
 
 pub returns-clause-plans : goal.returns-clause-plans
 returns-clause-plans g c =
     IfOk-weaker c.plans_of.result _ _ (λ plans is w at k.
     let s = c.args.self.now in
-    let many = counted_at g.D.Sectors w s at c.kept_is_represented.ensures.agrees k _ c.batches.ensures in (
+    let many = counted_at g.D.Sectors w s at k _ c.batches.ensures.value in (
       asked_within _ w c.args.as_of (length c.batches.result.now) many c.in_default.ensures.ok,
-      is w (sym (agrees g.D.Sectors w s at c.kept_is_represented.ensures.agrees k).root_is),
+      is w (sym (agrees g.D.Sectors w s at k).root_is),
     )) c.plans_of.ensures.plans
 
 pub returns-clause-refused : goal.returns-clause-refused
 returns-clause-refused g c =
     checked_refuses g.D.Sectors c.args.as_of _ _ c.args.self.now c.args.self.now (length c.batches.result.now)
-    (λ w at k. counted_at g.D.Sectors w c.args.self.now at c.kept_is_represented.ensures.agrees k _ c.batches.ensures)
+    (λ w at k. counted_at g.D.Sectors w c.args.self.now at k _ c.batches.ensures.value)
     (λ k. k) c.in_default.ensures.ok
     (λ fault is other w at k. IfErr-at_err (λ (f : Fault). f ≡ Memory) is c.plans_of.ensures.memory)

@@ -66,7 +66,8 @@ invariant_of-self g c = record {
       s.dims.value m p.root) (ap (modes_now s.modes) c.in-Some.is)
       (loaded_after content puts c.as_slice.result.now c.number-layout.result c.args.number p.segment.items p.more
       p.root
-      c.puts_of-count.ensures.puts bytes_are layout_is s.dims.value s.modes s.root was ready.of_layout ready.more));
+      c.puts_of-count.ensures.puts bytes_are layout_is ready.spelled.proper s.dims.value s.modes s.root was
+      ready.of_layout ready.more));
 }
 
 pub invariant_of-self-in_default : goal.invariant_of-self-in_default
@@ -85,7 +86,8 @@ invariant_of-self-in_default g c = record {
       s.dims.value m p.root) (ap (modes_now s.modes) c.in_default.is)
       (loaded_after content puts c.as_slice.result.now c.number-layout.result c.args.number p.segment.items p.more
       p.root
-      c.puts_of-count.ensures.puts bytes_are layout_is s.dims.value s.modes s.root was ready.of_layout ready.more));
+      c.puts_of-count.ensures.puts bytes_are layout_is ready.spelled.proper s.dims.value s.modes s.root was
+      ready.of_layout ready.more));
 }
 
 pub returns-after-more-clause-leaves : goal.returns-after-more-clause-leaves

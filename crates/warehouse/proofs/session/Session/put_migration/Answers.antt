@@ -1,4 +1,4 @@
-use Rattle.std.proofs.Common.{◌≡◌, ◌≤◌, ℕ, List, [], ◌∷◌, length, refl, sym, ◌∙◌, ap, subst}
+use Rattle.std.proofs.Common.{◌≡◌, ◌≤◌, ℕ, List, [], ◌∷◌, length, refl, sym, ◌∙◌, ap, subst, true, false, Err, inr}
 use Rattle.wire.specs.Limits.{most_root_bytes}
 use Rattle.object_store.specs.Content.{Content}
 use Rattle.object_store.specs.Store as stores
@@ -9,7 +9,8 @@ use Rattle.warehouse_objects.specs.Loaded.{IsLoaded}
 use Rattle.warehouse_objects.specs.Represents.{Represents}
 use Rattle.warehouse_objects.specs.Warehouse.{migrated}
 use Rattle.warehouse.specs.Session.{is_at}
-use Rattle.warehouse.proofs.SessionLemmas.{can_migrate, few_moved, loaded_moved, migration_is_put, moved_leaves}
+use Rattle.warehouse.proofs.SessionLemmas.{can_migrate, few_moved, loaded_moved, migration_is_put, moved_leaves, moved_causes}
+use Rattle.warehouse.proofs.SessionLemmas.{leaves_at}
 use Rattle.warehouse.proofs.SessionLemmas.{represents_moved}
 use Rattle.warehouse.proofs.Represented.{as_before_at, as_before_leaves, session_at, store_at}
 use Rattle.warehouse.proofs.session.Session.put_migration.Goals as goal
@@ -101,5 +102,36 @@ returns-in-Err-clause-refused g c cause w at =
           (as_before_at g.D.Sectors w c.args.self.now.store c.commit.new.self
           (store_at g.D.Sectors w c.args.self.now at) same),
       as_before_leaves g.D.Sectors w c.args.self.now.store c.commit.new.self same
-          (c.is_broken-broken.ensures.leaves w at),
+          (leaves_at g.D.Sectors g.met.D.Sectors.only_now c.args.self.now w at),
     )
+
+pub invariant_of-self-in-Err-1 : goal.invariant_of-self-in-Err-1
+invariant_of-self-in-Err-1 g c = record {
+  loaded = λ fine k.
+      let s = c.args.self.now in
+      let before = c.in-Err.ensures.refused
+      (λ e. let bad : true ≡ false = sym (c.in-Err.ensures.device (ap (λ f. Err f) e)).failed ∙ fine in
+      absurd (cc)) in
+      subst (λ (x : Content). IsLoaded x s.dims.value s.modes s.root) (sym before.content)
+      (s.loaded (sym before.failed ∙ fine)
+      (subst (λ (d : g.row.D.Denot). g.D.Sectors.keeps_word d) before.device k));
+}
+
+pub returns-in-Err-clause-causes : goal.returns-in-Err-clause-causes
+returns-in-Err-clause-causes g c cause w at of first k =
+    let s = c.args.self.now in
+    let content = stores.content_of g.D.Sectors s.store in
+    let m = c.args.migration in
+    let puts : List (ℕ × List ℕ) = (5, c.as_slice.result.now) ∷ [] in
+    let puts_are : puts ≡ (5, m.bytes.items) ∷ [] = ap (λ (b : List ℕ). (5, b) ∷ []) c.as_slice.ensures.value in
+    let layout_is = c.number-layout.ensures ∙ ap layout_number c.layout.ensures.value in
+    let word = (c.commit.ensures.leaves at.fine).word in
+    inr (inr (
+      can_migrate content s.root m c.requires.ready puts c.as_slice-2.result.now c.number-layout.result puts_are
+          c.as_slice-2.ensures.value layout_is w (of (word k)) first,
+      moved_causes content s.root m c.requires.ready puts c.as_slice-2.result.now c.number-layout.result puts_are
+          c.as_slice-2.ensures.value layout_is w (of (word k)) (stores.room_of s.store) c.in-Err.fault
+          (c.in-Err.ensures.refuses cause
+          (λ e. let bad : true ≡ false = sym (c.in-Err.ensures.failed.0 (ap (λ f. Err f) e)) ∙ at.fine in
+          absurd (cc))),
+    ))

@@ -82,7 +82,8 @@ invariant_of-self g c =
           s.modes wider.root) (sym is.dims_are)
           (loaded_wider content (puts_of c.as_slice-2.result.now) c.as_slice-3.result.now c.number-layout.result
           s.dims.value more s.root wider.root puts_are bytes_are is.root_is
-          (c.number-layout.ensures ∙ ap layout_number c.layout.ensures.value) s.modes was));
+          (c.number-layout.ensures ∙ ap layout_number c.layout.ensures.value) is.spelled.proper is.storable s.modes
+          was));
     }
 
 pub returns-in-Ok-commit-clause-leaves : goal.returns-in-Ok-commit-clause-leaves

@@ -6,13 +6,14 @@ use Rattle.warehouse_root.specs.Objects.{object_ids}
 use Rattle.warehouse_objects.specs.Represents.{root_of}
 use Rattle.warehouse.specs.Room.{object_sectors}
 use Rattle.warehouse.specs.Session.{content_of}
+use Rattle.warehouse.proofs.Cuboids.{represented_agrees}
 use Rattle.warehouse.proofs.session.Session.sectors_taken.Goals as goal
 
 pub returns-clause-taken : goal.returns-clause-taken
 returns-clause-taken g c w at k =
     let s = c.args.self.now in
     let content = content_of g.D.Sectors s in
-    let agree = c.kept_is_represented.ensures.agrees content w s.modes (s.loaded at.fine k) (at.represents k) in
+    let agree = represented_agrees content w s.modes (s.loaded at.fine k) (at.represents k) in
     let objects : c.sectors_of_objects-objects.result ≡ min (sum_by (object_sectors content) (object_ids (root_of w)))
     (2 ^ 64 - 1) =
     c.sectors_of_objects-objects.ensures k

@@ -14,23 +14,23 @@ invariant_of-self g c = record {
 
 pub returns-in-Ok-clause-leaves : goal.returns-in-Ok-clause-leaves
 returns-in-Ok-clause-leaves g c w at =
-    c.set_views.ensures.leaves w (kept_at g.D.Sectors w c.args.self.now at c.kept_is_represented.ensures.agrees)
+    c.set_views.ensures.leaves w (kept_at g.D.Sectors w c.args.self.now at)
 
 pub returns-in-Err-clause-leaves : goal.returns-in-Err-clause-leaves
 returns-in-Err-clause-leaves g c w at =
-    c.set_views.ensures.leaves w (kept_at g.D.Sectors w c.args.self.now at c.kept_is_represented.ensures.agrees)
+    c.set_views.ensures.leaves w (kept_at g.D.Sectors w c.args.self.now at)
 
 pub returns-in-Ok-clause-ok : goal.returns-in-Ok-clause-ok
 returns-in-Ok-clause-ok g c w at =
     let then_at =
-    c.in-Ok.ensures.ok w (kept_at g.D.Sectors w c.args.self.now at c.kept_is_represented.ensures.agrees) in
+    c.in-Ok.ensures.ok w (kept_at g.D.Sectors w c.args.self.now at) in
     (is_at g.D.Sectors _ (with_views w c.args.views.now) then_at.fine then_at.represents, c.in-Ok.ensures.once)
 
 pub returns-in-Err-clause-refused : goal.returns-in-Err-clause-refused
 returns-in-Err-clause-refused g c cause w at =
     let then_at =
     c.in-Err.ensures.refused cause w
-    (kept_at g.D.Sectors w c.args.self.now at c.kept_is_represented.ensures.agrees) in (
+    (kept_at g.D.Sectors w c.args.self.now at) in (
       is_at g.D.Sectors _ w then_at.0.fine then_at.0.represents,
       (λ k. (c.in-Err.ensures.as_before cause).content),
       then_at.1,
@@ -38,4 +38,4 @@ returns-in-Err-clause-refused g c cause w at =
 
 pub returns-in-Err-clause-causes : goal.returns-in-Err-clause-causes
 returns-in-Err-clause-causes g c cause w at k =
-    c.in-Err.ensures.causes cause w (kept_at g.D.Sectors w c.args.self.now at c.kept_is_represented.ensures.agrees) k
+    c.in-Err.ensures.causes cause w (kept_at g.D.Sectors w c.args.self.now at) k

@@ -9,6 +9,7 @@ use Rattle.warehouse_objects.specs.Warehouse.{Cuboid}
 use Rattle.warehouse.specs.Status.{IsSaidAt}
 use Rattle.warehouse.specs.Session.{content_of}
 use Rattle.warehouse.proofs.Preparing.{rows_together}
+use Rattle.warehouse.proofs.Cuboids.{represented_agrees}
 use Rattle.warehouse.proofs.session.Session.status.Goals as goal
 
 -- what the root says of each
@@ -22,14 +23,15 @@ said_at (cuboid ∷ cuboids) (suc place) = said_at cuboids place
 pub returns-clause-ok : goal.returns-clause-ok
 returns-clause-ok g c w at k =
     let s = c.args.self.now in
-    let agree = c.kept_is_represented.ensures.agrees (content_of g.D.Sectors s) w s.modes (s.loaded at.fine k)
+    let agree = represented_agrees (content_of g.D.Sectors s) w s.modes (s.loaded at.fine k)
     (at.represents k) in record {
       layout = c.layout.ensures.value ∙ ap (λ (root : PlainRoot). root.layout) (sym agree.root_is);
-      batches = ap length c.batches-batches.ensures ∙ ap (λ (root : PlainRoot). length root.batches) (sym agree.root_is)
+      batches = ap length c.batches-batches.ensures.value
+          ∙ ap (λ (root : PlainRoot). length root.batches) (sym agree.root_is)
           ∙ length-map w.batches (λ (batch : List LineOrder). length batch);
       rows = c.row_total.ensures
           ∙ ap (λ (l : List ℕ). sum_by (λ rows. rows) l)
-          (c.batches-batches.ensures ∙ ap (λ (root : PlainRoot). root.batches) (sym agree.root_is))
+          (c.batches-batches.ensures.value ∙ ap (λ (root : PlainRoot). root.batches) (sym agree.root_is))
           ∙ rows_together w.batches;
       additions = c.additions.ensures ∙ ap (λ (root : PlainRoot). root.additions) (sym agree.root_is);
       target = c.target.ensures ∙ ap (λ (root : PlainRoot). root.target) (sym agree.root_is);
@@ -38,6 +40,6 @@ returns-clause-ok g c w at k =
           subst (λ (said : Option StoredCuboid). IsSaidAt (slice_get w.cuboids place) said)
           (sym (c.in_places.ensures place lt
           ∙ ap (λ (l : List StoredCuboid). slice_get l place)
-          (c.cuboids.ensures ∙ ap (λ (root : PlainRoot). root.cuboids) (sym agree.root_is))))
+          (c.cuboids.ensures.value ∙ ap (λ (root : PlainRoot). root.cuboids) (sym agree.root_is))))
           (said_at w.cuboids place);
     }

@@ -4,6 +4,7 @@ use Rattle.cube_model.specs.declared.fault.Fault.{Fault}
 use Rattle.object_store.specs.Store as stores
 use Rattle.planned_queries.specs.Stepping.{Advances, IsRunning, RunningState}
 use Rattle.warehouse.proofs.OnlyReading.{call_reads, reads_alike, store_read}
+use Rattle.warehouse.proofs.Cuboids.{represented_agrees}
 use Rattle.warehouse.proofs.session.Session.step.Goals as goal
 use Rattle.warehouse.proofs.Represented.{reads_loaded}
 
@@ -38,7 +39,7 @@ pub returns-in-None-clause-steps : goal.returns-in-None-clause-steps
 returns-in-None-clause-steps g c w at k started extends is =
     let s = c.args.self.now in
     let word = c.advance.ensures.reads.leaves.word k in
-    let agree = c.kept_is_represented.ensures.agrees (stores.content_of g.D.Sectors s.store) w s.modes
+    let agree = represented_agrees (stores.content_of g.D.Sectors s.store) w s.modes
     (s.loaded at.fine word)
     (at.represents word) in
     subst (λ (found : Option Answer). Advances started c.advance.new.self found) c.in-None.is
@@ -48,7 +49,7 @@ pub returns-in-Some-clause-steps : goal.returns-in-Some-clause-steps
 returns-in-Some-clause-steps g c w at k started extends is =
     let s = c.args.self.now in
     let word = c.advance.ensures.reads.leaves.word k in
-    let agree = c.kept_is_represented.ensures.agrees (stores.content_of g.D.Sectors s.store) w s.modes
+    let agree = represented_agrees (stores.content_of g.D.Sectors s.store) w s.modes
     (s.loaded at.fine word)
     (at.represents word) in
     subst (λ (found : Option Answer). Advances started c.advance.new.self found) c.in-Some.is
@@ -58,7 +59,7 @@ pub returns-in-Err-clause-steps : goal.returns-in-Err-clause-steps
 returns-in-Err-clause-steps g c w at k started extends is =
     let s = c.args.self.now in
     let word = c.advance.ensures.reads.leaves.word k in
-    let agree = c.kept_is_represented.ensures.agrees (stores.content_of g.D.Sectors s.store) w s.modes
+    let agree = represented_agrees (stores.content_of g.D.Sectors s.store) w s.modes
     (s.loaded at.fine word)
     (at.represents word) in (
       subst (λ (running : RunningState). IsRunning running started) (sym c.in-Err.ensures.err) is,

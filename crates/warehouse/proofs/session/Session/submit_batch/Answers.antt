@@ -1,5 +1,9 @@
 use Rattle.std.proofs.Common.{⊎_elim, inl, inr}
 use Rattle.std.proofs.lemmas.Result.{IfErr-weaker, on_ok_weaker}
+use Rattle.object_store.specs.Moments.{leaves_weaker}
+use Rattle.warehouse_objects.specs.Represents.{Represents}
+use Rattle.warehouse.specs.Session.{disk_of}
+use Rattle.warehouse.specs.Submitting.{WithOrWithout}
 use Rattle.warehouse.proofs.session.Session.submit_batch.Goals as goal
 
 pub returns-in-Err-clause-causes : goal.returns-in-Err-clause-causes
@@ -51,3 +55,9 @@ returns-clause-causes g c =
       still = c.in-Ok.ensures.leaves w at;
     }))
     c.put.ensures.causes
+
+pub returns-in-Err-clause-leaves : goal.returns-in-Err-clause-leaves
+returns-in-Err-clause-leaves g c w rows at grown =
+    let disk = disk_of g.D.Sectors c.args.self.now in
+    leaves_weaker (λ content. Represents content w) (WithOrWithout w c.args.number rows) disk disk
+    (λ k content represents. inl represents) (c.in-Err.ensures.leaves w at)

@@ -18,50 +18,43 @@ invariant_of-self g c = record {
 
 pub returns-in-None-clause-leaves : goal.returns-in-None-clause-leaves
 returns-in-None-clause-leaves g c w at =
-    let tells = c.kept_is_represented.ensures.agrees in
-    c.keep_up.ensures.leaves w (kept_at g.D.Sectors w c.args.self.now at tells)
-    (members_at g.D.Sectors w c.args.self.now at c.kept_is_represented.ensures.members _ c.deref.ensures)
+    c.keep_up.ensures.leaves w (kept_at g.D.Sectors w c.args.self.now at)
+    (members_at g.D.Sectors w c.args.self.now at _ c.deref.ensures)
 
 pub returns-in-Some-clause-leaves : goal.returns-in-Some-clause-leaves
 returns-in-Some-clause-leaves g c w at =
-    let tells = c.kept_is_represented.ensures.agrees in
-    c.keep_up.ensures.leaves w (kept_at g.D.Sectors w c.args.self.now at tells)
-    (members_at g.D.Sectors w c.args.self.now at c.kept_is_represented.ensures.members _ c.deref.ensures)
+    c.keep_up.ensures.leaves w (kept_at g.D.Sectors w c.args.self.now at)
+    (members_at g.D.Sectors w c.args.self.now at _ c.deref.ensures)
 
 pub returns-in-Err-clause-leaves : goal.returns-in-Err-clause-leaves
 returns-in-Err-clause-leaves g c w at =
-    let tells = c.kept_is_represented.ensures.agrees in
-    c.keep_up.ensures.leaves w (kept_at g.D.Sectors w c.args.self.now at tells)
-    (members_at g.D.Sectors w c.args.self.now at c.kept_is_represented.ensures.members _ c.deref.ensures)
+    c.keep_up.ensures.leaves w (kept_at g.D.Sectors w c.args.self.now at)
+    (members_at g.D.Sectors w c.args.self.now at _ c.deref.ensures)
 
 pub returns-in-None-clause-stays : goal.returns-in-None-clause-stays
 returns-in-None-clause-stays g c other w at =
-    let tells = c.kept_is_represented.ensures.agrees in
-    let then_at = c.in-Ok.ensures.stays (λ is. absurd cc) w (kept_at g.D.Sectors w c.args.self.now at tells)
-    (members_at g.D.Sectors w c.args.self.now at c.kept_is_represented.ensures.members _ c.deref.ensures) in
+    let then_at = c.in-Ok.ensures.stays (λ is. absurd cc) w (kept_at g.D.Sectors w c.args.self.now at)
+    (members_at g.D.Sectors w c.args.self.now at _ c.deref.ensures) in
     (then_at.0, then_at.1, is_at g.D.Sectors _ then_at.0 then_at.2.fine then_at.2.represents)
 
 pub returns-in-Some-clause-stays : goal.returns-in-Some-clause-stays
 returns-in-Some-clause-stays g c other w at =
-    let tells = c.kept_is_represented.ensures.agrees in
-    let then_at = c.in-Ok.ensures.stays (λ is. absurd cc) w (kept_at g.D.Sectors w c.args.self.now at tells)
-    (members_at g.D.Sectors w c.args.self.now at c.kept_is_represented.ensures.members _ c.deref.ensures) in
+    let then_at = c.in-Ok.ensures.stays (λ is. absurd cc) w (kept_at g.D.Sectors w c.args.self.now at)
+    (members_at g.D.Sectors w c.args.self.now at _ c.deref.ensures) in
     (then_at.0, then_at.1, is_at g.D.Sectors _ then_at.0 then_at.2.fine then_at.2.represents)
 
 pub returns-in-Err-clause-stays : goal.returns-in-Err-clause-stays
 returns-in-Err-clause-stays g c other w at =
-    let tells = c.kept_is_represented.ensures.agrees in
     let then_at = c.in-Err.ensures.stays (λ is. let e : c.in-Err.fault ≡ Device = cc is in other (ap (λ f. Err f) e)) w
-    (kept_at g.D.Sectors w c.args.self.now at tells)
-    (members_at g.D.Sectors w c.args.self.now at c.kept_is_represented.ensures.members _ c.deref.ensures) in
+    (kept_at g.D.Sectors w c.args.self.now at)
+    (members_at g.D.Sectors w c.args.self.now at _ c.deref.ensures) in
     (then_at.0, then_at.1, is_at g.D.Sectors _ then_at.0 then_at.2.fine then_at.2.represents)
 
 pub returns-in-None-clause-ok : goal.returns-in-None-clause-ok
 returns-in-None-clause-ok g c w at =
-    let tells = c.kept_is_represented.ensures.agrees in
     let then_at =
-    c.in-Ok.ensures.ok w (kept_at g.D.Sectors w c.args.self.now at tells)
-    (members_at g.D.Sectors w c.args.self.now at c.kept_is_represented.ensures.members _ c.deref.ensures) in (
+    c.in-Ok.ensures.ok w (kept_at g.D.Sectors w c.args.self.now at)
+    (members_at g.D.Sectors w c.args.self.now at _ c.deref.ensures) in (
       then_at.0,
       then_at.1,
       is_at g.D.Sectors _ then_at.0 then_at.2.fine then_at.2.represents,
@@ -70,10 +63,9 @@ returns-in-None-clause-ok g c w at =
 
 pub returns-in-Some-clause-refused : goal.returns-in-Some-clause-refused
 returns-in-Some-clause-refused g c cause w at =
-    let tells = c.kept_is_represented.ensures.agrees in
     let then_at =
-    c.in-Ok.ensures.ok w (kept_at g.D.Sectors w c.args.self.now at tells)
-    (members_at g.D.Sectors w c.args.self.now at c.kept_is_represented.ensures.members _ c.deref.ensures) in (
+    c.in-Ok.ensures.ok w (kept_at g.D.Sectors w c.args.self.now at)
+    (members_at g.D.Sectors w c.args.self.now at _ c.deref.ensures) in (
       then_at.0,
       then_at.1,
       is_at g.D.Sectors _ then_at.0 then_at.2.fine then_at.2.represents,
@@ -84,7 +76,6 @@ returns-in-Some-clause-refused g c cause w at =
 
 pub returns-in-Err-clause-refused : goal.returns-in-Err-clause-refused
 returns-in-Err-clause-refused g c cause w at =
-    let tells = c.kept_is_represented.ensures.agrees in
-    let then_at = c.in-Err.ensures.refused cause w (kept_at g.D.Sectors w c.args.self.now at tells)
-    (members_at g.D.Sectors w c.args.self.now at c.kept_is_represented.ensures.members _ c.deref.ensures) in
+    let then_at = c.in-Err.ensures.refused cause w (kept_at g.D.Sectors w c.args.self.now at)
+    (members_at g.D.Sectors w c.args.self.now at _ c.deref.ensures) in
     (then_at.0, then_at.1, is_at g.D.Sectors _ then_at.0 then_at.2.fine then_at.2.represents, λ k. inr (then_at.3 k))

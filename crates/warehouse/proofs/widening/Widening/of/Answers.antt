@@ -3,6 +3,8 @@ use Rattle.dimensions.specs.Added.{joined}
 use Rattle.stored_rows.proofs.CallerLemmas.{puts_widened}
 use Rattle.warehouse_objects.specs.Warehouse.{AreStorable}
 use Rattle.warehouse.proofs.Numbering.{valid_allows}
+use Rattle.cube_model.proofs.LawsLemmas.{valid_rows_keep_the_rules}
+use Rattle.warehouse_objects.proofs.Contents.{dimensions_are_puts}
 use Rattle.warehouse.proofs.widening.Widening.of.Goals as goal
 
 pub returns-clause-ok : goal.returns-clause-ok
@@ -16,5 +18,5 @@ returns-clause-ok c = λ old same.
       spelled = c.in_ok-root_bytes.ensures.ok;
       objects_are = c.in_ok-objects.ensures.ok old same;
       puts = puts_widened old c.args.rows.now
-          (c.objects_are_storable.ensures.0 (joined old c.args.rows.now) storable).0;
+          (dimensions_are_puts valid_rows_keep_the_rules (joined old c.args.rows.now) storable);
     }

@@ -1,0 +1,7 @@
+use Rattle.warehouse_objects.proofs.OneMoreRead.{reads_nothing}
+use Rattle.std.proofs.Common.{rules}
+use Rattle.stored_rows.proofs.own_modes.has_own_ship_modes.Goals as goal
+
+pub returns-in-First-clause-reads : goal.returns-in-First-clause-reads
+returns-in-First-clause-reads g c =
+    reads_nothing g.D.Sectors g.met.D.Sectors.only_now c.args.store.now c.requires.fine _ (λ is. search rules)
