@@ -167,7 +167,6 @@ module _ (earlier column : List (List ℕ)) (i : ℕ) (within : i < length colum
 -- what it has after a text was added
 pub record Grows (known more : Texts) (text : List ℕ) : Type 0 where
   pub limit : more.limit ≡ known.limit
-  pub few : length known.texts ≤ known.limit → length more.texts ≤ known.limit
   pub keeps : (q : List ℕ) → list_any (bytes_eq q) known.texts ≡ true → list_any (bytes_eq q) more.texts ≡ true
   pub has : list_any (bytes_eq text) more.texts ≡ true
 
@@ -195,7 +194,6 @@ grows known more text code adds = by (code_of known.texts text) refl adds
         let texts_are : more.texts ≡ known.texts ++ text ∷ [] = ap (λ (t : Texts). t.texts) new.2 in
         record {
           limit = ap (λ (t : Texts). t.limit) new.2;
-          few = λ le. omega (arith, ap length texts_are, length-append known.texts (text ∷ []), new.1);
           keeps = λ q has. ap (list_any (bytes_eq q)) texts_are ∙ list_any_push (bytes_eq q) known.texts text
               ∙ or_left _ _ has;
           has = ap (list_any (bytes_eq text)) texts_are ∙ list_any_push (bytes_eq text) known.texts text
@@ -205,7 +203,6 @@ grows known more text code adds = by (code_of known.texts text) refl adds
         let texts_are : more.texts ≡ known.texts = ap (λ (t : Texts). t.texts) old.1 in
         record {
           limit = ap (λ (t : Texts). t.limit) old.1;
-          few = λ le. omega (arith, ap length texts_are, le);
           keeps = λ q has. ap (list_any (bytes_eq q)) texts_are ∙ has;
           has = ap (list_any (bytes_eq text)) texts_are ∙ present known.texts text c is;
         }
@@ -228,7 +225,8 @@ full known more text adds = by (code_of known.texts text) refl adds
 -- the codes at the places before one were added, and those that were met are marked
 pub record Adding (before known : Texts) (texts codes : List (List ℕ)) (met : List Bool) (place : ℕ) : Type 0 where
   pub limit : known.limit ≡ most_members
-  pub few : length known.texts ≤ most_members
+  pub kept : length before.texts ≤ most_members → length known.texts ≤ most_members
+  pub few : (code : ℕ) → get_or met code false ≡ true → length known.texts ≤ most_members
   pub many : length met ≡ length texts
   pub marked : (code : ℕ) → get_or met code false ≡ true
       → list_any (bytes_eq (text_of_code texts code)) known.texts ≡ true
@@ -254,6 +252,7 @@ module _ (before known : Texts) (texts codes : List (List ℕ)) (met : List Bool
       → Adding before known texts codes met (place + 1)
   adding_again is = record {
     limit = adding.limit;
+    kept = adding.kept;
     few = adding.few;
     many = adding.many;
     marked = adding.marked;
@@ -268,18 +267,20 @@ module _ (before known : Texts) (texts codes : List (List ℕ)) (met : List Bool
         ∙ adding.marked (from_le_bytes w16 (get_or codes place [])) is in
         follows_more earlier column place inside known.texts known.texts so_far
         (so_far.texts_are ∙ sym (firsts-again (earlier ++ take place column) (get_or column place []) seen))
-        adding.few;
+        (adding.few (from_le_bytes w16 (get_or codes place [])) is);
   }
 
   -- one that is met for the first time
   pub adding_more : (code : ℕ) (more : Texts) → Adds known text (Some code) more
+      → length more.texts ≤ more.limit
       → Adding before more texts codes (set met (from_le_bytes w16 (get_or codes place [])) true) (place + 1)
-  adding_more code more adds =
+  adding_more code more adds fits =
       let grown = grows known more text code adds in
-      let few : length more.texts ≤ most_members = omega (arith, adding.limit, grown.few, adding.few) in
+      let few : length more.texts ≤ most_members = omega (arith, adding.limit, grown.limit, fits) in
       record {
         limit = grown.limit ∙ adding.limit;
-        few = few;
+        kept = λ own. few;
+        few = λ other is. few;
         many = length-set met (from_le_bytes w16 (get_or codes place [])) true ∙ adding.many;
         marked = λ other is. by_code other (other == from_le_bytes w16 (get_or codes place [])) refl is grown;
         follows = λ earlier are.

@@ -52,9 +52,9 @@ pub fn add_modes(
     ensures crowded { IfOk result (λ row. (earlier : List (List ℕ)) → known.old.texts ≡ firsts earlier
         → row ≡ row_number_at (crowded_place earlier (texts_by modes.now.texts codes.now))) }
     ensures limit { known.new.limit ≡ known.old.limit }
+    ensures few { length known.old.texts ≤ most_members → length known.new.texts ≤ most_members }
     ensures memory { IfErr result (λ fault. fault ≡ Fault.Memory) }
 {
-    let _few = known.len();
     let mut met = Vec::from_elem(alloc, false, modes.len())?;
     for (place, bytes) in codes.iter().enumerate() {
         let code = u16::from_le_bytes(*bytes);

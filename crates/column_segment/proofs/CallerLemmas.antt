@@ -89,21 +89,6 @@ below column (row ∷ rows) wide fit =
     let head = All-head (FitsColumn column) row rows fit in
     (omega (arith, head, wide), below column rows wide (All-tail (FitsColumn column) row rows fit))
 
--- a column of numbers has one list of them
-pub column-one : (column : Column) (rows others : List LineOrder) → length rows ≡ length others
-    → column.limit ≤ 256 ^ column.width → All (FitsColumn column) rows → All (FitsColumn column) others
-    → number_column rows column ≡ number_column others column → map column.value rows ≡ map column.value others
-column-one column rows others many wide fit also same =
-    let a : List ℕ = flat_map (spelling column.width) (map column.value rows) in
-    let b : List ℕ = flat_map (spelling column.width) (map column.value others) in
-    let a_is : a ≡ number_column rows column = flat_map-map (spelling column.width) column.value rows in
-    let b_is : b ≡ number_column others column = flat_map-map (spelling column.width) column.value others in
-    let len : length (map column.value rows) ≡ length (map column.value others) = length-map rows column.value ∙ many
-    ∙ sym (length-map others column.value) in
-    (numbers-one column.width (map column.value rows) (map column.value others) [] [] len (below column rows wide fit)
-    (below column others wide also)
-    (ap (λ (l : List ℕ). l ++ []) (a_is ∙ same ∙ sym b_is))).0
-
 columns-one : (columns : List Column) (rows others : List LineOrder) (xs ys : List ℕ) → length rows ≡ length others
     → Wide columns → Fit columns rows → Fit columns others
     → flat_map (number_column rows) columns ++ xs ≡ flat_map (number_column others) columns ++ ys
@@ -318,7 +303,10 @@ rows_fit rows columns have =
         keys.linenumber.fits,
         (
           keys.custkey.fits,
-          (keys.partkey.fits, (keys.suppkey.fits, (keys.orderdate.fits, figures_fit rows columns.figures have.figures))),
+          (
+            keys.partkey.fits,
+            (keys.suppkey.fits, (keys.orderdate.fits, figures_fit rows columns.figures have.figures)),
+          ),
         ),
       ),
     )

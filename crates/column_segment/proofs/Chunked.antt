@@ -6,7 +6,8 @@ use Rattle.std.specs.Int.{from_le_bytes, w16, w32, w64}
 use Rattle.std.specs.List.{AllByRecursion, flat_map}
 use Rattle.std.specs.Simd.{first_chunks}
 use Rattle.std.proofs.lemmas.List.{drop_at, get_or-drop, length-map, length-take-le, take-append-drop, take_at}
-use Rattle.std.proofs.lemmas.Nat.{from_le_bytes-to_le_bytes_2, from_le_bytes-to_le_bytes_8, le_bytes_2, le_bytes_4}
+use Rattle.std.proofs.lemmas.Nat.{from_le_bytes-to_le_bytes_2, from_le_bytes-to_le_bytes_4, from_le_bytes-to_le_bytes_8}
+use Rattle.std.proofs.lemmas.Nat.{le_bytes_2, le_bytes_4}
 use Rattle.std.proofs.lemmas.Nat.{le_bytes_8}
 use Rattle.wire.specs.Spelling.{spelling}
 
@@ -110,6 +111,10 @@ below_8 chunk are = omega (arith, are 0, are 1, are 2, are 3, are 4, are 5, are 
 pub read_2 : (x : ℕ) → x < 2 ^ 16 → from_le_bytes w16 (spelling 2 x) ≡ x
 unfolding spelling
 read_2 x fits = from_le_bytes-to_le_bytes_2 x fits
+
+pub read_4 : (x : ℕ) → x < 2 ^ 32 → from_le_bytes w32 (spelling 4 x) ≡ x
+unfolding spelling
+read_4 x fits = from_le_bytes-to_le_bytes_4 x fits
 
 pub read_8 : (x : ℕ) → x < 2 ^ 64 → from_le_bytes w64 (spelling 8 x) ≡ x
 unfolding spelling

@@ -1,12 +1,13 @@
 -- A column of texts while it is being coded. Our own.
-use Rattle.std.proofs.Common.{◌≡◌, ◌<◌, ◌≤◌, ◌+◌, ◌∙◌, sym, ap, subst, arith, ℕ, Some, List, [], ◌∷◌, ◌++◌, map, length}
+use Rattle.std.proofs.Common.{◌≡◌, ◌<◌, ◌≤◌, ◌+◌, ◌∙◌, sym, ap, subst, arith, ℕ, MatchOption, Option, Some, None, List}
+use Rattle.std.proofs.Common.{[], ◌∷◌, ◌++◌, map, length}
 use Rattle.std.proofs.Common.{take, get_or, append_assoc}
-use Rattle.std.proofs.lemmas.List.{flat_map_more, length-map, map-append, take_more}
+use Rattle.std.proofs.lemmas.List.{flat_map_more, length-append, length-map, map-append, take_more}
 use Rattle.std.proofs.lemmas.List.Elements.{All-map}
 use Rattle.cube_model.specs.Limits.{longest_text, most_batch_rows}
 use Rattle.cube_model.specs.declared.rows.LineOrder.{LineOrder}
 use Rattle.wire.specs.Spelling.{spelling}
-use Rattle.dictionary.specs.Dictionary.{Adds, Texts}
+use Rattle.dictionary.specs.Dictionary.{Adds, Texts, code_of, with_text}
 use Rattle.dictionary.specs.Spelling.{AreShort, texts_spelling}
 use Rattle.dictionary.specs.Columns.{codes_of, codes_spelling, column_spelling}
 use Rattle.dictionary.proofs.ColumnLaws.{AreProper-firsts, adds_column, codes_more, length-firsts}
@@ -18,14 +19,16 @@ use Rattle.column_segment.specs.declared.columns.TextColumn.{TextColumn}
 -- one text more
 pub coded_more : (column : List (List ℕ)) (text : List ℕ) (before after : Texts) (codes more : List ℕ) (code : ℕ)
     → AreCoded column before codes
-    → Adds before text (Some code) after → more ≡ codes ++ spelling 2 code → AreCoded (column ++ text ∷ []) after more
-coded_more column text before after codes more code are adds is =
+    → Adds before text (Some code) after → length after.texts ≤ after.limit → more ≡ codes ++ spelling 2 code
+    → AreCoded (column ++ text ∷ []) after more
+coded_more column text before after codes more code are adds few is =
     let laws = adds_column column text before after code are.texts_are adds in
     let codes_is : codes_of (column ++ text ∷ []) ≡ codes_of column ++ code ∷ [] = codes_more column text
     ∙ ap (λ (n : ℕ). codes_of column ++ n ∷ []) laws.2 in
     record {
       texts_are = laws.0;
       limit = laws.1 ∙ are.limit;
+      few = omega (arith, few, laws.1, are.limit);
       codes_are = is ∙ ap (λ (l : List ℕ). l ++ spelling 2 code) are.codes_are
           ∙ flat_map_more (spelling 2) [] (codes_of column) code
           ∙ sym (ap codes_spelling codes_is);
@@ -74,4 +77,9 @@ column_put column texts codes s0 s1 s2 are first second =
 pub coded_none : (texts : Texts) (codes : List ℕ) → texts ≡ record { texts = []; limit = most_batch_rows } → codes ≡ []
     → AreCoded [] texts codes
 coded_none texts codes are is =
-    record { texts_are = ap (λ (t : Texts). t.texts) are; limit = ap (λ (t : Texts). t.limit) are; codes_are = is }
+    record {
+      texts_are = ap (λ (t : Texts). t.texts) are;
+      limit = ap (λ (t : Texts). t.limit) are;
+      few = omega (arith, ap (λ (t : Texts). length t.texts) are);
+      codes_are = is;
+    }

@@ -1,5 +1,5 @@
 -- The codes of a column of texts that is being coded, read back. Our own.
-use Rattle.std.proofs.Common.{◌≡◌, ◌<◌, ◌≤◌, ◌∙◌, suc, sym, ap, refl, subst, arith, ℕ, List, [], ◌∷◌, All, map, length}
+use Rattle.std.proofs.Common.{◌≡◌, ◌<◌, ◌∙◌, suc, sym, ap, refl, subst, arith, ℕ, List, [], ◌∷◌, All, map, length}
 use Rattle.std.proofs.Common.{take, drop, get_or, length-append}
 use Rattle.std.specs.Int.{from_le_bytes, w16}
 use Rattle.std.specs.List.{flat_map}
@@ -44,13 +44,13 @@ chunks_are (chunk ∷ chunks) (code ∷ codes) long same =
 
 -- the codes of a column are its texts
 pub codes_read : (column : List (List ℕ)) (texts : Texts) (chunks : List (List ℕ))
-    → ((i : ℕ) → i < length chunks → length (get_or chunks i []) ≡ 2) → length texts.texts ≤ texts.limit
+    → ((i : ℕ) → i < length chunks → length (get_or chunks i []) ≡ 2)
     → AreCoded column texts (flat_map (λ code. code) chunks) → AreCodesOf column texts.texts chunks
-codes_read column texts chunks long few are =
+codes_read column texts chunks long are =
     let laws = column_has_codes column in
     let below = AreCodes-below (length (firsts column)) (codes_of column) laws.0 in
     let least = weaker (length (firsts column)) (codes_of column)
-    (omega (arith, few, are.limit, ap length are.texts_are)) below in
+    (omega (arith, are.few, ap length are.texts_are)) below in
     let read : map (from_le_bytes w16) chunks ≡ codes_of column =
     ap (map (from_le_bytes w16)) (chunks_are chunks (codes_of column) long are.codes_are)
     ∙ codes_back (codes_of column) least in

@@ -112,14 +112,26 @@ length-columns (column ∷ columns) rows =
       sum_times column.width (total columns) (length rows),
     )
 
-amounts_back : (value : LineOrder → ℕ) (rows : List LineOrder) → All (λ row. value row < 2 ^ 63) rows
-    → map (from_le_bytes w64) (map (λ row. spelling 8 (value row)) rows) ≡ map value rows
-amounts_back value [] fit = refl
-amounts_back value (row ∷ rows) fit =
-    let own : value row < 2 ^ 63 = All-head (λ (r : LineOrder). value r < 2 ^ 63) row rows fit in
-    let head : from_le_bytes w64 (spelling 8 (value row)) ≡ value row = read_8 (value row) (omega (arith, own)) in
-    let tail = amounts_back value rows (All-tail (λ (r : LineOrder). value r < 2 ^ 63) row rows fit) in
-    λ i. head i ∷ tail i
+-- numbers that are read back from their bytes, each from its own
+module _ (width : ℕ) (read : List ℕ → ℕ) (limit : ℕ) (back : (x : ℕ) → x < limit → read (spelling width x) ≡ x)
+    (value : LineOrder → ℕ) where
+  each_back : (rows : List LineOrder) → All (λ row. value row < limit) rows
+      → map read (map (λ row. spelling width (value row)) rows) ≡ map value rows
+  each_back [] fit = refl
+  each_back (row ∷ rows) fit =
+      let head = back (value row) (All-head (λ (r : LineOrder). value r < limit) row rows fit) in
+      let tail = each_back rows (All-tail (λ (r : LineOrder). value r < limit) row rows fit) in
+      λ i. head i ∷ tail i
+
+  -- from the bytes of a column
+  pub column_back : (rows : List LineOrder) → All (λ row. value row < limit) rows
+      → map read (first_chunks width (length rows) (flat_map (λ row. spelling width (value row)) rows))
+      ≡ map value rows
+  column_back rows fit =
+      let part : LineOrder → List ℕ = λ row. spelling width (value row) in
+      ap (λ (l : List ℕ). map read (first_chunks width (length rows) l)) (sym (append-nil (flat_map part rows)))
+      ∙ ap (map read) (chunks_of width part (λ row. length-spelling width (value row)) (length rows) rows [] refl)
+      ∙ each_back rows fit
 
 all_below_of : (value : LineOrder → ℕ) (limit : ℕ) (rows : List LineOrder) → All (λ row. value row < limit) rows
     → all_below limit (map value rows) ≡ true
@@ -156,13 +168,9 @@ module _ (text : List ℕ) (number : ℕ) (rows : List LineOrder) (is : IsSegmen
       → all_below (2 ^ 63)
       (map (from_le_bytes w64) (first_chunks 8 (length rows) (column_bytes place 8 (length rows) text))) ≡ true
   amount_column place column holds fit =
-      let part : LineOrder → List ℕ = λ row. spelling 8 (amount_of column row) in
-      let cut : first_chunks 8 (length rows) (flat_map part rows) ≡ map part rows =
-      ap (first_chunks 8 (length rows)) (sym (append-nil (flat_map part rows)))
-      ∙ chunks_of 8 part (λ row. length-spelling 8 (amount_of column row)) (length rows) rows [] refl in
       ap (λ (l : List ℕ). all_below (2 ^ 63) (map (from_le_bytes w64) (first_chunks 8 (length rows) l))) holds
-      ∙ ap (λ (l : List (List ℕ)). all_below (2 ^ 63) (map (from_le_bytes w64) l)) cut
-      ∙ ap (all_below (2 ^ 63)) (amounts_back (amount_of column) rows fit)
+      ∙ ap (all_below (2 ^ 63))
+      (column_back 8 (from_le_bytes w64) (2 ^ 63) (λ x h. read_8 x (omega (arith, h))) (amount_of column) rows fit)
       ∙ all_below_of (amount_of column) (2 ^ 63) rows fit
 
   pub has_numbers : HasNumbers text (length rows)

@@ -1,8 +1,12 @@
 -- Columns that were read have the numbers of the batch that they were read from. Our own.
-use Rattle.std.proofs.Common.{◌≡◌, ℕ, ◌^◌, ◌≤◌, Option, Some, None, List, [], ◌∷◌, length, map, drop, All}
+use Rattle.std.proofs.Common.{◌≡◌, ℕ, ◌^◌, ◌%◌, ◌<◌, Option, Some, None, List, [], ◌∷◌, length, map, drop, All}
 use Rattle.std.proofs.Common.{refl, sym, ap, subst, ◌∙◌, arith}
-use Rattle.std.specs.List.{AllByRecursion}
+use Rattle.std.specs.Int.{from_le_bytes, w32, w64}
+use Rattle.std.proofs.lemmas.List.Elements.{All-head, All-tail}
+use Rattle.std.specs.List.{AllByRecursion, flat_map}
 use Rattle.std.specs.Option.{IsSomeAnd}
+use Rattle.std.specs.Simd.{first_chunks}
+use Rattle.wire.specs.Spelling.{spelling}
 use Rattle.cube_model.specs.declared.rows.LineOrder.{LineOrder}
 use Rattle.column_segment.specs.declared.columns.AmountColumn.{AmountColumn}
 use Rattle.column_segment.specs.declared.columns.AmountColumn.TheVariants.{OrderKey, ExtendedPrice, OrdTotalPrice}
@@ -13,28 +17,22 @@ use Rattle.column_segment.specs.declared.columns.ByteColumn.TheVariants.{Quantit
 use Rattle.column_segment.specs.declared.columns.FactColumn.{FactColumn}
 use Rattle.column_segment.specs.declared.columns.FactColumn.TheVariants.{Amount, Number, Figure}
 use Rattle.column_segment.specs.declared.layout.Layout.{Layout}
-use Rattle.column_segment.specs.Columns.{Column, FitsColumn, amount_of, amounts, bytes, number_columns, numbers}
+use Rattle.column_segment.specs.Columns.{Column, FitsColumn, amount_of, amounts, byte_of, bytes, column_number}
+use Rattle.column_segment.specs.Columns.{number_columns, numbers}
 use Rattle.column_segment.specs.Decoded.{HoldsColumns, column_bytes, decoded_rows}
 use Rattle.column_segment.specs.Projected.{AgreeOn, HasColumns, ShareColumn, fact_place, fact_value, width_of}
 use Rattle.column_segment.specs.Reading.{HasHeader, HasNumbers}
 use Rattle.column_segment.specs.Segment.{FitColumns, IsSegment, number_column}
-use Rattle.column_segment.proofs.CallerLemmas.{column-one, header-one}
-use Rattle.column_segment.proofs.Chunked.{AreBytes}
-use Rattle.column_segment.proofs.OneColumn.{column_place}
-use Rattle.column_segment.proofs.Passes.{Sections, has_header, has_numbers, segment_sections}
-use Rattle.column_segment.proofs.Values.{amounts_small, amounts_hold, bytes_fit, bytes_hold, numbers_fit}
-use Rattle.column_segment.proofs.Values.{numbers_hold, rows_many}
+use Rattle.column_segment.proofs.CallerLemmas.{header-one}
+use Rattle.column_segment.proofs.Chunked.{read_4, read_8}
+use Rattle.column_segment.proofs.Passes.{Sections, column_back, has_header, has_numbers, segment_sections}
+use Rattle.column_segment.proofs.Values.{amount_values, byte_values, number_values, rows_many}
 
 -- a column of any numbers of its width
 abbrev column_of : FactColumn → Column
 column_of (Amount column) = record { width = 8; limit = 2 ^ 64; value = amount_of column }
 column_of (Number column) = numbers column
 column_of (Figure column) = bytes column
-
-wide : (column : FactColumn) → (column_of column).limit ≤ 256 ^ (column_of column).width
-wide (Amount column) = omega arith
-wide (Number column) = omega arith
-wide (Figure column) = omega arith
 
 wider : (column : AmountColumn) (rows : List LineOrder) → All (FitsColumn (amounts column)) rows
     → All (FitsColumn (column_of (Amount column))) rows
@@ -72,41 +70,51 @@ holds (Amount Revenue) n rows text s = s.1.1.1.1.1.1.1.1.1.1.0
 holds (Amount SupplyCost) n rows text s = s.1.1.1.1.1.1.1.1.1.1.1.0
 holds (Figure Tax) n rows text s = s.1.1.1.1.1.1.1.1.1.1.1.1.0
 
-value_is : (column : FactColumn) (rows : List LineOrder)
-    → map (fact_value column) rows ≡ map (column_of column).value rows
-value_is (Amount column) rows = refl
-value_is (Number column) rows = refl
-value_is (Figure column) rows = refl
+-- numbers of a byte are their bytes
+each_byte : (value : LineOrder → ℕ) (rows : List LineOrder) → All (λ row. value row < 2 ^ 8) rows
+    → flat_map (λ row. spelling 1 (value row)) rows ≡ map value rows
+unfolding spelling
+each_byte value [] fit = refl
+each_byte value (row ∷ rows) fit =
+    let own : value row < 2 ^ 8 = All-head (λ (r : LineOrder). value r < 2 ^ 8) row rows fit in
+    let head : value row % 256 ≡ value row = omega (arith, own) in
+    let tail = each_byte value rows (All-tail (λ (r : LineOrder). value r < 2 ^ 8) row rows fit) in
+    λ i. head i ∷ tail i
+
+-- the numbers that bytes of a column are, any bytes
+abbrev numbers_in_bytes : FactColumn → ℕ → List ℕ → List ℕ
+numbers_in_bytes (Amount column) rows bytes = map (from_le_bytes w64) (first_chunks 8 rows bytes)
+numbers_in_bytes (Number column) rows bytes = map (from_le_bytes w32) (first_chunks 4 rows bytes)
+numbers_in_bytes (Figure column) rows bytes = bytes
+
+-- those of a batch's column are its numbers
+numbers_back : (column : FactColumn) (rows : List LineOrder) → All (FitsColumn (column_of column)) rows
+    → numbers_in_bytes column (length rows) (number_column rows (column_of column)) ≡ map (fact_value column) rows
+numbers_back (Amount column) rows fit = column_back 8 (from_le_bytes w64) (2 ^ 64) read_8 (amount_of column) rows fit
+numbers_back (Number column) rows fit =
+    column_back 4 (from_le_bytes w32) (2 ^ 32) read_4 (column_number column) rows fit
+numbers_back (Figure column) rows fit = each_byte (byte_of column) rows fit
 
 -- ---- the rows of some bytes
 
-module _ (own : List ℕ) (layout : Layout) (has : HoldsColumns own layout.rows) (are : AreBytes own) where
-  own_fits : (column : FactColumn) → All (FitsColumn (column_of column)) (decoded_rows own layout)
-  own_fits (Amount column) = amounts_small own layout has.room are column
-  own_fits (Number column) = numbers_fit own layout has.room are column
-  own_fits (Figure column) = bytes_fit own layout has.room are column
-
-  own_holds : (column : FactColumn) → column_bytes (fact_place column) (width_of column) layout.rows own
-      ≡ number_column (decoded_rows own layout) (column_of column)
-  own_holds (Amount column) = sym (amounts_hold own layout has.room are column (column_place (Amount column)))
-  own_holds (Number column) = sym (numbers_hold own layout has.room are column (column_place (Number column)))
-  own_holds (Figure column) = sym (bytes_hold own layout has.room are column)
+module _ (own : List ℕ) (layout : Layout) (has : HoldsColumns own layout.rows) where
+  own_numbers : (column : FactColumn) → map (fact_value column) (decoded_rows own layout)
+      ≡ numbers_in_bytes column layout.rows
+      (column_bytes (fact_place column) (width_of column) layout.rows own)
+  own_numbers (Amount column) = amount_values own layout column
+  own_numbers (Number column) = number_values own layout column
+  own_numbers (Figure column) = byte_values own layout has.room column
 
   module _ (text : List ℕ) (another : ℕ) (others : List LineOrder) (is : IsSegment text another others)
       (many : layout.rows ≡ length others) where
-    long : length (decoded_rows own layout) ≡ length others
-    long = rows_many own layout ∙ many
-
     shared_values : (column : FactColumn) → ShareColumn layout.rows own text column
         → map (fact_value column) (decoded_rows own layout) ≡ map (fact_value column) others
     shared_values column same =
-        let two = holds column (length others) others text (segment_sections text another others is) in
-        value_is column (decoded_rows own layout)
-        ∙ column-one (column_of column) (decoded_rows own layout) others long (wide column) (own_fits column)
-        (fits column others is.fits)
-        (sym (own_holds column) ∙ same ∙ ap (λ (m : ℕ). column_bytes (fact_place column) (width_of column) m text) many
-        ∙ two)
-        ∙ sym (value_is column others)
+        own_numbers column ∙ ap (numbers_in_bytes column layout.rows) same
+        ∙ ap (λ (n : ℕ). numbers_in_bytes column n (column_bytes (fact_place column) (width_of column) n text)) many
+        ∙ ap (numbers_in_bytes column (length others))
+        (holds column (length others) others text (segment_sections text another others is))
+        ∙ numbers_back column others (fits column others is.fits)
 
     all_shared : (columns : List FactColumn) → AllByRecursion (ShareColumn layout.rows own text) columns
         → AllByRecursion (λ column. map (fact_value column) (decoded_rows own layout) ≡ map (fact_value column) others)
@@ -122,37 +130,29 @@ same_header text number other rows others one two =
     two.fits (omega (arith, two.few)) (sym one.spelled ∙ two.spelled) in (same.0, same.1)
 
 -- bytes that share columns with those of a batch agree with it there
-pub read_agree : (own : List ℕ) (layout : Layout) → HoldsColumns own layout.rows → AreBytes own
+read_agree : (own : List ℕ) (layout : Layout) → HoldsColumns own layout.rows
     → (text : List ℕ) (number other : ℕ) (others : List LineOrder) (columns : List FactColumn)
     → HasColumns text number layout.rows → AllByRecursion (ShareColumn layout.rows own text) columns
     → IsSegment text other others → (other ≡ number) × AgreeOn columns (decoded_rows own layout) others
-read_agree own layout has are text number other others columns found shared is =
+read_agree own layout has text number other others columns found shared is =
     let same = same_header text other number (length others) layout.rows (has_header text other others is)
     found.header in (
       same.0,
       record {
-        count = long own layout has are text other others is (sym same.1);
-        each = all_shared own layout has are text other others is (sym same.1) columns shared;
+        count = rows_many own layout ∙ sym same.1;
+        each = all_shared own layout has text other others is (sym same.1) columns shared;
       },
     )
 
 -- the same of the text at an id, if there is one
-pub found_agrees : (shown new kept : List ℕ) (layout : Layout) (number : ℕ) (columns : List FactColumn) → shown ≡ kept
-    → kept ≡ new
-    → ((text : List ℕ) (number other : ℕ) (others : List LineOrder) (columns : List FactColumn)
-    → HasColumns text number layout.rows → AllByRecursion (ShareColumn layout.rows shown text) columns
-    → IsSegment text other others
-    → (other ≡ number) × AgreeOn columns (decoded_rows shown layout) others)
-    → (text : Option (List ℕ))
-    → IsSomeAnd text (λ t. HasColumns t number layout.rows × AllByRecursion (ShareColumn layout.rows new t) columns)
+pub found_agrees : (own : List ℕ) (layout : Layout) (number : ℕ) (columns : List FactColumn)
+    → HoldsColumns own layout.rows → (text : Option (List ℕ))
+    → IsSomeAnd text (λ t. HasColumns t number layout.rows × AllByRecursion (ShareColumn layout.rows own t) columns)
     → IsSomeAnd text (λ t. (other : ℕ) (others : List LineOrder) → IsSegment t other others
-    → (other ≡ number) × AgreeOn columns (decoded_rows kept layout) others)
-found_agrees shown new kept layout number columns is also law None found = absurd found
-found_agrees shown new kept layout number columns is also law (Some text) found = λ other others segment.
-    let own = law text number other others columns found.0
-    (subst (λ (l : List ℕ). AllByRecursion (ShareColumn layout.rows l text) columns) (sym (is ∙ also)) found.1)
-    segment in
-    (own.0, subst (λ (l : List ℕ). AgreeOn columns (decoded_rows l layout) others) is own.1)
+    → (other ≡ number) × AgreeOn columns (decoded_rows own layout) others)
+found_agrees own layout number columns has None found = absurd found
+found_agrees own layout number columns has (Some text) found = λ other others segment.
+    read_agree own layout has text number other others columns found.0 found.1 segment
 
 -- ---- what each batch of so many rows has
 

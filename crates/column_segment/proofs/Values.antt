@@ -134,6 +134,13 @@ module _ (text : List ℕ) (layout : Layout) where
     byte_values Tax =
         picked (byte_of Tax) (figures_in text layout.rows Tax) (omega (arith, column_long 62 1 (omega arith))) refl
 
+    -- numbers that were read as bytes fit them
+    pub read_fit : (column : ByteColumn) (read : List ℕ) → read ≡ figures_in text layout.rows column
+        → All (λ x. x < 2 ^ 8) read → All (FitsColumn (bytes column)) (decoded_rows text layout)
+    read_fit column read is fit =
+        All-unmap (λ (x : ℕ). x < 2 ^ 8) (byte_of column) (decoded_rows text layout)
+        (subst (All (λ (x : ℕ). x < 2 ^ 8)) (is ∙ sym (byte_values column)) fit)
+
     -- the columns of the rows are those of the bytes
     module _ (are : AreBytes text) where
       column_are : (place width : ℕ) → AreBytes (column_bytes place width layout.rows text)

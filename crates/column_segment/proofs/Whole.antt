@@ -170,6 +170,7 @@ module _ (text : List ℕ) (n from : ℕ) (coded : Coded) (are : AreBytes text) 
   pub has_codes : HasCodes text n coded
   has_codes = record {
     room = column.room;
+    few = column.proper.most;
     below = All-from_recursion (λ (code : ℕ). code < length coded.texts.texts) (codes_in text n coded.at)
         (AreCodes-below (length coded.texts.texts) (codes_in text n coded.at) column.are);
   }

@@ -1,5 +1,5 @@
 -- A column of texts while it is being coded. Our own.
-use Rattle.std.specs.Prelude.{◌≡◌, ◌<◌, ℕ, List, All, length, map}
+use Rattle.std.specs.Prelude.{◌≡◌, ◌<◌, ◌≤◌, ℕ, List, All, length, map}
 use Rattle.std.specs.Int.{from_le_bytes, w16}
 use Rattle.cube_model.specs.Limits.{most_batch_rows}
 use Rattle.cube_model.specs.declared.rows.LineOrder.{LineOrder}
@@ -11,6 +11,7 @@ use Rattle.dictionary.specs.Columns.{codes_of, codes_spelling, text_of_code}
 pub record AreCoded (column : List (List ℕ)) (texts : Texts) (codes : List ℕ) : Type 0 where
   pub texts_are : texts.texts ≡ firsts column
   pub limit : texts.limit ≡ most_batch_rows
+  pub few : length texts.texts ≤ most_batch_rows
   pub codes_are : codes ≡ codes_spelling (codes_of column)
 
 -- the code of each text of a column among those of a dictionary, in two bytes, the lowest first

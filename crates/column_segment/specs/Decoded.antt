@@ -107,6 +107,7 @@ pub record HoldsColumns (bytes : List ℕ) (rows : ℕ) : Type 0 where
 -- the codes of a column are there, each of them that of a text
 pub record HasCodes (bytes : List ℕ) (rows : ℕ) (coded : Coded) : Type 0 where
   pub room : coded.at + 2 * rows ≤ length bytes
+  pub few : length coded.texts.texts ≤ most_batch_rows
   pub below : All (λ code. code < length coded.texts.texts) (codes_in bytes rows coded.at)
 
 -- each row can be read: the columns are there, with amounts and codes in their ranges

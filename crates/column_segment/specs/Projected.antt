@@ -4,10 +4,9 @@ use Rattle.std.specs.List.{AllByRecursion}
 use Rattle.column_kernels.specs.Checks.{all_below}
 use Rattle.cube_model.specs.declared.rows.LineOrder.{LineOrder}
 use Rattle.column_segment.specs.declared.columns.AmountColumn.{AmountColumn}
-use Rattle.column_segment.specs.declared.columns.ByteColumn.{ByteColumn}
 use Rattle.column_segment.specs.declared.columns.FactColumn.{FactColumn}
 use Rattle.column_segment.specs.declared.columns.FactColumn.TheVariants.{Amount, Number, Figure}
-use Rattle.column_segment.specs.Columns.{FitsColumn, amount_of, byte_of, bytes, column_number}
+use Rattle.column_segment.specs.Columns.{amount_of, byte_of, bytes, column_number}
 use Rattle.column_segment.specs.Decoded.{amount_place, amounts_in, byte_place, column_bytes, number_place}
 use Rattle.column_segment.specs.Reading.{HasHeader}
 use Rattle.column_segment.specs.Segment.{IsSegment}
@@ -52,9 +51,10 @@ pub record HasColumns (text : List ℕ) (number rows : ℕ) : Type 0 where
   pub header : HasHeader text number rows
   pub room : 12 + 63 * rows ≤ length text
 
--- the small numbers of rows are those of bytes
-abbrev pub BytesHaveFigures : List LineOrder → Type 0
-BytesHaveFigures rows = (column : ByteColumn) → All (FitsColumn (bytes column)) rows
+-- the quantities and the discounts of rows fit a byte
+pub record HaveSmallFigures (rows : List LineOrder) : Type 0 where
+  pub quantities : All (λ row. row.quantity < 2 ^ 8) rows
+  pub discounts : All (λ row. row.discount < 2 ^ 8) rows
 
 -- there is no text, or it is that of no batch of a number and of so many rows
 abbrev pub HoldsNoneOf : Option (List ℕ) → ℕ → ℕ → Type 0

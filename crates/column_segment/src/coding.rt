@@ -142,7 +142,6 @@ fn coded_column<'a>(texts: &'a Dictionary, codes: &'a [[u8; 2]]) -> (&'a Diction
     ensures { (column : List (List ℕ)) → AreCoded column texts.now (flat_map (λ code. code) codes.now)
         → AreCodesOf column result.0.now.texts result.1.now }
 {
-    let _few = texts.len();
     (texts, codes)
 }
 

@@ -10,7 +10,7 @@ ghost use Rattle.column_segment.specs.Segment.{IsSegment};
 use crate::columns::FactColumn;
 use crate::fact_columns::FactColumns;
 use crate::layout::{HEADER_BYTES, Layout, NUMBER_BYTES};
-use crate::projecting::{columns_agree, read_columns};
+use crate::projecting::read_columns;
 use cube_model::Fault;
 use cube_model::limits::MOST_BATCH_ROWS;
 use std::alloc::{AllocError, Global};
@@ -95,7 +95,6 @@ impl ColumnBuffer {
         self.bytes.resize(HEADER_BYTES + NUMBER_BYTES * rows, 0)?;
         self.layout.rows = rows;
         read_columns(source, id, number, self.bytes.as_mut_slice(), rows, columns)?;
-        columns_agree(self.bytes.as_slice(), &self.layout);
         Ok(())
     }
 

@@ -11,7 +11,7 @@ ghost use Rattle.column_kernels.specs.Masks.{lies_in, selected_by};
 ghost use Rattle.column_kernels.specs.Sums.{numbers_of};
 ghost use Rattle.column_segment.specs.Columns.{amount_of, byte_of, column_number};
 ghost use Rattle.column_segment.specs.Decoded.{HoldsColumns, decoded_rows};
-ghost use Rattle.column_segment.specs.Projected.{BytesHaveFigures};
+ghost use Rattle.column_segment.specs.Projected.{HaveSmallFigures};
 
 use crate::columns::{AmountColumn, ByteColumn, NumberColumn};
 use crate::extremes::selected_extremes;
@@ -54,9 +54,7 @@ impl<'a> FactColumns<'a> {
     pub fn len(&self) -> usize
         ensures count { result ≡ length self.now }
         ensures few { length self.now ≤ most_batch_rows }
-        ensures figures { BytesHaveFigures self.now }
     {
-        figures_are_bytes(self.bytes, self.layout);
         self.layout.rows
     }
 
@@ -86,6 +84,7 @@ impl<'a> FactColumns<'a> {
         ensures ok { IfOk result
             (λ mask. mask ≡ map (λ row. lies_in quantity discount row.quantity row.discount) self.now) }
         ensures memory { IfErr result (λ fault. fault ≡ Fault.Memory) }
+        ensures figures { HaveSmallFigures self.now }
     {
         let quantities = byte_part(self.bytes, self.layout.rows, ByteColumn::Quantity);
         let discounts = byte_part(self.bytes, self.layout.rows, ByteColumn::Discount);
@@ -108,9 +107,3 @@ impl<'a> FactColumns<'a> {
         selected_extremes(self.bytes, self.layout, measure, mask)
     }
 }
-
-// Each small number in the columns of bytes is that of a byte. It does nothing.
-fn figures_are_bytes(bytes: &[u8], layout: &Layout)
-    requires { HoldsColumns bytes.now layout.now.rows }
-    ensures { BytesHaveFigures (decoded_rows bytes.now layout.now) }
-{}

@@ -1,5 +1,5 @@
 //! Where the columns of a batch are in its bytes.
-ghost use Rattle.std.specs.Prelude.{◌≡◌, ◌+◌, ◌*◌, ◌≤◌, length, map};
+ghost use Rattle.std.specs.Prelude.{◌≡◌, ◌+◌, ◌*◌, ◌^◌, ◌≤◌, ◌<◌, All, length, map};
 ghost use Rattle.std.specs.Int.{from_le_bytes, w16};
 ghost use Rattle.std.specs.Simd.{first_chunks};
 ghost use Rattle.cube_model.specs.Limits.{most_batch_rows};
@@ -120,6 +120,7 @@ pub(crate) fn byte_part(bytes: &[u8], rows: usize, column: ByteColumn) -> &[u8]
     requires room { 12 + 63 * rows ≤ length bytes.now }
     ensures value { result.now ≡ column_bytes (byte_place column) 1 rows bytes.now }
     ensures many { length result.now ≡ rows }
+    ensures fit { All (λ number. number < 2 ^ 8) result.now }
 {
     part(bytes, rows, column.place(), 1)
 }

@@ -57,15 +57,6 @@ pub(crate) fn read_columns<S: Source>(
     Ok(())
 }
 
-/// A batch whose columns are in bytes agrees in them with the rows there. It does nothing.
-pub(crate) fn columns_agree(bytes: &[u8], layout: &Layout)
-    requires { HoldsColumns bytes.now layout.now.rows }
-    ensures { (text : List ℕ) (number other : ℕ) (others : List LineOrder) (columns : List FactColumn)
-        → HasColumns text number layout.now.rows
-        → AllByRecursion (ShareColumn layout.now.rows bytes.now text) columns → IsSegment text other others
-        → (other ≡ number) × AgreeOn columns (decoded_rows bytes.now layout.now) others }
-{}
-
 // Reads the header and all columns of numbers at once, each to its place, and checks the header and the columns asked
 // for.
 fn read_at_once<S: Source>(

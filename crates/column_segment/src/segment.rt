@@ -1,8 +1,10 @@
 //! A batch as the bytes that it was read from, which are kept and looked at as columns.
-ghost use Rattle.std.specs.Prelude.{◌≡◌, ◌↔◌, ◌⊎◌, ◌++◌, ◌<◌, ℕ, List, All, length, map, take, drop, IsTrue, IfErr};
+ghost use Rattle.std.specs.Prelude.{◌≡◌, ◌↔◌, ◌⊎◌, ◌++◌, ◌<◌, ◌≤◌, ℕ, List, All, length, map, take, drop, IsTrue};
+ghost use Rattle.std.specs.Prelude.{IfErr};
 ghost use Rattle.std.specs.Prelude.{IfOk, IsOkUnless, OnOk};
 ghost use Rattle.cube_model.specs.declared.fault.Fault.{Fault};
 ghost use Rattle.cube_model.specs.declared.rows.LineOrder.{LineOrder};
+ghost use Rattle.cube_model.specs.Limits.{most_batch_rows};
 ghost use Rattle.std.specs.Int.{from_le_bytes, w16};
 ghost use Rattle.dictionary.specs.Columns.{text_of_code};
 ghost use Rattle.column_segment.specs.Columns.{text_of};
@@ -101,7 +103,8 @@ impl Segment {
 
     /// The columns of numbers.
     pub fn columns(&self) -> FactColumns<'_>
-        ensures { result ≡ self.now.rows }
+        ensures rows { result ≡ self.now.rows }
+        ensures few { length self.now.rows ≤ most_batch_rows }
     {
         FactColumns::of(&self.bytes, &self.layout)
     }
@@ -112,6 +115,7 @@ impl Segment {
         ensures below { All (λ code. code < length result.0.now.texts) (map (from_le_bytes w16) result.1.now) }
         ensures texts { map (text_of_code result.0.now.texts) (map (from_le_bytes w16) result.1.now)
             ≡ map (text_of column) self.now.rows }
+        ensures few { length result.0.now.texts ≤ most_batch_rows }
     {
         let coded = self.layout.texts.column(column);
         (

@@ -87,7 +87,7 @@ value_cmp_total = record {
   congr (Ratio x) (Ratio y) (Ratio z) p = refl
 
 -- the lines of an answer compare in a total order
-answer_cmp_total : (order : Option Order) → IsTotalOrder (answer_cmp order)
+pub answer_cmp_total : (order : Option Order) → IsTotalOrder (answer_cmp order)
 answer_cmp_total None = on_total (λ line. line.key) key_cmp_total
 answer_cmp_total (Some order) =
     then_total (on_total (λ line. slice_index_or line.key order.column All) member_cmp_total)
@@ -95,13 +95,11 @@ answer_cmp_total (Some order) =
     (back_total (on_total (λ line. slice_index_or line.values order.aggregate (Whole (pos 0))) value_cmp_total))
     (on_total (λ line. line.key) key_cmp_total))
 
--- what ends in a comparison of two things ties only where these do
-last_ties : (a b c : Ordering) → ordering_then a (ordering_then b c) ≡ Equal → c ≡ Equal
-last_ties Less b c e = cc
-last_ties Greater b c e = cc
-last_ties Equal Less c e = cc
-last_ties Equal Greater c e = cc
-last_ties Equal Equal c e = e
+-- what ends in a comparison ties only where this ties
+pub last_ties : (a b : Ordering) → ordering_then a b ≡ Equal → b ≡ Equal
+last_ties Less b e = cc
+last_ties Equal b e = e
+last_ties Greater b e = cc
 
 module _ (order : Option Order) (f : List Member → Line) (own : (key : List Member) → (f key).key ≡ key) where
   -- the order of the lines, as one of their keys
@@ -120,7 +118,7 @@ module _ (order : Option Order) (f : List Member → Line) (own : (key : List Me
     where
       ties : (o : Option Order) → answer_cmp o (f left) (f right) ≡ Equal → key_cmp (f left).key (f right).key ≡ Equal
       ties None h = h
-      ties (Some o) h = last_ties _ _ _ h
+      ties (Some o) h = last_ties _ _ (last_ties _ _ h)
 
   IsAscending-map : (keys : List (List Member)) → IsAscending by_line keys → IsAscending (answer_cmp order) (map f keys)
   IsAscending-map [] sorted = tt

@@ -22,8 +22,7 @@ use Rattle.cube_model.specs.Causes.{first_cause, cause_if}
 use Rattle.cube_model.specs.Measures.{measure_of}
 use Rattle.cube_model.specs.Selection.{is_selected, selected}
 use Rattle.column_kernels.specs.Masks.{selected_by}
-use Rattle.column_segment.specs.declared.columns.ByteColumn.TheVariants as figures
-use Rattle.column_segment.specs.Projected.{BytesHaveFigures}
+use Rattle.column_segment.specs.Projected.{HaveSmallFigures}
 use Rattle.group_plan.specs.Kept.{ArePlaces, KeepPlaces}
 use Rattle.group_plan.specs.Numbers.{Asked, group_key_at}
 use Rattle.group_plan.specs.Plans.{AreBounds, is_within}
@@ -149,7 +148,7 @@ keeps bounds rows quantities discounts dimensions conditions are = record {
 }
 
 pub chosen_keep : (bounds : Bounds) (rows kept : List LineOrder) (marks : List Bool) (places : List ℕ)
-    → BytesHaveFigures rows → kept ≡ rows → marks ≡ map (lies_within bounds) rows
+    → HaveSmallFigures rows → kept ≡ rows → marks ≡ map (lies_within bounds) rows
     → places ≡ places_from 0 marks → (dimensions : DimRows) (conditions : List Cond) → AreBounds conditions bounds
     → KeepSelected dimensions conditions (map (row_at kept) places) rows
 chosen_keep bounds rows kept marks places fit own tell are dimensions conditions bound =
@@ -162,7 +161,7 @@ chosen_keep bounds rows kept marks places fit own tell are dimensions conditions
     ap (λ (l : List LineOrder). map (row_at l) places) own ∙ ap (map (row_at rows)) (are ∙ ap (places_from 0) tell)
     ∙ chosen in
     subst (λ (l : List LineOrder). KeepSelected dimensions conditions l rows) (sym same)
-    (keeps bounds rows (fit figures.Quantity) (fit figures.Discount) dimensions conditions bound)
+    (keeps bounds rows fit.quantities fit.discounts dimensions conditions bound)
 
 -- ---- all rows
 pub range_more : (place count : ℕ) → range_with_len place (count + 1) ≡ range_with_len place count ++ (place + count)

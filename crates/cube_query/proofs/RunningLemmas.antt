@@ -79,7 +79,6 @@ use Rattle.lattice.specs.Determined.{Serves}
 use Rattle.cuboid_cells.specs.declared.cell.Cell.{Cell}
 use Rattle.cuboid_cells.specs.Cells.{AreAscending, PlainCells, cell_at, key_as_number}
 use Rattle.cuboid_upkeep.specs.Grouping.{HasMembers, RepresentRows, cell_over, key_of, rows_of_number}
-use Rattle.cuboid_upkeep.specs.Lawful.{OneKeyOneGroup}
 use Rattle.cuboid_upkeep.proofs.Represented.{row_of_cell}
 use Rattle.cube_query.specs.CellRuns.{AreWantedMerged}
 use Rattle.cube_query.specs.CellSlots.{AreMergedIn, asked_of}
@@ -92,6 +91,8 @@ use Rattle.cube_query.proofs.RowSlots.{HasSlot}
 use Rattle.cube_query.proofs.Wanted.{leaves_none, slots_for, slots_for-length, wanted_slot, with_wanted}
 use Rattle.cube_model.specs.declared.measure.Measure.TheVariants as measures
 use Rattle.column_segment.specs.declared.columns.ByteColumn.TheVariants as figures
+use Rattle.dimensions.specs.Shown.{AreStorable}
+use Rattle.cuboid_upkeep.proofs.LawsLemmas.{one_group}
 
 -- ==== Fact rows that agree in the columns at which a query looks are the same to a fold of it.
 
@@ -1055,7 +1056,7 @@ module _ (dimensions : DimRows) (modes : List (List ℕ)) (view : View) (query :
         | false ↦ λ still. row_found number rows row (k, omega (arith, within), is) own still
       ]) none
 
-  module _ (law : OneKeyOneGroup dimensions) (serves : Serves view query) (cells : List Cell)
+  module _ (storable : AreStorable dimensions) (serves : Serves view query) (cells : List Cell)
       (group_slots : List (Option ℕ))
       (have : (number : ℕ) (found : Cell) → cell_at number cells ≡ Some found
       → HasSlot dimensions modes view query entries number (slot_by cells group_slots number)) (rows : List LineOrder)
@@ -1080,10 +1081,11 @@ module _ (dimensions : DimRows) (modes : List (List ℕ)) (view : View) (query :
         turned row members has =
             (elim (slot_of_row row) as (λ o. IsGroupSlot dimensions query entries has.row o
             → IsGroupSlot dimensions query entries row o) [
-              | None ↦ λ is. law modes view query has.row row None serves has.members members has.number_is is
+              | None ↦ λ is. one_group dimensions storable modes view query has.row row None serves has.members members
+                  has.number_is is
               | Some slot ↦ λ is. (
                 is.0,
-                law modes view query has.row row (Some is.0) serves has.members members
+                one_group dimensions storable modes view query has.row row (Some is.0) serves has.members members
                     has.number_is is.1,
                 is.2,
               )
@@ -1189,11 +1191,11 @@ module _ (dimensions : DimRows) (plan : GroupPlan) (over : IsGroupPlanOver dimen
     pub represents_wanted : (merged : List (Vec Tally Global))
         → AreWantedMerged (asked_of dimensions (query_of plan) plain.view modes) (query_of plan).aggregates
         (entries_of new) plain.cells columns merged
-        → OneKeyOneGroup dimensions → Serves plain.view (query_of plan) → (rows : List LineOrder)
+        → AreStorable dimensions → Serves plain.view (query_of plan) → (rows : List LineOrder)
         → RepresentRows dimensions modes rows plain
         → (so_far : List LineOrder) → RepresentsRows dimensions (shown plan old columns) so_far
         → RepresentsRows dimensions (shown plan new merged) (so_far ++ rows)
-    represents_wanted merged are law serves rows represent so_far represents =
+    represents_wanted merged are storable serves rows represent so_far represents =
         let query = query_of plan in
         let asked = asked_of dimensions query plain.view modes in
         let entries = entries_of new in
@@ -1205,22 +1207,24 @@ module _ (dimensions : DimRows) (plan : GroupPlan) (over : IsGroupPlanOver dimen
         let have = λ (number : ℕ) (found : Cell) (is : cell_at number plain.cells ≡ Some found).
         wanted_slot asked entries plain.cells are.wanted are.out own.slots.rows own.group_slots number found
         own.slots.represent own.slots.slots rows_there is in
-        let slots = rows_have_slots dimensions modes plain.view query entries law serves plain.cells group_slots have
+        let slots = rows_have_slots dimensions modes plain.view query entries storable serves plain.cells group_slots
+        have
         rows represent in
-        let counted = rows_counted dimensions modes plain.view query entries law serves plain.cells group_slots have
+        let counted = rows_counted dimensions modes plain.view query entries storable serves plain.cells group_slots
+        have
         rows represent query.aggregates columns merged
         (slots_for-length asked plain.cells are.wanted are.out own.group_slots)
         (λ slot. own.merged slot ∙ sym
         (with_wanted asked slot plain.cells are.wanted are.out own.group_slots count query.aggregates
         (tallies_at columns slot))) in
         represents_count dimensions plan over old columns kept new columns cover grow as_they_are rows
-        (map (slot_of_row dimensions modes plain.view query entries law serves plain.cells group_slots have rows
+        (map (slot_of_row dimensions modes plain.view query entries storable serves plain.cells group_slots have rows
         represent) rows) slots merged counted so_far represents
 
     pub represents_merged : (merged : List (Vec Tally Global))
         → AreMergedIn (asked_of dimensions (query_of plan) plain.view modes) (query_of plan).aggregates (entries_of new)
         plain.cells columns merged
-        → OneKeyOneGroup dimensions → Serves plain.view (query_of plan) → (rows : List LineOrder)
+        → AreStorable dimensions → Serves plain.view (query_of plan) → (rows : List LineOrder)
         → RepresentRows dimensions modes rows plain
         → (so_far : List LineOrder) → RepresentsRows dimensions (shown plan old columns) so_far
         → RepresentsRows dimensions (shown plan new merged) (so_far ++ rows)

@@ -19,8 +19,7 @@ use Rattle.cube_model.specs.declared.rows.DimRows.{DimRows}
 use Rattle.cube_model.specs.declared.rows.LineOrder.{LineOrder}
 use Rattle.column_kernels.specs.Masks.{selected_by}
 use Rattle.column_kernels.proofs.CallerLemmas.{count_selected}
-use Rattle.column_segment.specs.declared.columns.ByteColumn.TheVariants as figures
-use Rattle.column_segment.specs.Projected.{BytesHaveFigures}
+use Rattle.column_segment.specs.Projected.{HaveSmallFigures}
 use Rattle.group_plan.specs.Numbers.{group_count, group_key_at}
 use Rattle.group_plan.specs.Parts.{holds_in}
 use Rattle.group_plan.specs.Plans.{AreBounds}
@@ -83,14 +82,14 @@ same_marks p q (row ∷ rows) same quantities discounts =
 
 -- the bounds tell the selected rows
 pub bounds_tell : (dimensions : DimRows) (conditions : List Cond) (bounds : Bounds) (rows : List LineOrder)
-    → list_all is_on_row conditions ≡ true → AreBounds conditions bounds → BytesHaveFigures rows
+    → list_all is_on_row conditions ≡ true → AreBounds conditions bounds → HaveSmallFigures rows
     → map (lies_within bounds) rows ≡ map (is_selected dimensions conditions) rows
 bounds_tell dimensions conditions bounds rows all are fit =
     same_marks (lies_within bounds) (is_selected dimensions conditions) rows
     (λ row small.
     and_assoc (nat_le bounds.least_quantity row.quantity) (nat_le row.quantity bounds.greatest_quantity) _
     ∙ are row small.0 small.1 ∙ on_row dimensions row conditions all)
-    (fit figures.Quantity) (fit figures.Discount)
+    fit.quantities fit.discounts
 
 -- ---- the selected rows
 selected_twice : (p : LineOrder → Bool) (rows : List LineOrder)

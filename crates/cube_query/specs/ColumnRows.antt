@@ -1,6 +1,7 @@
 -- Fact rows as the columns of a batch. Our own.
-use Rattle.std.specs.Prelude.{◌≡◌, ℕ, ◌<◌, List, length, map, All}
+use Rattle.std.specs.Prelude.{◌≡◌, ℕ, ◌<◌, ◌≤◌, List, length, map, All}
 use Rattle.std.specs.Int.{from_le_bytes, w16, w32, w64}
+use Rattle.cube_model.specs.Limits.{most_batch_rows}
 use Rattle.cube_model.specs.declared.rows.LineOrder.{LineOrder}
 use Rattle.dictionary.specs.Columns.{text_of_code}
 
@@ -23,7 +24,8 @@ pub record ModedRows : Type 0 where
   pub rows : List LineOrder
   pub modes : List (List ℕ)
 
--- the code of each row's ship mode among the texts
+-- the code of each row's ship mode among the texts, which are no more than rows of a batch
 pub record HaveModes (moded : ModedRows) (codes : List (List ℕ)) : Type 0 where
+  pub few : length moded.modes ≤ most_batch_rows
   pub texts : map (text_of_code moded.modes) (map (from_le_bytes w16) codes) ≡ map (λ row. row.shipmode) moded.rows
   pub below : All (λ code. code < length moded.modes) (map (from_le_bytes w16) codes)

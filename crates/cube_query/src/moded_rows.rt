@@ -1,6 +1,7 @@
 //! The rows of a batch, with the codes of their ship modes.
-ghost use Rattle.std.specs.Prelude.{◌≡◌, ◌<◌, length, map, slice_index_or};
+ghost use Rattle.std.specs.Prelude.{◌≡◌, ◌<◌, ◌≤◌, length, map, slice_index_or};
 ghost use Rattle.std.specs.Int.{from_le_bytes, w16};
+ghost use Rattle.cube_model.specs.Limits.{most_batch_rows};
 ghost use Rattle.dictionary.specs.Columns.{text_of_code};
 
 use crate::column_rows::ColumnRows;
@@ -32,7 +33,8 @@ impl<'a> Model for RowsWithModes<'a> {
 impl<'a> RowsWithModes<'a> {
     /// The rows of a batch.
     pub fn of(segment: &'a Segment) -> RowsWithModes<'a>
-        ensures { result.rows ≡ segment.now.rows }
+        ensures rows { result.rows ≡ segment.now.rows }
+        ensures few { length segment.now.rows ≤ most_batch_rows }
     {
         let (modes, codes) = segment.coded(TextColumn::ShipMode);
         RowsWithModes {
@@ -85,10 +87,10 @@ impl<'a> ModeRows for RowsWithModes<'a> {
 
 // The text of a code.
 fn text_of(modes: &Dictionary, code: usize) -> &[u8]
-    requires { code < length modes.now.texts }
+    requires few { length modes.now.texts ≤ most_batch_rows }
+    requires below { code < length modes.now.texts }
     ensures { result.now ≡ text_of_code modes.now.texts code }
 {
-    let _few = modes.len();
     match modes.text(code as u32) {
         Some(text) => text,
         None => &[],

@@ -18,6 +18,7 @@ ghost use Rattle.cube_query.specs.CellTallies.{GroupsHaveRoomFor};
 ghost use Rattle.group_tallies.specs.Columns.{tallies_at};
 ghost use Rattle.group_tallies.specs.GroupLines.{AreGroupsOver, answer_over};
 ghost use Rattle.cube_query.specs.Groups.{RepresentsRows, Begins, CanTake, CountsRowsIn, IsFoldable, IsOver, Takes};
+ghost use Rattle.dimensions.specs.Shown.{AreStorable};
 ghost use Rattle.group_plan.specs.Numbers.{group_count, IsKnown};
 ghost use Rattle.group_plan.specs.Parts.{IsKnownFor};
 ghost use Rattle.group_plan.specs.Plans.{IsGroupPlanOver, query_of};
@@ -39,7 +40,7 @@ use column_kernels::Mask;
 use column_segment::{FactColumn, FactColumns, Segment};
 use cube_model::{Answer, Fault, LineOrder, ProperQuery};
 use cuboid_cells::{Cells, RunReader};
-use cuboid_upkeep::{CellNumbers, one_key_one_group};
+use cuboid_upkeep::CellNumbers;
 use dictionary::Dictionary;
 use dimensions::Dims;
 use group_plan::{FactRows, GroupPlan, RowSlice};
@@ -169,7 +170,6 @@ impl Fold {
             RepresentRows dims.now (modes_of (option_map (λ modes. modes.now) modes.entry)) rows cells.now)
             self.old self.new result }
     {
-        one_key_one_group(dims);
         let slots = &mut self.slots;
         let columns = self.columns.as_slice();
         let merged = columns_with_cells(
@@ -213,7 +213,6 @@ impl Fold {
             (λ fault. (((fault ≡ Fault.Memory) ⊎ (fault ≡ Fault.BadLayout)) × HasRead S.Source source.old source.new)
             ⊎ IsRefused S.Source fault source.old source.new) }
     {
-        one_key_one_group(dims);
         let slots = &mut self.slots;
         let columns = self.columns.as_mut_slice();
         with_run(
@@ -413,6 +412,7 @@ fn columns_with_cells(
     ensures cover { Cover (group_count dims.now (query_of plan.now).columns) slots.new }
     ensures grow { Grow (group_count dims.now (query_of plan.now).columns) (entries_of slots.old)
         (entries_of slots.new) }
+    ensures storable { AreStorable dims.now }
 {
     let view = cells.view();
     let cells = cells.as_slice();
@@ -459,6 +459,7 @@ fn with_run<S: Source>(
     ensures run { MatchResult result (λ _. HasRead S.Source source.old source.new)
         (λ fault. (((fault ≡ Fault.Memory) ⊎ (fault ≡ Fault.BadLayout)) × HasRead S.Source source.old source.new)
         ⊎ IsRefused S.Source fault source.old source.new) }
+    ensures storable { AreStorable dims.now }
 {
     let view = run.head().view;
     let numbers = CellNumbers::of(alloc, dims, plan, view, modes)?;

@@ -22,10 +22,9 @@ impl Cell {
     #[inline(always)]
     pub fn merge_in(&mut self, other: &Cell) -> bool
         ensures ok { IsTrue result → self.new ≡ merged self.old other.now }
-        ensures fits { IsTrue result → CellFits self.new }
+        ensures fits { IsTrue result → KeyFits self.old.key → CellFits self.new }
         ensures refused { result ≡ false → CellFits (merged self.old other.now) → ⊥ }
     {
-        key_fits(self.key);
         let Some(count) = self.count.checked_add(other.count) else {
             return false;
         };
@@ -40,9 +39,3 @@ impl Cell {
         self.key.is_of(view) && self.count >= 1
     }
 }
-
-// The codes of a key fit their fields, as its type says.
-#[inline(always)]
-fn key_fits(_key: Key)
-    ensures { KeyFits _key }
-{}

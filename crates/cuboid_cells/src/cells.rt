@@ -66,7 +66,8 @@ impl Cells {
 
     /// The cells, by ascending keys.
     pub fn as_slice(&self) -> &[Cell]
-        ensures { result.now ≡ self.now.cells }
+        ensures cells { result.now ≡ self.now.cells }
+        ensures proper { AreProperCells self.now }
     {
         &self.cells
     }
@@ -80,6 +81,8 @@ impl Cells {
         ensures ok { OnOk result (IsMergeOf self.old other.now self.new) }
         ensures refused { IfErr result (IsMergeFault self.old other.now) }
         ensures unchanged { OnErr result (self.new ≡ self.old) }
+        ensures before { AreProperCells self.old × AreProperCells other.now }
+        ensures proper { AreProperCells self.new }
     {
         let cells = merge_cells(alloc, self.view, &self.cells, &other.cells)?;
         self.cells = cells;

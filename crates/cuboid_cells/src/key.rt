@@ -1,7 +1,7 @@
 //! The codes of a cell.
 ghost use Rattle.std.specs.Prelude.{◌≡◌, ◌↔◌, IsTrue};
 ghost use Rattle.lattice.specs.declared.level.Level.TheVariants as level;
-ghost use Rattle.cuboid_cells.specs.Cells.{IsCodeAt, IsKeyOf, IsModeCode, key_as_number};
+ghost use Rattle.cuboid_cells.specs.Cells.{IsCodeAt, IsKeyOf, IsModeCode, KeyFits, key_as_number};
 
 use crate::limits::ALL_CODE;
 use lattice::{Level, View};
@@ -17,9 +17,11 @@ pub struct Key {
 }
 
 impl Key {
-    /// The codes as the digits of one number, the customer's first: keys ascend as their numbers do.
+    /// The codes as the digits of one number, the customer's first: keys ascend as their numbers do. Each code fits its
+    /// field.
     pub fn number(self) -> u128
-        ensures { result ≡ key_as_number self }
+        ensures number { result ≡ key_as_number self }
+        ensures fits { KeyFits self }
     {
         (((u128::from(self.customer) * 65_536 + u128::from(self.supplier)) * 65_536
             + u128::from(self.part))

@@ -10,8 +10,6 @@ use Rattle.cube_model.specs.declared.attr.Axis.{Axis}
 use Rattle.cube_model.specs.declared.attr.Axis.TheVariants.{Customer, Supplier, Part, Date}
 use Rattle.cube_model.specs.declared.rows.DimRows.{DimRows}
 use Rattle.cube_model.specs.Attributes.{axis_of}
-use Rattle.cube_model.specs.Lawful.{ValidRowsKeepTheRules}
-use Rattle.cube_model.specs.Validity.{HaveShortTexts, IsValid}
 use Rattle.dictionary.specs.Dictionary.{firsts}
 use Rattle.dictionary.specs.Columns.{codes_of, place_of}
 use Rattle.dimensions.specs.Coded.{AreGoodRows, place_texts, text_next_to, texts_at_places, texts_below}
@@ -24,7 +22,6 @@ use Rattle.dimensions.proofs.CallerLemmas.{good_texts}
 use Rattle.dimensions.proofs.CodedRules.{determined, firsts_placed}
 use Rattle.dimensions.proofs.CodedTexts.{IsDetermined, firsts_at_places}
 use Rattle.dimensions.proofs.ColumnLaws.{code_at-text, code_at-within}
-use Rattle.group_plan.proofs.OneKind as kinds
 use Rattle.lattice.specs.declared.level.Level.{Level}
 use Rattle.lattice.specs.declared.level.Level.TheVariants.{Lowest, Middle, Highest, All}
 use Rattle.lattice.specs.Levels.{level_attribute}
@@ -94,10 +91,6 @@ module _ (axis : Axis) (rows : List TextRow) (good : AreGoodRows axis rows) (col
       let inside = code_at-within (column_of column rows) place (in_texts column) in
       let most = (good_texts axis rows good column lt).most in
       omega (arith, inside, most, ap length (firsts_placed axis rows good.keep column))
-
-module _ (rows : DimRows) (law : ValidRowsKeepTheRules) (valid : IsValid rows) (short : HaveShortTexts rows) where
-  pub good_on : (axis : Axis) → AreGoodRows axis (rows_on rows axis)
-  good_on = kinds.good_on rows law valid short
 
 -- a code of a member is not that of ALL
 pub not_all : (level : Level) (code : ℕ) → (level ≡ All → ⊥) → code < 65535 → IsCodeAt level code

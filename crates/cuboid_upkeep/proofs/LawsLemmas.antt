@@ -8,9 +8,7 @@ use Rattle.cube_model.specs.declared.attr.Attr.TheVariants.{PartMfgr, DateKey, D
 use Rattle.cube_model.specs.declared.attr.Attr.TheVariants.{DateYearmonth, DateWeeknuminyear}
 use Rattle.cube_model.specs.declared.rows.DimRows.{DimRows}
 use Rattle.cube_model.specs.Attributes.{axis_of, attribute_of, key_on}
-use Rattle.cube_model.specs.Lawful.{ValidRowsKeepTheRules}
 use Rattle.cube_model.specs.Places.{row_count_of, text_at, texts_of, row_index_of}
-use Rattle.cube_model.specs.Validity.{HaveShortTexts, IsValid}
 use Rattle.dimensions.specs.Columns.{code_at}
 use Rattle.dimensions.specs.Shapes.{attr_column, lower_of}
 use Rattle.lattice.specs.declared.level.Level.{Level}
@@ -30,7 +28,7 @@ use Rattle.cube_model.specs.declared.query.Query.{Query}
 use Rattle.cube_model.specs.declared.rows.LineOrder.{LineOrder}
 use Rattle.cube_model.specs.Keys.{key_under}
 use Rattle.cube_model.specs.Selection.{holds_of, is_selected, text_le}
-use Rattle.dimensions.specs.Shown.{rows_on}
+use Rattle.dimensions.specs.Shown.{rows_on, AreStorable}
 use Rattle.dimensions.proofs.AttributeLaws.{count_on}
 use Rattle.group_plan.specs.Numbers.{IsGroupNumber}
 use Rattle.group_plan.proofs.AtPlaces.{attribute_at_place}
@@ -40,7 +38,7 @@ use Rattle.cuboid_cells.specs.declared.key.Key.{Key}
 use Rattle.cuboid_cells.specs.Cells.{key_as_number}
 use Rattle.cuboid_upkeep.specs.Grouping.{HasMembers, code_on, key_of}
 use Rattle.cuboid_upkeep.specs.Lawful.{OneKeyOneGroup}
-use Rattle.cuboid_upkeep.proofs.Coded.{code_below, few_days, good_on, in_level_column, in_no_column}
+use Rattle.cuboid_upkeep.proofs.Coded.{code_below, few_days, in_level_column, in_no_column}
 use Rattle.cuboid_upkeep.proofs.Added.{both_represent}
 use Rattle.cuboid_upkeep.proofs.Existing.{cells_of, no_fewer, they_represent}
 use Rattle.cuboid_upkeep.proofs.InRange.{in_range_fit}
@@ -49,17 +47,17 @@ use Rattle.cuboid_upkeep.specs.Lawful.{CellsAreTheOne, MergesRepresentBoth, More
 use Rattle.cuboid_upkeep.specs.Lawful.{RowsInRangeFit}
 use Rattle.group_plan.proofs.OneKind as kinds
 use Rattle.lattice.specs.declared.level.Level.TheVariants as level
+use Rattle.dimensions.proofs.CallerLemmas.{good_on}
 
 -- ==== Where two rows of a dimension have one member at a level, they have one text of each attribute that the level
 -- determines.
 
-module _ (dimensions : DimRows) (law : ValidRowsKeepTheRules) (valid : IsValid dimensions)
-    (short : HaveShortTexts dimensions) (one other : ℕ) where
+module _ (dimensions : DimRows) (storable : AreStorable dimensions) (one other : ℕ) where
   -- rows of one code have one text
   own : (attr : Attr) → one < row_count_of dimensions (axis_of attr) → other < row_count_of dimensions (axis_of attr)
       → code_at (texts_of dimensions attr) one ≡ code_at (texts_of dimensions attr) other
       → text_at dimensions attr one ≡ text_at dimensions attr other
-  own = kinds.own dimensions law valid short one other
+  own = kinds.own dimensions storable one other
 
   -- the text above
   above : (upper lower : Attr) (i j : ℕ) → attr_column upper ≡ Some i → attr_column lower ≡ Some j
@@ -68,7 +66,7 @@ module _ (dimensions : DimRows) (law : ValidRowsKeepTheRules) (valid : IsValid d
       → other < row_count_of dimensions (axis_of lower)
       → text_at dimensions lower one ≡ text_at dimensions lower other
       → text_at dimensions upper one ≡ text_at dimensions upper other
-  above = kinds.above dimensions law valid short one other
+  above = kinds.above dimensions storable one other
 
   pub tells : (attr : Attr) (level : Level) → height level ≤ height (highest_level attr)
       → one < row_count_of dimensions (axis_of attr) → other < row_count_of dimensions (axis_of attr)
@@ -139,8 +137,8 @@ below_all DateWeeknuminyear = omega arith
 grouped : (view : View) (attr : Attr) → Determines view attr → level_on (axis_of attr) view ≡ level.All → ⊥
 grouped view attr low is = absurd (omega (arith, low, below_all attr, ap height is))
 
-module _ (dimensions : DimRows) (law : ValidRowsKeepTheRules) (valid : IsValid dimensions)
-    (short : HaveShortTexts dimensions) (modes : List (List ℕ)) (view : View) (row other : LineOrder)
+module _ (dimensions : DimRows) (storable : AreStorable dimensions) (modes : List (List ℕ)) (view : View)
+    (row other : LineOrder)
     (members : HasMembers dimensions modes view row) (others : HasMembers dimensions modes view other)
     (same : key_of dimensions modes view row ≡ key_of dimensions modes view other) where
   one_code : (axis : Axis) → code_on dimensions axis (level_on axis view) row
@@ -156,7 +154,7 @@ module _ (dimensions : DimRows) (law : ValidRowsKeepTheRules) (valid : IsValid d
       let axis = axis_of attr in
       let apart = grouped view attr low in
       attribute_at_place dimensions attr row
-      ∙ tells dimensions law valid short (row_index_of dimensions axis (key_on axis row))
+      ∙ tells dimensions storable (row_index_of dimensions axis (key_on axis row))
       (row_index_of dimensions axis (key_on axis other)) attr (level_on axis view) low
       (members.axes axis apart) (others.axes axis apart) (one_code axis)
       ∙ sym (attribute_at_place dimensions attr other)
@@ -190,15 +188,14 @@ module _ (dimensions : DimRows) (law : ValidRowsKeepTheRules) (valid : IsValid d
   )
 
 -- ---- a number is that of one key
-module _ (dimensions : DimRows) (law : ValidRowsKeepTheRules) (valid : IsValid dimensions)
-    (short : HaveShortTexts dimensions) where
+module _ (dimensions : DimRows) (storable : AreStorable dimensions) where
   -- codes fit their fields
   code_fits : (axis : Axis) (grouped : Level) (place : ℕ)
       → ((grouped ≡ level.All → ⊥) → place < row_count_of dimensions axis)
       → member_code dimensions axis grouped place < 65536
   code_fits axis grouped place within =
       let rows = rows_on dimensions axis in
-      let good = good_on dimensions law valid short axis in
+      let good = good_on dimensions storable axis in
       (elim (level_column (level_attribute axis grouped)) as (λ o. level_column (level_attribute axis grouped) ≡ o
       → member_code dimensions axis grouped place < 65536) [
         | None ↦ λ e. day_fits axis grouped place within e
@@ -229,7 +226,7 @@ module _ (dimensions : DimRows) (law : ValidRowsKeepTheRules) (valid : IsValid d
           → member_code dimensions axis grouped place < 65536
       day axis grouped place there e apart =
           let is = in_no_column dimensions place axis grouped e apart in
-          let few = few_days axis (rows_on dimensions axis) (good_on dimensions law valid short axis) is.0 in
+          let few = few_days axis (rows_on dimensions axis) (good_on dimensions storable axis) is.0 in
           omega (arith, there, few, count_on dimensions axis, is.1)
 
       day_fits : (axis : Axis) (grouped : Level) (place : ℕ)
@@ -282,17 +279,16 @@ one_key_of one other a b c d e p q r s t same =
       ship_mode = fifth.1 i;
     }
 
-pub one_group : (dimensions : DimRows) → ValidRowsKeepTheRules → IsValid dimensions → HaveShortTexts dimensions
-    → OneKeyOneGroup dimensions
-one_group dimensions law valid short modes view query row other number serves members others same is =
-    let fits = fits_on dimensions law valid short modes view row members in
-    let also = fits_on dimensions law valid short modes view other others in
+pub one_group : OneKeyOneGroup
+one_group dimensions storable modes view query row other number serves members others same is =
+    let fits = fits_on dimensions storable modes view row members in
+    let also = fits_on dimensions storable modes view other others in
     let key : key_of dimensions modes view row ≡ key_of dimensions modes view other =
     one_key_of (key_of dimensions modes view row) (key_of dimensions modes view other) (fits Customer) (fits Supplier)
     (fits Part) (fits Date) (mode_fits view.ship_mode modes row.shipmode members.ship_mode)
     (also Customer) (also Supplier) (also Part) (also Date)
     (mode_fits view.ship_mode modes other.shipmode others.ship_mode) same in
-    one_number dimensions law valid short modes view row other members others key query serves number is
+    one_number dimensions storable modes view row other members others key query serves number is
 
 -- ==== The laws of cells, as callers cite them.
 

@@ -11,6 +11,7 @@ use Rattle.cuboid_cells.specs.declared.cell.Cell.{Cell}
 use Rattle.cuboid_cells.specs.Cells.{PlainCells, key_as_number}
 use Rattle.cuboid_cells.specs.Merges.{IsMergeOf}
 use Rattle.cuboid_upkeep.specs.Grouping.{HasMembers, PassType, RepresentRows, key_of}
+use Rattle.dimensions.specs.Shown.{AreStorable}
 
 -- the cells of fact rows put end to end are the merge of their cells
 abbrev pub MergesRepresentBoth : Type 0
@@ -36,9 +37,9 @@ RowsInRangeFit = (dimensions : DimRows) (modes : List (List ℕ)) (view : View) 
     → AreInRange rows → length rows < 2 ^ 63 → PassType dimensions modes view rows → ⊥
 
 -- Fact rows of one key in a view, given by its number, are in one group of each query that the view serves, or in none.
-abbrev pub OneKeyOneGroup : DimRows → Type 0
-OneKeyOneGroup dimensions =
-    (modes : List (List ℕ)) (view : View) (query : Query) (row other : LineOrder) (number : Option ℕ)
+abbrev pub OneKeyOneGroup : Type 0
+OneKeyOneGroup = (dimensions : DimRows) → AreStorable dimensions
+    → (modes : List (List ℕ)) (view : View) (query : Query) (row other : LineOrder) (number : Option ℕ)
     → Serves view query → HasMembers dimensions modes view row → HasMembers dimensions modes view other
     → key_as_number (key_of dimensions modes view row) ≡ key_as_number (key_of dimensions modes view other)
     → IsGroupNumber dimensions query row number → IsGroupNumber dimensions query other number

@@ -3,6 +3,7 @@ ghost use Rattle.std.specs.Prelude.{◌≡◌, ◌↔◌, true, IfOk, IsTrue, On
 ghost use Rattle.std.specs.Option.{option_map};
 ghost use Rattle.cube_model.specs.declared.rows.LineOrder.{LineOrder};
 ghost use Rattle.group_plan.specs.Plans.{IsGroupPlanOver, query_of};
+ghost use Rattle.dimensions.specs.Shown.{AreStorable};
 ghost use Rattle.cuboid_cells.specs.Cells.{IsCellOf};
 ghost use Rattle.cuboid_upkeep.specs.CellNumbers.{AreUnwanted, IsCellNumber};
 ghost use Rattle.cuboid_upkeep.specs.Codes.{modes_of};
@@ -81,12 +82,13 @@ impl<'a> CellNumbers<'a> {
         modes: Option<&'a Dictionary>,
     ) -> Result<CellNumbers<'a>, AllocError>
         requires { IsGroupPlanOver dims.now plan.now }
-        ensures { IfOk result (λ numbers. numbers ≡ record {
+        ensures asked { IfOk result (λ numbers. numbers ≡ record {
           dimensions = dims.now;
           query = query_of plan.now;
           view = view;
           modes = modes_of (option_map (λ modes. modes.now) modes.entry);
         }) }
+        ensures storable { AreStorable dims.now }
     {
         let plan = plan.over(dims);
         let within = plan.bounds().hold(0, 0);

@@ -32,9 +32,9 @@ impl<'a> LevelCodes<'a> {
 
     // Those of a level of a dimension, if it has members.
     pub(crate) fn of(dims: &'a Dims, axis: Axis, grouped: Level) -> LevelCodes<'a>
+        requires { AreGoodRows axis (rows_on dims.now axis) }
         ensures { AreLevelCodes dims.now axis grouped result }
     {
-        dims.row_count(axis);
         match column_of_level(axis, grouped) {
             None => LevelCodes::Places,
             Some(column) => LevelCodes::of_column(dims, axis, column),

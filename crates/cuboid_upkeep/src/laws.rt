@@ -2,9 +2,6 @@
 ghost use Rattle.cuboid_upkeep.specs.Lawful.{CellsAreTheOne, MergesRepresentBoth, ModesAreAddedAfter};
 ghost use Rattle.cuboid_upkeep.specs.Lawful.{MoreRowsHaveNoFewerCells, OneKeyOneGroup, RowsHaveCells, RowsInRangeFit};
 
-use cube_model::Axis;
-use dimensions::Dims;
-
 /// The cells of fact rows put end to end are the merge of their cells.
 pub fn merges_represent_both()
     ensures { MergesRepresentBoth }
@@ -26,11 +23,9 @@ pub fn rows_in_range_fit()
 {}
 
 /// Fact rows of one key in a view are in one group of each query that the view serves.
-pub fn one_key_one_group(dims: &Dims)
-    ensures { OneKeyOneGroup dims.now }
-{
-    dims.row_count(Axis::Customer);
-}
+pub fn one_key_one_group()
+    ensures { OneKeyOneGroup }
+{}
 
 /// Fact rows that have their members have cells.
 pub fn rows_have_cells()

@@ -3,6 +3,8 @@ ghost use Rattle.std.specs.Prelude.{◌≡◌, ◌<◌, ◌^◌, Some, EachIndex
 ghost use Rattle.cube_model.specs.Places.{row_count_of};
 ghost use Rattle.group_plan.specs.Numbers.{IsKnownOn};
 ghost use Rattle.group_plan.specs.Rows.{row_at};
+ghost use Rattle.dimensions.specs.Coded.{AreGoodRows};
+ghost use Rattle.dimensions.specs.Shown.{rows_on};
 ghost use Rattle.lattice.specs.declared.level.Level.{Level};
 ghost use Rattle.lattice.specs.declared.level.Level.TheVariants as level;
 ghost use Rattle.cuboid_cells.specs.Cells.{IsCodeAt};
@@ -132,6 +134,7 @@ fn level_codes(
 
 // Puts the code of each row's member at the row's place.
 fn put_codes(codes: &mut [u16], dims: &Dims, axis: Axis, grouped: Level)
+    requires good { AreGoodRows axis (rows_on dims.now axis) }
     requires grouped { grouped ≡ level.All → ⊥ }
     requires count { length codes.old ≡ row_count_of dims.now axis }
     ensures { HaveCodes dims.now axis grouped codes.new }

@@ -2,7 +2,7 @@
 ghost use Rattle.std.specs.Prelude.{◌≡◌, ℕ, ◌<◌, ◌≤◌, IfNone, IfOk, IfSome, None, length, replicate};
 ghost use Rattle.cube_model.specs.Places.{row_count_of, row_index_of};
 ghost use Rattle.dimensions.specs.Coded.{AreGoodRows};
-ghost use Rattle.dimensions.specs.Shown.{rows_on};
+ghost use Rattle.dimensions.specs.Shown.{AreStorable, rows_on};
 ghost use Rattle.lattice.specs.declared.level.Level.TheVariants as level;
 ghost use Rattle.cuboid_cells.specs.Limits.{all_code};
 ghost use Rattle.cuboid_upkeep.specs.Codes.{member_code};
@@ -35,6 +35,7 @@ pub(crate) fn keys_of_members(
     ensures sound { IfOk result (AreKeysOf dims.now axis grouped) }
     ensures whole { IfOk result (HaveAllCodes dims.now axis grouped) }
     ensures few { IfOk result (λ keys. length keys.members.items ≤ all_code) }
+    ensures storable { AreStorable dims.now }
 {
     if matches!(grouped, Level::All) {
         return Ok(MemberKeys {
@@ -52,6 +53,7 @@ pub(crate) fn keys_of_members(
 fn first_key(dims: &Dims, axis: Axis) -> Option<u32>
     ensures some { IfSome result (λ key. row_index_of dims.now axis key < row_count_of dims.now axis) }
     ensures none { IfNone result (row_count_of dims.now axis ≡ 0) }
+    ensures storable { AreStorable dims.now }
 {
     match dims.keys(axis) {
         [] => None,
@@ -70,6 +72,7 @@ fn keys_by_code(
     ensures sound { IfOk result (λ keys. AreAtCodes dims.now axis grouped keys.items) }
     ensures whole { IfOk result (λ keys. HoldAllCodes dims.now axis grouped keys.items) }
     ensures few { IfOk result (λ keys. length keys.items ≤ all_code) }
+    ensures storable { AreStorable dims.now }
 {
     let mut keys = Vec::new(alloc);
     if dims.row_count(axis) > 0 {

@@ -1,5 +1,6 @@
 //! What the members of a level give to the numbers of groups.
 ghost use Rattle.std.specs.Prelude.{◌≡◌, ◌↔◌, ◌+◌, ◌*◌, ◌<◌, ◌≤◌, ◌^◌, ℕ, All, IfNone, IfOk, IfSome, IsTrue, map};
+ghost use Rattle.dimensions.specs.Shown.{AreStorable};
 ghost use Rattle.cuboid_upkeep.specs.MemberParts.{AreParts, AreUnselected, IsOfRow, IsUnselected, given_by};
 ghost use Rattle.cuboid_upkeep.specs.MemberParts.{member_part_by};
 ghost use Rattle.cuboid_upkeep.specs.MemberParts.{part_in};
@@ -128,7 +129,8 @@ pub(crate) fn parts_of_members(
     grouped: Level,
 ) -> Result<MemberParts, AllocError>
     requires { plan.now.dimensions ≡ dims.now }
-    ensures { IfOk result (AreParts dims.now plan.now.query axis grouped) }
+    ensures parts { IfOk result (AreParts dims.now plan.now.query axis grouped) }
+    ensures storable { AreStorable dims.now }
 {
     let keys = keys_of_members(alloc, dims, axis, grouped)?;
     let members = parts_by_code(alloc, plan, axis, keys.members.as_slice())?;

@@ -97,6 +97,7 @@ impl Dictionary {
     pub fn add(&mut self, alloc: Global, text: &[u8]) -> Result<Option<u32>, Fault>
         ensures ok { IfOk result (λ code. Adds self.old text.now code self.new) }
         ensures within { IfOk result (λ code. IfSome code (λ c. c < self.old.limit)) }
+        ensures few { length self.new.texts ≤ self.new.limit }
         ensures err { OnErr result (self.new ≡ self.old) }
         ensures memory { IfErr result (λ fault. fault ≡ Fault.Memory) }
     {
@@ -112,6 +113,7 @@ impl Dictionary {
     fn find_or_add(&mut self, alloc: Global, text: &[u8]) -> Result<Option<u32>, Fault>
         ensures ok { IfOk result (λ code. Adds self.old text.now code self.new) }
         ensures within { IfOk result (λ code. IfSome code (λ c. c < self.old.limit)) }
+        ensures few { length self.new.texts ≤ self.new.limit }
         ensures err { OnErr result (self.new ≡ self.old) }
         ensures memory { IfErr result (λ fault. fault ≡ Fault.Memory) }
     {
@@ -126,6 +128,7 @@ impl Dictionary {
     pub(crate) fn add_unkept(&mut self, alloc: Global, text: &[u8]) -> Result<Option<u32>, Fault>
         ensures ok { IfOk result (λ code. Adds self.old text.now code self.new) }
         ensures within { IfOk result (λ code. IfSome code (λ c. c < self.old.limit)) }
+        ensures few { length self.new.texts ≤ self.new.limit }
         ensures err { OnErr result (self.new ≡ self.old) }
         ensures memory { IfErr result (λ fault. fault ≡ Fault.Memory) }
     {

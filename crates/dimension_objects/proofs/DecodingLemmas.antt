@@ -7,9 +7,10 @@ use Rattle.cube_model.specs.Lawful.{ValidRowsKeepTheRules}
 use Rattle.cube_model.specs.Validity.{HaveShortTexts, IsValid}
 use Rattle.dimensions.specs.declared.coded.CodedDims.{CodedDims}
 use Rattle.dimensions.specs.Made.{AreCodedDims, EncodeNoRows}
-use Rattle.dimensions.specs.Shown.{rows_on}
-use Rattle.dimensions.proofs.CallerLemmas.{good_customers, good_dates, good_parts, good_suppliers, good_codes}
-use Rattle.dimension_objects.specs.Spelled.{AreDimensionObjects, KeysFit, codes_in_order, dimension_spelling}
+use Rattle.dimensions.specs.Shown.{rows_on, AreStorable}
+use Rattle.dimensions.proofs.CallerLemmas.{good_customers, good_dates, good_parts, good_suppliers, good_codes, good_on}
+use Rattle.dimensions.specs.TextRows.{KeysFit}
+use Rattle.dimension_objects.specs.Spelled.{AreDimensionObjects, codes_in_order, dimension_spelling}
 use Rattle.dimension_objects.specs.Spelled.{dimension_header, keys_spelling, linked_columns, dimension_parts}
 use Rattle.dimension_objects.specs.Spelled.{row_columns, stored_columns, texts_in_order}
 use Rattle.dimension_objects.specs.Columns.{IsSpelled, SpellsNoRows, BeginsWithNoCodes, BeginsWithNoHeader}
@@ -32,28 +33,32 @@ use Rattle.dimension_objects.proofs.Steps.{all_get, all_weaker}
 
 -- ==== The four objects together.
 
-module _ (law : ValidRowsKeepTheRules) (customers suppliers parts dates : List ℕ) where
+module _ (customers suppliers parts dates : List ℕ) where
   -- there are no rows for any of the objects
   abbrev pub AreNone : Type 0
   AreNone = (rows : DimRows) → AreDimensionObjects customers suppliers parts dates rows → ⊥
 
   pub none_customers : SpellsNoRows Customer customers → AreNone
   none_customers none =
-      λ rows are. none (rows_on rows Customer) (good_customers rows ((law rows).0 are.valid) are.short)
-      are.customer_keys are.customers_are
+      λ rows are. none (rows_on rows Customer)
+      (good_on rows are.storable Customer)
+      (are.storable.keys Customer) are.customers_are
 
   pub none_suppliers : SpellsNoRows Supplier suppliers → AreNone
   none_suppliers none =
-      λ rows are. none (rows_on rows Supplier) (good_suppliers rows ((law rows).0 are.valid) are.short)
-      are.supplier_keys are.suppliers_are
+      λ rows are. none (rows_on rows Supplier)
+      (good_on rows are.storable Supplier)
+      (are.storable.keys Supplier) are.suppliers_are
 
   pub none_parts : SpellsNoRows Part parts → AreNone
-  none_parts none = λ rows are. none (rows_on rows Part) (good_parts rows ((law rows).0 are.valid) are.short)
-      are.part_keys are.parts_are
+  none_parts none =
+      λ rows are. none (rows_on rows Part) (good_on rows are.storable Part)
+      (are.storable.keys Part) are.parts_are
 
   pub none_dates : SpellsNoRows Date dates → AreNone
-  none_dates none = λ rows are. none (rows_on rows Date) (good_dates rows ((law rows).0 are.valid) are.short)
-      are.date_keys are.dates_are
+  none_dates none =
+      λ rows are. none (rows_on rows Date) (good_on rows are.storable Date)
+      (are.storable.keys Date) are.dates_are
 
   -- nor where the codes that were read represent none
   pub no_objects : (coded : CodedDims) → IsSpelled Customer customers coded.customers
@@ -61,15 +66,18 @@ module _ (law : ValidRowsKeepTheRules) (customers suppliers parts dates : List �
       → IsSpelled Date dates coded.dates
       → EncodeNoRows coded → AreNone
   no_objects coded c s p d none = λ rows are.
-      let keep = (law rows).0 are.valid in
-      none rows are.valid are.short (record {
-        customers = spelled_one Customer (rows_on rows Customer) (good_customers rows keep are.short) are.customer_keys
+      none rows are.storable.valid are.storable.short (record {
+        customers = spelled_one Customer (rows_on rows Customer) (good_on rows are.storable Customer)
+            (are.storable.keys Customer)
             customers coded.customers c are.customers_are;
-        suppliers = spelled_one Supplier (rows_on rows Supplier) (good_suppliers rows keep are.short) are.supplier_keys
+        suppliers = spelled_one Supplier (rows_on rows Supplier) (good_on rows are.storable Supplier)
+            (are.storable.keys Supplier)
             suppliers coded.suppliers s are.suppliers_are;
-        parts = spelled_one Part (rows_on rows Part) (good_parts rows keep are.short) are.part_keys parts coded.parts p
+        parts = spelled_one Part (rows_on rows Part) (good_on rows are.storable Part) (are.storable.keys Part)
+            parts coded.parts p
             are.parts_are;
-        dates = spelled_one Date (rows_on rows Date) (good_dates rows keep are.short) are.date_keys dates coded.dates d
+        dates = spelled_one Date (rows_on rows Date) (good_on rows are.storable Date) (are.storable.keys Date)
+            dates coded.dates d
             are.dates_are;
       })
 
@@ -77,9 +85,9 @@ module _ (law : ValidRowsKeepTheRules) (customers suppliers parts dates : List �
 pub all_objects : (customers suppliers parts dates : List ℕ) (coded : CodedDims)
     → IsSpelled Customer customers coded.customers → IsSpelled Supplier suppliers coded.suppliers
     → IsSpelled Part parts coded.parts → IsSpelled Date dates coded.dates
-    → (rows : DimRows) → AreCodedDims rows coded → IsValid rows → HaveShortTexts rows
+    → (rows : DimRows) → AreCodedDims rows coded → AreStorable rows
     → AreDimensionObjects customers suppliers parts dates rows
-all_objects customers suppliers parts dates coded c s p d rows are valid short =
+all_objects customers suppliers parts dates coded c s p d rows are storable =
     let first = spelled_same Customer (rows_on rows Customer) customers coded.customers c are.customers in
     let second = spelled_same Supplier (rows_on rows Supplier) suppliers coded.suppliers s are.suppliers in
     let third = spelled_same Part (rows_on rows Part) parts coded.parts p are.parts in
@@ -89,12 +97,7 @@ all_objects customers suppliers parts dates coded c s p d rows are valid short =
       suppliers_are = second.0;
       parts_are = third.0;
       dates_are = fourth.0;
-      customer_keys = first.1;
-      supplier_keys = second.1;
-      part_keys = third.1;
-      date_keys = fourth.1;
-      valid = valid;
-      short = short;
+      storable = storable;
     }
 
 -- ==== Bytes that are read part by part, and when no rows have them.

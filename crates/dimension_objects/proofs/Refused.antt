@@ -14,7 +14,7 @@ pub err_so : {X : Type 0} (P Q : Fault → Type 0) (result : Result X Fault) →
 err_so P Q (Ok x) so held = held
 err_so P Q (Err fault) so held = so fault held
 
-pub ok_so : {X : Type 0} (A B C D : X → Type 0) (result : Result X Fault) → ((x : X) → A x → B x → C x → D x)
-    → IfOk result A → IfOk result B → IfOk result C → IfOk result D
-ok_so A B C D (Ok x) so a b c = so x a b c
-ok_so A B C D (Err fault) so a b c = a
+pub ok_so : {X : Type 0} (A B C : X → Type 0) (result : Result X Fault) → ((x : X) → A x → B x → C x)
+    → IfOk result A → IfOk result B → IfOk result C
+ok_so A B C (Ok x) so a b = so x a b
+ok_so A B C (Err fault) so a b = a

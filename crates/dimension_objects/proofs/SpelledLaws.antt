@@ -16,7 +16,8 @@ use Rattle.dimensions.specs.Shapes.{lowers_of, lower_of}
 use Rattle.dimensions.specs.Coded.{AreCodedRows, AreGoodRows, no_coded, place_total}
 use Rattle.dimensions.proofs.CallerLemmas.{few_good_rows, good_codes, good_places_above, good_places_of_rows}
 use Rattle.dimensions.proofs.CallerLemmas.{good_texts, lower_below}
-use Rattle.dimension_objects.specs.Spelled.{KeysFit, codes_in_order, dimension_spelling, dimension_header}
+use Rattle.dimensions.specs.TextRows.{KeysFit}
+use Rattle.dimension_objects.specs.Spelled.{codes_in_order, dimension_spelling, dimension_header}
 use Rattle.dimension_objects.specs.Spelled.{keys_spelling}
 use Rattle.dimension_objects.specs.Spelled.{linked_columns, dimension_parts, row_columns, stored_columns}
 use Rattle.dimension_objects.specs.Spelled.{texts_in_order}

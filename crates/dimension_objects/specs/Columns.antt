@@ -11,7 +11,8 @@ use Rattle.dimensions.specs.declared.coded.CodedRows.{CodedRows}
 use Rattle.dimensions.specs.TextRows.{TextRow}
 use Rattle.dimensions.specs.Shapes.{lowers_of, lower_of}
 use Rattle.dimensions.specs.Coded.{AreGoodRows, ColumnsHaveTexts, no_coded, place_total}
-use Rattle.dimension_objects.specs.Spelled.{Parts, KeysFit, codes_in_order, dimension_spelling, dimension_header}
+use Rattle.dimensions.specs.TextRows.{KeysFit}
+use Rattle.dimension_objects.specs.Spelled.{Parts, codes_in_order, dimension_spelling, dimension_header}
 use Rattle.dimension_objects.specs.Spelled.{keys_spelling, linked_columns, parts_spelling, row_columns, texts_in_order}
 
 -- the texts and the codes of a column with a number

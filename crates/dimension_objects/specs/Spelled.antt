@@ -15,7 +15,7 @@ use Rattle.dictionary.specs.Spelling.{texts_spelling}
 use Rattle.dictionary.specs.Columns.{codes_of, codes_spelling}
 use Rattle.dimensions.specs.TextRows.{TextRow}
 use Rattle.dimensions.specs.Coded.{texts_at_places}
-use Rattle.dimensions.specs.Shown.{rows_on}
+use Rattle.dimensions.specs.Shown.{AreStorable, rows_on}
 
 -- the number of a dimension
 abbrev pub axis_number : Axis → ℕ
@@ -87,19 +87,10 @@ dimension_parts axis rows = record {
 abbrev pub dimension_spelling : Axis → List TextRow → List ℕ
 dimension_spelling axis rows = parts_spelling axis (dimension_parts axis rows)
 
--- the keys of rows fit their fields
-abbrev pub KeysFit : List TextRow → Type 0
-KeysFit rows = AllByRecursion (λ row. row.key < 2 ^ 32) rows
-
--- four objects are the bytes of the four dimensions, whose rows are valid and have short texts
+-- four objects are the bytes of the four dimensions, whose rows can be stored
 pub record AreDimensionObjects (customers suppliers parts dates : List ℕ) (rows : DimRows) : Type 0 where
   pub customers_are : customers ≡ dimension_spelling Customer (rows_on rows Customer)
   pub suppliers_are : suppliers ≡ dimension_spelling Supplier (rows_on rows Supplier)
   pub parts_are : parts ≡ dimension_spelling Part (rows_on rows Part)
   pub dates_are : dates ≡ dimension_spelling Date (rows_on rows Date)
-  pub customer_keys : KeysFit (rows_on rows Customer)
-  pub supplier_keys : KeysFit (rows_on rows Supplier)
-  pub part_keys : KeysFit (rows_on rows Part)
-  pub date_keys : KeysFit (rows_on rows Date)
-  pub valid : IsValid rows
-  pub short : HaveShortTexts rows
+  pub storable : AreStorable rows

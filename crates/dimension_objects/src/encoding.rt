@@ -4,7 +4,7 @@ ghost use Rattle.std.specs.List.{AllByRecursion, flat_map};
 ghost use Rattle.cube_model.specs.declared.fault.Fault.{Fault};
 ghost use Rattle.dictionary.specs.Columns.{codes_spelling};
 ghost use Rattle.dimensions.specs.Shapes.{lowers_of};
-ghost use Rattle.dimensions.specs.Shown.{rows_on};
+ghost use Rattle.dimensions.specs.Shown.{AreStorable, rows_on};
 ghost use Rattle.dimension_objects.specs.Spelled.{codes_in_order, dimension_spelling, dimension_header, keys_spelling};
 ghost use Rattle.dimension_objects.specs.Spelled.{dimension_parts, texts_in_order};
 
@@ -21,6 +21,7 @@ pub(crate) const NAME: &[u8] = b"DIM1";
 pub fn encode(alloc: Global, dims: &Dims, axis: Axis) -> Result<Vec<u8>, Fault>
     ensures ok { IfOk result (λ bytes. bytes.items ≡ dimension_spelling axis (rows_on dims.now axis)) }
     ensures memory { IfErr result (λ fault. fault ≡ Fault.Memory) }
+    ensures storable { AreStorable dims.now }
 {
     let mut out = Vec::new(alloc);
     let keys = dims.keys(axis);

@@ -14,12 +14,13 @@ use Rattle.dictionary.specs.Spelling.{AreProper}
 use Rattle.dictionary.proofs.CallerLemmas as texts
 use Rattle.dimensions.specs.Coded.{AreGoodRows, texts_at_places}
 use Rattle.dimensions.specs.Shapes.{lowers_of, lower_of}
-use Rattle.dimensions.specs.Shown.{rows_on}
+use Rattle.dimensions.specs.Shown.{rows_on, AreStorable}
 use Rattle.dimensions.specs.TextRows.{TextRow}
 use Rattle.dimensions.proofs.GoodLaws as codes
 use Rattle.dimensions.proofs.MadeLaws as made
 use Rattle.dimensions.proofs.MemberLaws as members
 use Rattle.dimensions.proofs.ShapeLaws as shapes
+use Rattle.cube_model.proofs.LawsLemmas.{valid_rows_keep_the_rules}
 
 pub bytes_eq-same : (a b : List ℕ) → bytes_eq a b ≡ true → a ≡ b
 bytes_eq-same = texts.bytes_eq-same
@@ -76,3 +77,10 @@ module _ (rows : DimRows) where
 
   pub good_dates : KeepAllRules rows → HaveShortTexts rows → AreGoodRows Date (rows_on rows Date)
   good_dates = made.good_dates rows
+
+  -- rows that can be stored keep the rules of each dimension
+  pub good_on : AreStorable rows → (axis : Axis) → AreGoodRows axis (rows_on rows axis)
+  good_on storable Customer = good_customers ((valid_rows_keep_the_rules rows).0 storable.valid) storable.short
+  good_on storable Supplier = good_suppliers ((valid_rows_keep_the_rules rows).0 storable.valid) storable.short
+  good_on storable Part = good_parts ((valid_rows_keep_the_rules rows).0 storable.valid) storable.short
+  good_on storable Date = good_dates ((valid_rows_keep_the_rules rows).0 storable.valid) storable.short

@@ -1,7 +1,7 @@
 -- A dimension whose columns have codes in order is that of its rows.
 use Rattle.std.proofs.Common.{◌≡◌, ◌<◌, ◌≤◌, ◌∙◌, zero, suc, sym, ap, refl, subst, arith, ℕ, List, [], ◌∷◌, map, length}
-use Rattle.std.proofs.Common.{get_or, unwrap_or, Option, Some, None}
-use Rattle.std.specs.List.{position_or_len}
+use Rattle.std.proofs.Common.{get_or, unwrap_or, Option, Some, None, ◌^◌}
+use Rattle.std.specs.List.{position_or_len, AllByRecursion}
 use Rattle.std.specs.Option.{option_map}
 use Rattle.std.specs.Str.{bytes_eq}
 use Rattle.std.proofs.lemmas.List.{ext_get_or, length-map, get_or-map}
@@ -22,6 +22,7 @@ use Rattle.dimensions.proofs.ColumnLaws.{code_at-within}
 use Rattle.dimensions.proofs.ShapeLaws.{lower_below}
 use Rattle.dimensions.proofs.CodeLaws.{decoded}
 use Rattle.dimensions.proofs.CodedTexts.{own_place, firsts-map, place_image}
+use Rattle.dimensions.proofs.ShortLaws.{all_unmap}
 
 -- ---- rows by index
 
@@ -73,6 +74,7 @@ pub record IsInOrder (places : ℕ) (column : Column) : Type 0 where
 
 -- the columns of a dimension are those of its dimension, each with codes in order
 pub record AreInOrder (axis : Axis) (dimension : Dimension) : Type 0 where
+  pub fit : AllByRecursion (λ key. key < 2 ^ 32) dimension.keys
   pub count : length dimension.columns.items ≡ length (lowers_of axis)
   pub lowers : (i : ℕ) → i < length (lowers_of axis) → (column_at dimension i).lower ≡ lower_of axis i
   pub columns : (i : ℕ) → i < length (lowers_of axis)
@@ -289,9 +291,14 @@ module _ (axis : Axis) (dimension : Dimension) (are : AreInOrder axis dimension)
       ∙ each_row-same _ _ n
       (λ row row_lt. each_row-get (λ column. text_up dimension column row) (length (lowers_of axis)) i [] lt)
 
+  keys_are : map (λ row. row.key) (rows_of_dimension axis dimension) ≡ dimension.keys
+  keys_are = each_row-map (λ row. row.key) (text_row axis dimension) n ∙ each_row-of dimension.keys 0
+
   pub dimension_is : StoresRows axis (rows_of_dimension axis dimension) dimension
   dimension_is = record {
-    keys = sym (each_row-map (λ row. row.key) (text_row axis dimension) n ∙ each_row-of dimension.keys 0);
+    keys = sym keys_are;
+    fit = all_unmap (λ key. key < 2 ^ 32) (λ row. row.key) (rows_of_dimension axis dimension)
+        (subst (AllByRecursion (λ key. key < 2 ^ 32)) (sym keys_are) are.fit);
     count = are.count;
     lowers = are.lowers;
     columns = λ i lt.

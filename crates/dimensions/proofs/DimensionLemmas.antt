@@ -2,7 +2,7 @@
 use Rattle.std.proofs.Common.{◌≡◌, ◌<◌, ◌≤◌, ◌+◌, ◌∙◌, ◌⊎◌, inl, inr, sym, ap, refl, subst, arith, ℕ, false, nat_lt}
 use Rattle.std.proofs.Common.{List, [], ◌∷◌, ◌++◌, length, take, drop, get_or, Option, Some, None, Ok, Err, ◌-◌, suc}
 use Rattle.std.proofs.Common.{true, Result, OnOk, IfErr, map, vec_len, append_assoc, length-append, Bool, not, ◌&&◌}
-use Rattle.std.proofs.Common.{◌==◌, codes}
+use Rattle.std.proofs.Common.{◌==◌, codes, ◌^◌}
 use Rattle.std.proofs.lemmas.List.{take_more, drop_more, append-nil, get_or-map, length-map, map_push, length_push}
 use Rattle.cube_model.specs.declared.attr.Axis.{Axis}
 use Rattle.cube_model.specs.declared.fault.Fault.{Fault}
@@ -12,7 +12,7 @@ use Rattle.cube_model.specs.Causes.{first_cause, cause_if}
 use Rattle.cube_model.specs.Validity.{Rules, row_cause, rows_cause, dimension_cause, members_of, repeats_key, names_all}
 use Rattle.cube_model.specs.Validity.{overflows, breaks_link}
 use Rattle.dimensions.specs.declared.dimension.Dimension.{Dimension}
-use Rattle.dimensions.specs.TextRows.{TextRow, text_in, column_of}
+use Rattle.dimensions.specs.TextRows.{TextRow, text_in, column_of, KeysFit}
 use Rattle.dimensions.specs.Shapes.{row_limit_of, text_rules, lowers_of, lower_of}
 use Rattle.dimensions.specs.Dimensions.{StoresRows, AddsRow, HoldsRows, column_at, no_column, lower_texts, AddsRows}
 use Rattle.dimensions.specs.Dimensions.{BuildsDimension, Numbers, HasNoRoom, place_for, EntersAt}
@@ -195,6 +195,7 @@ same_rows axis rows old new keys count same is =
     λ i lt. same i (omega (arith, lt, is.count)) in
     record {
       keys = keys ∙ is.keys;
+      fit = is.fit;
       count = count ∙ is.count;
       lowers = λ i lt. ap (λ c. c.lower) (same_column i lt) ∙ is.lowers i lt;
       columns = λ i lt. record {
@@ -346,6 +347,11 @@ module _ (rows : List TextRow) (row : TextRow) (j i : ℕ) where
       list_any_here
       (λ other. bytes_eq (text_in j other) (text_in j row) && not (bytes_eq (text_in i other) (text_in i row))) rows
       k no_row lt (λ z. first z && not (second z))
+
+-- the key of one row more
+keys_fit : (rows : List TextRow) (row : TextRow) → KeysFit rows → row.key < 2 ^ 32 → KeysFit (rows ++ row ∷ [])
+keys_fit [] row fit fits = (fits, tt)
+keys_fit (first ∷ rows) row fit fits = (fit.0, keys_fit rows row fit.1 fits)
 
 module _ (axis : Axis) (rows : List TextRow) (old : Dimension) (row : TextRow) (is : StoresRows axis rows old) where
   column_more : (i : ℕ) → column_of i (rows ++ row ∷ []) ≡ column_of i rows ++ text_in i row ∷ []
@@ -528,12 +534,14 @@ module _ (axis : Axis) (rows : List TextRow) (old : Dimension) (row : TextRow) (
               inr (cause_breaks (text_rules axis) rows row new_key no_name room_for_all broken
               ∙ ap (λ m. Some (HierarchyBroken axis m)) numbered)
 
-          pub adds_row : new.keys ≡ old.keys ++ row.key ∷ [] → length new.columns.items ≡ length old.columns.items
+          pub adds_row : row.key < 2 ^ 32 → new.keys ≡ old.keys ++ row.key ∷ []
+              → length new.columns.items ≡ length old.columns.items
               → ((i : ℕ) → i < length old.columns.items → EntersAt old row numbers i true (column_at new i))
               → AddsRow axis rows row new (Ok tt)
-          adds_row keys count enters = (
+          adds_row fits keys count enters = (
             record {
               keys = keys ∙ ap (λ l. l ++ row.key ∷ []) is.keys ∙ sym (map_push (λ r. r.key) rows row);
+              fit = keys_fit rows row is.fit fits;
               count = count ∙ is.count;
               lowers = λ i lt. (enters i (omega (arith, lt, is.count))).lower ∙ is.lowers i lt;
               columns = λ i lt. grows_at i lt (column_at new i) (enters i (omega (arith, lt, is.count)));
@@ -543,9 +551,10 @@ module _ (axis : Axis) (rows : List TextRow) (old : Dimension) (row : TextRow) (
                 (λ i j lt e. unbroken_at i lt (column_at new i) (enters i (omega (arith, lt, is.count))) j e)),
           )
 
-          pub adds_or_fails : (result : Result (Unit {0}) Fault) → OnOk result (new.keys ≡ old.keys ++ row.key ∷ [])
+          pub adds_or_fails : row.key < 2 ^ 32 → (result : Result (Unit {0}) Fault)
+              → OnOk result (new.keys ≡ old.keys ++ row.key ∷ [])
               → length new.columns.items ≡ length old.columns.items
               → ((i : ℕ) → i < length old.columns.items → EntersAt old row numbers i true (column_at new i))
               → IfErr result (λ fault. fault ≡ Memory) → AddsRow axis rows row new result
-          adds_or_fails (Ok tt) keys count enters memory = adds_row keys count enters
-          adds_or_fails (Err fault) keys count enters memory = inl memory
+          adds_or_fails fits (Ok tt) keys count enters memory = adds_row fits keys count enters
+          adds_or_fails fits (Err fault) keys count enters memory = inl memory

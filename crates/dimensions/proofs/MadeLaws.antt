@@ -1,6 +1,6 @@
 -- Dimensions that are made of rows by codes.
 use Rattle.std.proofs.Common.{◌≡◌, ◌≢◌, ◌<◌, ◌≤◌, ◌+◌, ◌∙◌, ◌⊎◌, inl, inr, zero, suc, sym, ap, refl, subst, arith, ℕ}
-use Rattle.std.proofs.Common.{List, [], ◌∷◌, ◌++◌, map, length, get_or, codes, Some, None}
+use Rattle.std.proofs.Common.{List, [], ◌∷◌, ◌++◌, map, length, get_or, codes, Some, None, ◌^◌}
 use Rattle.std.specs.List.{AllByRecursion}
 use Rattle.std.specs.Fmt.{decimal}
 use Rattle.std.proofs.lemmas.List.{length-map}
@@ -11,7 +11,7 @@ use Rattle.cube_model.specs.declared.fault.Fault.{Fault}
 use Rattle.cube_model.specs.declared.fault.Fault.TheVariants.{BadLayout, Memory}
 use Rattle.cube_model.specs.declared.rows.DimRows.{DimRows}
 use Rattle.cube_model.specs.declared.rows.DateRow.{DateRow}
-use Rattle.cube_model.specs.Lawful.{EachPair, KeepsRules, KeepAllRules, ValidRowsKeepTheRules}
+use Rattle.cube_model.specs.Lawful.{EachPair, KeepsRules, KeepAllRules}
 use Rattle.cube_model.specs.Limits.{longest_text, most_members}
 use Rattle.cube_model.specs.Validity.{Rules, members_of, HaveShortTexts, IsValid}
 use Rattle.dictionary.specs.Columns.{codes_of}
@@ -22,7 +22,7 @@ use Rattle.dimensions.specs.declared.coded.CodedDims.{CodedDims}
 use Rattle.dimensions.specs.declared.coded.CodedRows.{CodedRows}
 use Rattle.dimensions.specs.declared.column.Column.{Column}
 use Rattle.dimensions.specs.declared.dimension.Dimension.{Dimension}
-use Rattle.dimensions.specs.TextRows.{row_of_customer, row_of_supplier, row_of_part, row_of_date}
+use Rattle.dimensions.specs.TextRows.{row_of_customer, row_of_supplier, row_of_part, row_of_date, KeysFit}
 use Rattle.dimensions.specs.Shapes.{lowers_of, lower_of, text_rules}
 use Rattle.dimensions.specs.ShortTexts.{IsShortRow}
 use Rattle.dimensions.specs.Columns.{column_of_coded}
@@ -40,6 +40,7 @@ use Rattle.dimensions.proofs.CodedDimensions.{each_row-map, places_in, IsInOrder
 use Rattle.dimensions.proofs.CodedDimensions.{placed_codes}
 use Rattle.dimensions.proofs.CodedDimensions.{places_are, dimension_is}
 use Rattle.dimensions.proofs.ShownLaws.{are_dimensions}
+use Rattle.cube_model.proofs.LawsLemmas.{valid_rows_keep_the_rules}
 
 -- ---- a dimension
 
@@ -79,7 +80,7 @@ few_coded columns k column have lt is =
 
 module _ (axis : Axis) (coded : CodedRows) (have : ColumnsHaveTexts coded.columns)
     (proper : HaveProperColumns axis coded)
-    (distinct : KeysAreDistinct coded.keys)
+    (distinct : KeysAreDistinct coded.keys) (fit : AllByRecursion (λ key. key < 2 ^ 32) coded.keys)
     (dimension : Dimension) (keys : dimension.keys ≡ coded.keys)
     (columns : dimension.columns.items ≡ columns_from axis 0 coded.columns)
   where
@@ -109,6 +110,7 @@ module _ (axis : Axis) (coded : CodedRows) (have : ColumnsHaveTexts coded.column
 
     in_order : AreInOrder axis dimension
     in_order = record {
+      fit = subst (AllByRecursion (λ key. key < 2 ^ 32)) (sym keys) fit;
       count = ap length columns ∙ columns_from-length axis 0 coded.columns ∙ proper.count;
       lowers = λ i lt. ap (λ c. c.lower) (column_is i lt);
       columns = λ i lt. subst (λ c. IsInOrder (places_in dimension (lower_of axis i)) c) (sym (column_is i lt))
@@ -268,7 +270,7 @@ module _ (rows : DimRows) where
   }
 
 -- codes of one dimension that represent no rows
-module _ (law : ValidRowsKeepTheRules) (coded : CodedDims) (fault : Fault) where
+module _ (coded : CodedDims) (fault : Fault) where
   abbrev pub IsRefused : Type 0
   IsRefused = (fault ≡ Memory) ⊎ ((fault ≡ BadLayout) × EncodeNoRows coded)
 
@@ -277,7 +279,8 @@ module _ (law : ValidRowsKeepTheRules) (coded : CodedDims) (fault : Fault) where
   refused_customers (inr bad) =
       inr (
         bad.0,
-        λ rows valid short are. bad.1 (rows_on rows Customer) (good_customers rows ((law rows).0 valid) short)
+        λ rows valid short are. bad.1 (rows_on rows Customer)
+            (good_customers rows ((valid_rows_keep_the_rules rows).0 valid) short)
             are.customers,
       )
 
@@ -286,7 +289,8 @@ module _ (law : ValidRowsKeepTheRules) (coded : CodedDims) (fault : Fault) where
   refused_suppliers (inr bad) =
       inr (
         bad.0,
-        λ rows valid short are. bad.1 (rows_on rows Supplier) (good_suppliers rows ((law rows).0 valid) short)
+        λ rows valid short are. bad.1 (rows_on rows Supplier)
+            (good_suppliers rows ((valid_rows_keep_the_rules rows).0 valid) short)
             are.suppliers,
       )
 
@@ -295,7 +299,8 @@ module _ (law : ValidRowsKeepTheRules) (coded : CodedDims) (fault : Fault) where
   refused_parts (inr bad) =
       inr (
         bad.0,
-        λ rows valid short are. bad.1 (rows_on rows Part) (good_parts rows ((law rows).0 valid) short)
+        λ rows valid short are. bad.1 (rows_on rows Part)
+            (good_parts rows ((valid_rows_keep_the_rules rows).0 valid) short)
             are.parts,
       )
 
@@ -304,7 +309,8 @@ module _ (law : ValidRowsKeepTheRules) (coded : CodedDims) (fault : Fault) where
   refused_dates (inr bad) =
       inr (
         bad.0,
-        λ rows valid short are. bad.1 (rows_on rows Date) (good_dates rows ((law rows).0 valid) short)
+        λ rows valid short are. bad.1 (rows_on rows Date)
+            (good_dates rows ((valid_rows_keep_the_rules rows).0 valid) short)
             are.dates,
       )
 
@@ -377,6 +383,12 @@ module _ (customers suppliers parts dates : Dimension) where
         keep_all all (subst (AreGoodRows Customer) (sym on_customers) c.good)
         (subst (AreGoodRows Supplier) (sym on_suppliers) s.good)
         (subst (AreGoodRows Part) (sym on_parts) p.good) (subst (AreGoodRows Date) (sym on_dates) d.good)
+
+    pub keys_shown : (axis : Axis) → KeysFit (rows_on all axis)
+    keys_shown Customer = subst KeysFit (sym on_customers) c.is.stores.fit
+    keys_shown Supplier = subst KeysFit (sym on_suppliers) s.is.stores.fit
+    keys_shown Part = subst KeysFit (sym on_parts) p.is.stores.fit
+    keys_shown Date = subst KeysFit (sym on_dates) d.is.stores.fit
 
     pub short_shown : HaveShortTexts all
     short_shown =

@@ -18,7 +18,7 @@ use Rattle.cube_model.specs.Validity.{HaveShortTexts, customer_rules, supplier_r
 use Rattle.cube_model.specs.Validity.{rows_cause, dimension_cause, invalid_cause, IsValid}
 use Rattle.dimensions.specs.declared.dimension.Dimension.{Dimension}
 use Rattle.dimensions.specs.TextRows.{TextRow, text_in, column_of, row_of_customer, row_of_supplier, row_of_part}
-use Rattle.dimensions.specs.TextRows.{row_of_date}
+use Rattle.dimensions.specs.TextRows.{row_of_date, KeysFit}
 use Rattle.dimensions.specs.Shapes.{lowers_of, lower_of, text_rules}
 use Rattle.dimensions.specs.Columns.{IsColumn, code_at}
 use Rattle.dimensions.specs.Dimensions.{column_at, IsDimension, StoresRows}
@@ -255,6 +255,12 @@ module _ (rows : DimRows) (customers suppliers parts dates : Dimension)
     parts = parts_shown rows.parts parts p.stores i;
     dates = dates_shown rows.dates dates d.stores i;
   }
+
+  pub keys_fit : (axis : Axis) → KeysFit (rows_on rows axis)
+  keys_fit Customer = c.stores.fit
+  keys_fit Supplier = s.stores.fit
+  keys_fit Part = p.stores.fit
+  keys_fit Date = d.stores.fit
 
   pub are_dimensions : (days : List (List ℕ)) → days ≡ map (λ row. decimal row.key) rows.dates → IsValid rows
       → HaveShortTexts rows

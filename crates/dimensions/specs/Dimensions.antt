@@ -11,7 +11,7 @@ use Rattle.dimensions.specs.declared.coded.CodedColumn.{CodedColumn}
 use Rattle.dimensions.specs.declared.column.Column.{Column}
 use Rattle.dimensions.specs.declared.dimension.Dimension.{Dimension}
 use Rattle.dimensions.specs.Added.{added_cause}
-use Rattle.dimensions.specs.TextRows.{TextRow, text_in, column_of}
+use Rattle.dimensions.specs.TextRows.{KeysFit, TextRow, text_in, column_of}
 use Rattle.dimensions.specs.Shapes.{lowers_of, lower_of, text_rules}
 use Rattle.dimensions.specs.Columns.{IsColumn, HasCode, HasNoCodeLeft, Enters, column_of_coded}
 
@@ -34,6 +34,7 @@ lower_texts axis column rows = option_map (λ lower. column_of lower rows) (lowe
 -- a dimension stores some rows by codes
 pub record StoresRows (axis : Axis) (rows : List TextRow) (dimension : Dimension) : Type 0 where
   pub keys : dimension.keys ≡ map (λ row. row.key) rows
+  pub fit : KeysFit rows
   pub count : length dimension.columns.items ≡ length (lowers_of axis)
   pub lowers : (i : ℕ) → i < length (lowers_of axis) → (column_at dimension i).lower ≡ lower_of axis i
   pub columns : (i : ℕ) → i < length (lowers_of axis)

@@ -11,7 +11,7 @@ use Rattle.cube_model.specs.declared.rows.DateRow.{DateRow}
 use Rattle.cube_model.specs.declared.rows.DimRows.{DimRows}
 use Rattle.cube_model.specs.Validity.{HaveShortTexts, IsValid}
 use Rattle.dimensions.specs.declared.dimension.Dimension.{Dimension}
-use Rattle.dimensions.specs.TextRows.{TextRow, row_of_customer, row_of_supplier, row_of_part, row_of_date}
+use Rattle.dimensions.specs.TextRows.{TextRow, row_of_customer, row_of_supplier, row_of_part, row_of_date, KeysFit}
 use Rattle.dimensions.specs.Shapes.{lowers_of}
 use Rattle.dimensions.specs.Dimensions.{IsDimension, column_at}
 
@@ -94,6 +94,12 @@ shown_rows customers suppliers parts dates = record {
   parts = each_row (shown_part parts) (length parts.keys);
   dates = each_row (shown_date dates) (length dates.keys);
 }
+
+-- dimension rows that can be stored: they are valid, their texts are short, and their keys fit four bytes
+pub record AreStorable (rows : DimRows) : Type 0 where
+  pub valid : IsValid rows
+  pub short : HaveShortTexts rows
+  pub keys : (axis : Axis) → KeysFit (rows_on rows axis)
 
 -- the dimensions are those of some valid rows with short texts, and each day has its rank
 pub record AreDimensions (rows : DimRows) (customers suppliers parts dates : Dimension) (days : List (List ℕ)) : Type 0

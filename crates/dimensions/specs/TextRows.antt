@@ -1,5 +1,6 @@
 -- Rows of a dimension as texts by column, and the columns of their texts.
-use Rattle.std.specs.Prelude.{ℕ, List, [], ◌∷◌, map, slice_index_or}
+use Rattle.std.specs.Prelude.{ℕ, ◌<◌, ◌^◌, List, [], ◌∷◌, map, slice_index_or}
+use Rattle.std.specs.List.{AllByRecursion}
 use Rattle.cube_model.specs.declared.rows.CustomerRow.{CustomerRow}
 use Rattle.cube_model.specs.declared.rows.SupplierRow.{SupplierRow}
 use Rattle.cube_model.specs.declared.rows.PartRow.{PartRow}
@@ -9,6 +10,10 @@ use Rattle.cube_model.specs.declared.rows.DateRow.{DateRow}
 pub record TextRow : Type 0 where
   pub key : ℕ
   pub texts : List (List ℕ)
+
+-- the keys of rows fit four bytes
+abbrev pub KeysFit : List TextRow → Type 0
+KeysFit rows = AllByRecursion (λ row. row.key < 2 ^ 32) rows
 
 -- the text of a row in a column
 abbrev pub text_in : ℕ → TextRow → List ℕ

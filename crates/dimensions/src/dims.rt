@@ -14,7 +14,7 @@ ghost use Rattle.dimensions.specs.Shapes.{lowers_of};
 ghost use Rattle.dimensions.specs.Coded.{ColumnsHaveTexts, texts_at_places};
 ghost use Rattle.dimensions.specs.Made.{AreCodedDims, HaveAllTexts, IsDimensionOf, IsRefusal, EncodeNoRows};
 ghost use Rattle.dimensions.specs.Dimensions.{IsDimension};
-ghost use Rattle.dimensions.specs.Shown.{rows_on};
+ghost use Rattle.dimensions.specs.Shown.{AreStorable, rows_on};
 
 use crate::coded::{CodedDims, CodedRows};
 use crate::dimension::Dimension;
@@ -89,7 +89,8 @@ impl Dims {
     pub fn with_rows(&self, alloc: Global, rows: &DimRows) -> Result<Dims, Fault>
         requires short { HaveShortTexts rows.now }
         ensures ok { IfOk result (λ dims. dims ≡ joined self.now rows.now) }
-        ensures valid { OnOk result (IsValid (joined self.now rows.now)) }
+        ensures own { AreStorable self.now }
+        ensures storable { OnOk result (AreStorable (joined self.now rows.now)) }
         ensures codes { IfOk result (KeepCodes self.now) }
         ensures err { IfErr result (λ fault. (fault ≡ Fault.Memory) ⊎ (addition_cause self.now rows.now ≡ Some fault)) }
     {
@@ -120,8 +121,7 @@ impl Dims {
     pub fn of_coded(alloc: Global, coded: CodedDims) -> Result<Dims, Fault>
         requires { HaveAllTexts coded }
         ensures ok { IfOk result (λ dims. AreCodedDims dims coded) }
-        ensures valid { IfOk result IsValid }
-        ensures short { IfOk result HaveShortTexts }
+        ensures storable { IfOk result AreStorable }
         ensures err { IfErr result
             (λ fault. (fault ≡ Fault.Memory) ⊎ ((fault ≡ Fault.BadLayout) × EncodeNoRows coded)) }
     {
@@ -153,6 +153,7 @@ impl Dims {
     pub fn keys(&self, axis: Axis) -> &[u32]
         ensures keys { result.now ≡ map (λ row. row.key) (rows_on self.now axis) }
         ensures few { length result.now < 2 ^ 32 }
+        ensures storable { AreStorable self.now }
     {
         self.dimension(axis).keys.keys()
     }
@@ -170,7 +171,8 @@ impl Dims {
     /// column.
     pub fn codes(&self, axis: Axis, column: usize) -> &[u16]
         requires { column < length (lowers_of axis) }
-        ensures { result.now ≡ codes_of (texts_at_places axis column (rows_on self.now axis)) }
+        ensures codes { result.now ≡ codes_of (texts_at_places axis column (rows_on self.now axis)) }
+        ensures storable { AreStorable self.now }
     {
         self.dimension(axis).columns[column].codes()
     }
@@ -178,8 +180,7 @@ impl Dims {
     /// How many rows a dimension has.
     pub fn row_count(&self, axis: Axis) -> usize
         ensures count { result ≡ row_count_of self.now axis }
-        ensures valid { IsValid self.now }
-        ensures short { HaveShortTexts self.now }
+        ensures storable { AreStorable self.now }
     {
         self.dimension(axis).keys.len()
     }
@@ -240,8 +241,7 @@ impl Dims {
     #[inline(always)]
     fn dimension(&self, axis: Axis) -> &Dimension
         ensures are { IsDimension axis (rows_on self.now axis) result.now }
-        ensures valid { IsValid self.now }
-        ensures short { HaveShortTexts self.now }
+        ensures storable { AreStorable self.now }
     {
         match axis {
             Axis::Customer => &self.customers,

@@ -2,7 +2,7 @@
 ghost use Rattle.std.specs.Prelude.{◌≡◌, ◌==◌, ◌<◌, ◌≤◌, ◌^◌, ◌++◌, ◌∷◌, ◌↔◌, ℕ, List, None, [], length, position};
 ghost use Rattle.std.specs.Prelude.{nat_eq, unwrap_or, MatchOption, IfSome, IfOk, OnOk, IfErr, OnErr, IsTrue};
 ghost use Rattle.std.specs.HashMap.{get};
-ghost use Rattle.std.specs.List.{position_or_len};
+ghost use Rattle.std.specs.List.{AllByRecursion, position_or_len};
 ghost use Rattle.cube_model.specs.Limits.{most_dimension_rows};
 ghost use Rattle.dimensions.specs.Coded.{KeysAreDistinct};
 ghost use Rattle.dimensions.specs.RowIndexes.{AreRowIndexes};
@@ -66,6 +66,7 @@ impl Keys {
         ensures ok { IfOk result
             (λ found. MatchOption found (¬ KeysAreDistinct keys.items)
             (λ index. (index ≡ keys.items) × KeysAreDistinct keys.items)) }
+        ensures fit { OnOk result (AllByRecursion (λ key. key < 2 ^ 32) keys.items) }
         ensures memory { IfErr result (λ fault. fault ≡ Fault.Memory) }
     {
         let lookup = Lookup::of(alloc, keys.as_slice())?;
@@ -147,7 +148,8 @@ impl Lookup {
     // What finds the first row of each key of a list. It can only fail when out of memory.
     fn of(alloc: Global, keys: &[u32]) -> Result<Lookup, AllocError>
         requires few { length keys.now < 2 ^ 32 }
-        ensures { IfOk result (λ lookup. FindsRows lookup keys.now) }
+        ensures finds { IfOk result (λ lookup. FindsRows lookup keys.now) }
+        ensures fit { AllByRecursion (λ key. key < 2 ^ 32) keys.now }
     {
         if let Some(first) = first_counted(keys) {
             return Ok(Lookup::Consecutive { first });

@@ -10,15 +10,14 @@ use Rattle.std.proofs.lemmas.List.Sums.{passes_at_first}
 use Rattle.cube_model.specs.declared.attr.Attr.{Attr}
 use Rattle.cube_model.specs.declared.rows.DimRows.{DimRows}
 use Rattle.cube_model.specs.Attributes.{axis_of}
-use Rattle.cube_model.specs.Lawful.{ValidRowsKeepTheRules}
 use Rattle.cube_model.specs.Places.{attr_members, row_count_of, texts_of, text_at}
-use Rattle.cube_model.specs.Validity.{HaveShortTexts, IsValid}
 use Rattle.dimensions.proofs.CallerLemmas.{bytes_eq-same, bytes_eq-refl, has-members_of}
 use Rattle.group_plan.specs.Kinds.{HasEachKind, kind_at}
 use Rattle.group_plan.specs.MemberRows.{HasMember, HaveMembers}
 use Rattle.group_plan.proofs.Members.{rank_is}
 use Rattle.group_plan.proofs.Numbers.{first_within, text_count}
 use Rattle.group_plan.proofs.OneKind.{one_text}
+use Rattle.dimensions.specs.Shown.{AreStorable}
 
 module _ (dimensions : DimRows) (attr : Attr) (rows : List ℕ) where
   -- the place of each member that one of the first of some rows has is that of such a row
@@ -96,17 +95,16 @@ module _ (dimensions : DimRows) (attr : Attr) (rows : List ℕ) where
       )
 
   -- a row of each kind
-  pub so_far_all : ValidRowsKeepTheRules → IsValid dimensions → HaveShortTexts dimensions
-      → HasEachKind dimensions (axis_of attr) rows
+  pub so_far_all : AreStorable dimensions → HasEachKind dimensions (axis_of attr) rows
       → (places : List ℕ) → HaveSoFar (length rows) places → HaveMembers dimensions attr places
-  so_far_all law valid short hold places all = record {
+  so_far_all storable hold places all = record {
     counted = all.counted;
     each = λ rank below.
         let found = row_of rank (omega (arith, below, all.counted)) in
         let kind = kind_at dimensions (axis_of attr) found.0 in
         let low : kind < length rows = hold.all found.0 found.1.0 in
         let same : text_at dimensions attr (get_or rows kind 0) ≡ text_at dimensions attr found.0 =
-        one_text dimensions law valid short (get_or rows kind 0) found.0 attr (hold.within kind low) found.1.0
+        one_text dimensions storable (get_or rows kind 0) found.0 attr (hold.within kind low) found.1.0
         (hold.own kind low) in
         all.each rank kind below low (same ∙ found.1.1);
   }

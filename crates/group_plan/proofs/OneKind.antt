@@ -12,24 +12,21 @@ use Rattle.cube_model.specs.declared.attr.Attr.TheVariants.{SupplierNation, Supp
 use Rattle.cube_model.specs.declared.attr.Attr.TheVariants.{PartMfgr, DateKey, DateYearmonthnum, DateYear}
 use Rattle.cube_model.specs.declared.attr.Attr.TheVariants.{DateYearmonth, DateWeeknuminyear}
 use Rattle.cube_model.specs.declared.attr.Axis.{Axis}
-use Rattle.cube_model.specs.declared.attr.Axis.TheVariants.{Customer, Supplier, Part, Date}
 use Rattle.cube_model.specs.declared.query.Cond.{Cond}
 use Rattle.cube_model.specs.declared.query.Cond.TheVariants.{OneOf, Between, Quantity, Discount}
 use Rattle.cube_model.specs.declared.query.Query.{Query}
 use Rattle.cube_model.specs.declared.rows.DimRows.{DimRows}
 use Rattle.cube_model.specs.Attributes.{axis_of}
-use Rattle.cube_model.specs.Lawful.{ValidRowsKeepTheRules}
 use Rattle.cube_model.specs.Places.{attr_members, row_count_of, text_at, texts_of}
 use Rattle.cube_model.specs.Selection.{text_le}
-use Rattle.cube_model.specs.Validity.{HaveShortTexts, IsValid}
 use Rattle.dictionary.specs.Dictionary.{firsts}
-use Rattle.dimensions.specs.Coded.{AreGoodRows, text_next_to}
+use Rattle.dimensions.specs.Coded.{text_next_to}
 use Rattle.dimensions.specs.Columns.{code_at}
 use Rattle.dimensions.specs.Shapes.{attr_column, lower_of}
-use Rattle.dimensions.specs.Shown.{rows_on}
+use Rattle.dimensions.specs.Shown.{rows_on, AreStorable}
 use Rattle.dimensions.specs.TextRows.{column_of}
 use Rattle.dimensions.proofs.AttributeLaws.{has_column, texts_count}
-use Rattle.dimensions.proofs.CallerLemmas.{good_customers, good_dates, good_parts, good_suppliers}
+use Rattle.dimensions.proofs.CallerLemmas.{good_on}
 use Rattle.dimensions.proofs.CodedRules.{determined}
 use Rattle.dimensions.proofs.CodedTexts.{IsDetermined}
 use Rattle.dimensions.proofs.ColumnLaws.{code_at-text}
@@ -39,14 +36,6 @@ use Rattle.group_plan.specs.Parts.{given_at, holds_at, is_same, part_at, rank_at
 use Rattle.group_plan.proofs.Numbers.{is_same-same}
 
 -- ---- texts that determine others
-
--- valid rows keep the rules of each dimension
-pub good_on : (rows : DimRows) → ValidRowsKeepTheRules → IsValid rows → HaveShortTexts rows → (axis : Axis)
-    → AreGoodRows axis (rows_on rows axis)
-good_on rows law valid short Customer = good_customers rows ((law rows).0 valid) short
-good_on rows law valid short Supplier = good_suppliers rows ((law rows).0 valid) short
-good_on rows law valid short Part = good_parts rows ((law rows).0 valid) short
-good_on rows law valid short Date = good_dates rows ((law rows).0 valid) short
 
 -- where lower texts determine texts, one lower text has one text
 lifted : (lowers texts : List (List ℕ)) (one other : ℕ) → IsDetermined lowers texts → one < length lowers
@@ -58,8 +47,7 @@ lifted lowers texts one other is in_one in_other same =
     ∙ sym (get_or-map (text_next_to lowers texts) lowers other [] [] in_other)
     ∙ sym (ap (λ (l : List (List ℕ)). get_or l other []) is)
 
-module _ (dimensions : DimRows) (law : ValidRowsKeepTheRules) (valid : IsValid dimensions)
-    (short : HaveShortTexts dimensions) where
+module _ (dimensions : DimRows) (storable : AreStorable dimensions) where
   linked : (upper lower : Attr) (i j : ℕ) → attr_column upper ≡ Some i → attr_column lower ≡ Some j
       → axis_of lower ≡ axis_of upper
       → lower_of (axis_of upper) i ≡ Some j → IsDetermined (texts_of dimensions lower) (texts_of dimensions upper)
@@ -70,7 +58,7 @@ module _ (dimensions : DimRows) (law : ValidRowsKeepTheRules) (valid : IsValid d
       ∙ ap (λ a. column_of j (rows_on dimensions a)) axis in
       subst (λ (l : List (List ℕ)). IsDetermined l (texts_of dimensions upper)) (sym low)
       (subst (λ (l : List (List ℕ)). IsDetermined (column_of j rows) l) (sym up)
-      (determined (axis_of upper) rows (good_on dimensions law valid short (axis_of upper)).keep i j e))
+      (determined (axis_of upper) rows (good_on dimensions storable (axis_of upper)).keep i j e))
 
   module _ (one other : ℕ) where
     -- rows of one code have one text

@@ -39,7 +39,6 @@ impl Filter {
     pub fn of(alloc: Global, dims: &Dims, axis: Axis, side: &Side) -> Result<Filter, AllocError>
         ensures { IfOk result (λ made. (key : ℕ) → passes made key ≡ false → IsShut dims.now axis side.now key) }
     {
-        dims.row_count(axis);
         let keys = dims.keys(axis);
         let kinds = Kinds::of(dims, axis);
         let (first, end) = span_of(keys);

@@ -2,6 +2,7 @@
 ghost use Rattle.std.specs.Prelude.{◌≡◌, IfOk};
 ghost use Rattle.std.specs.List.{range_with_len};
 ghost use Rattle.dictionary.specs.Columns.{AreCodes};
+ghost use Rattle.dimensions.specs.Shown.{AreStorable};
 ghost use Rattle.group_plan.specs.Kinds.{AreKinds, HasEachCode, HasEachKind, has_kind, kind_in};
 
 use cube_model::Axis;
@@ -45,7 +46,8 @@ impl<'a> Kinds<'a> {
 /// For each kind of the rows of a dimension, by the kinds, the place of a row of it. It can only fail when out of
 /// memory.
 pub fn places_of_kinds(alloc: Global, dims: &Dims, axis: Axis) -> Result<Vec<usize>, AllocError>
-    ensures { IfOk result (λ places. HasEachKind dims.now axis places.items) }
+    ensures places { IfOk result (λ places. HasEachKind dims.now axis places.items) }
+    ensures storable { AreStorable dims.now }
 {
     match axis {
         Axis::Date => all_places(alloc, dims.row_count(axis)),

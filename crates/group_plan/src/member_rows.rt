@@ -11,7 +11,6 @@ use std::alloc::{AllocError, Global};
 pub fn member_places(alloc: Global, dims: &Dims, attr: Attr) -> Result<Vec<usize>, AllocError>
     ensures { IfOk result (λ places. HaveMembers dims.now attr places.items) }
 {
-    dims.row_count(attr.axis());
     let rows = places_of_kinds(alloc, dims, attr.axis())?;
     let mut places = Vec::new(alloc);
     places.resize(dims.members(attr), 0)?;

@@ -54,7 +54,6 @@ impl Side {
         if !is_used(query, axis) {
             return Ok(Side::Unused);
         }
-        dims.row_count(axis);
         let places = places_of_kinds(alloc, dims, axis)?;
         if count <= NARROW {
             Ok(Side::Narrow(narrow_parts(alloc, dims, query, axis, &places)?))

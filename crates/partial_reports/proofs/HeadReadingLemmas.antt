@@ -1,5 +1,5 @@
 -- Lemmas of `head_reading`, by subject.
-use Rattle.std.proofs.Common.{◌≡◌, ◌∙◌, sym, ap, refl, subst, ℕ, suc, ◌+◌, ◌/◌, ◌%◌, ◌<◌, ◌^◌, true, false, ◌&&◌, List}
+use Rattle.std.proofs.Common.{◌≡◌, ◌∙◌, sym, ap, refl, subst, ℕ, suc, ◌/◌, ◌%◌, ◌<◌, ◌^◌, true, false, ◌&&◌, List}
 use Rattle.std.proofs.Common.{[], ◌∷◌, ◌++◌, length, append_assoc, slice_index, Some, ◌⊎◌, inl, arith, Bool, not}
 use Rattle.std.specs.Prelude.{◌==◌, nat_le, nat_lt, codes}
 use Rattle.std.specs.Fmt.{decimal}

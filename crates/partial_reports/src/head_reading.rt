@@ -37,6 +37,7 @@ pub struct HeadRead<'a> {
 pub fn read_head(alloc: Global, text: &[u8]) -> Result<HeadRead<'_>, Refused>
     ensures text { IfOk result (λ read. text.now ≡ head_text read.head read.digest ++ read.report.now) }
     ensures proper { IfOk result (λ read. is_proper read.head ≡ true) }
+    ensures digest { IfOk result (λ read. IsDigest read.digest) }
     ensures complete { (head : Head) (digest left : List ℕ) → is_proper head ≡ true → IsDigest digest
         → text.now ≡ head_text head digest ++ left
         → UnlessMemory result (λ read. (read.head ≡ head) × (read.digest ≡ digest) × (read.report.now ≡ left)) }

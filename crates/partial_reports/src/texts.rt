@@ -4,6 +4,7 @@ ghost use Rattle.std.specs.Fmt.{decimal};
 ghost use Rattle.std.specs.List.{flat_map};
 ghost use Rattle.partial_reports.specs.Head.{after_comma, dimensions_text, head_text, numbers_text, part_text};
 ghost use Rattle.partial_reports.specs.Head.{word_text};
+ghost use Rattle.partial_reports.specs.HeadReading.{IsDigest};
 
 use crate::head::Head;
 use crate::words::Word;
@@ -15,6 +16,7 @@ use wire::push_bytes;
 /// The text of a head over dimensions of some digest. It can only fail when out of memory.
 pub fn head_text(alloc: Global, head: &Head, digest: &[u8; 32]) -> Result<Vec<u8>, Fault>
     ensures ok { IfOk result (λ text. text.items ≡ head_text head.now digest.now) }
+    ensures digest { OnOk result (IsDigest digest.now) }
     ensures only { IfErr result (λ fault. fault ≡ Fault.Memory) }
 {
     let mut out = Vec::new(alloc);
@@ -81,6 +83,7 @@ fn push_number(out: &mut Vec<u8>, number: u32) -> Result<(), Fault>
 // Adds the line of the dimensions.
 fn push_dimensions(alloc: Global, out: &mut Vec<u8>, digest: &[u8; 32]) -> Result<(), Fault>
     ensures ok { OnOk result (out.new.items ≡ out.old.items ++ dimensions_text digest.now) }
+    ensures digest { IsDigest digest.now }
     ensures only { IfErr result (λ fault. fault ≡ Fault.Memory) }
 {
     let text = hex::encode(alloc, digest.as_slice())?;

@@ -54,7 +54,6 @@ fn cells_of(
         (λ found. IfSome found (AreCellsOf dims.now modes.now.texts view segment.now.rows)) }
     ensures memory { IfErr result (λ fault. fault ≡ Fault.Memory) }
 {
-    let _few = segment.len();
     let rows = RowsWithModes::of(segment);
     let mut cells = GrowingCells::new(alloc, dims, view)?;
     match cells.add_rows(alloc, dims, &rows, Some(modes)) {

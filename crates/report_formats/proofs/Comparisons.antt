@@ -1,13 +1,12 @@
 -- Lines and places are in total orders.
-use Rattle.std.proofs.Common.{◌≡◌, subst, Bool, true, false, List}
+use Rattle.std.proofs.Common.{subst, Bool, true, false, List}
 use Rattle.std.specs.declared.cmp.Ordering.{Ordering}
-use Rattle.std.specs.declared.cmp.Ordering.TheVariants.{Less, Equal, Greater}
-use Rattle.std.specs.Ordering.{ordering_then}
 use Rattle.std.specs.Cmp.{IsTotalOrder, back_total, nat_cmp_total, on_total, then_total}
 use Rattle.std.specs.FinMap.{IsAntisymmetric, nat_cmp-IsAntisymmetric}
 use Rattle.cube_model.specs.declared.answer.Line.{Line}
 use Rattle.cube_model.specs.Order.{member_cmp_total}
 use Rattle.cube_model.proofs.KeyOrder.{key_cmp_total}
+use Rattle.cube_model.proofs.LawsLemmas.{last_ties}
 use Rattle.group_tallies.specs.GroupLines.{line_at}
 use Rattle.report_formats.specs.declared.arrangement.SortKey.{SortKey}
 use Rattle.report_formats.specs.declared.arrangement.SortKey.TheVariants.{Column, Aggregate, Average}
@@ -33,12 +32,6 @@ sorting_cmp_total sorting =
 
 pub place_cmp_total : (sorting : Sorting) (lines : List Line) → IsTotalOrder (place_cmp sorting lines)
 place_cmp_total sorting lines = then_total (on_total (line_at lines) (sorting_cmp_total sorting)) nat_cmp_total
-
--- what ends in a comparison ties only where this ties
-pub last_ties : (a b : Ordering) → ordering_then a b ≡ Equal → b ≡ Equal
-last_ties Less b e = cc
-last_ties Equal b e = e
-last_ties Greater b e = cc
 
 pub place_cmp-IsAntisymmetric : (sorting : Sorting) (lines : List Line) → IsAntisymmetric (place_cmp sorting lines)
 place_cmp-IsAntisymmetric sorting lines left right e =

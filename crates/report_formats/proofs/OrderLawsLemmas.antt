@@ -27,12 +27,13 @@ use Rattle.cube_model.specs.declared.query.Order.{Order}
 use Rattle.cube_model.specs.Keys.{key_cmp}
 use Rattle.cube_model.specs.Order.{member_cmp_total}
 use Rattle.cube_model.proofs.KeyOrder.{key_cmp_total, key_cmp-IsAntisymmetric}
+use Rattle.cube_model.proofs.LawsLemmas.{last_ties}
 use Rattle.cube_model.specs.Orders.{answer_cmp, value_cmp}
 use Rattle.cube_model.specs.Selection.{selected}
 use Rattle.group_tallies.specs.GroupLines.{line_at}
 use Rattle.report_formats.specs.declared.arrangement.Sorting.{Sorting}
 use Rattle.report_formats.specs.Arranging.{place_cmp, sorted_places}
-use Rattle.report_formats.proofs.Comparisons.{last_ties, place_cmp_total, place_cmp-IsAntisymmetric}
+use Rattle.report_formats.proofs.Comparisons.{place_cmp_total, place_cmp-IsAntisymmetric}
 use Rattle.report_formats.proofs.Inserted.{at_each, from_each}
 use Rattle.report_formats.proofs.Places.{IsPermutation-sorted_places, all_lines, range_below}
 

@@ -1,11 +1,11 @@
 -- Lines whose keys differ, sorted, are those lines in order.
-use Rattle.std.proofs.Common.{◌≡◌, ◌∙◌, sym, ap, refl, subst, ◌+◌, pos, Bool, true, false, cond, Option, Some, None}
-use Rattle.std.proofs.Common.{List, [], ◌∷◌, map, get_or, slice_index_or, arith}
+use Rattle.std.proofs.Common.{◌≡◌, ◌∙◌, sym, ap, refl, subst, ◌+◌, Bool, true, false, cond, Option, Some, None}
+use Rattle.std.proofs.Common.{List, [], ◌∷◌, map, get_or, arith}
 use Rattle.std.specs.List.{AllByRecursion, IsDistinct}
 use Rattle.std.specs.List.Sorted.{IsPermutation, IsSortedBy}
-use Rattle.std.specs.Cmp.{IsTotalOrder, back_total, on_total, then_total}
+use Rattle.std.specs.Cmp.{IsTotalOrder, on_total}
 use Rattle.std.specs.FinMap.{IsAntisymmetric}
-use Rattle.std.specs.Ordering.{eq_by_cmp, is_eq, is_lt, on, ordering_reverse, ordering_then}
+use Rattle.std.specs.Ordering.{eq_by_cmp, is_eq, is_lt, on, ordering_reverse}
 use Rattle.std.specs.declared.cmp.Ordering.{Ordering}
 use Rattle.std.specs.declared.cmp.Ordering.TheVariants.{Less, Equal, Greater}
 use Rattle.std.proofs.Math.ListN.{get_or-map}
@@ -14,33 +14,15 @@ use Rattle.std.proofs.lemmas.List.{length-map}
 use Rattle.std.proofs.lemmas.List.Sorted.{All-permutation, IsPermutation-map}
 use Rattle.cube_model.specs.declared.answer.Line.{Line}
 use Rattle.cube_model.specs.declared.answer.Member.{Member}
-use Rattle.cube_model.specs.declared.answer.Member.TheVariants.{All as Any}
 use Rattle.cube_model.specs.declared.answer.Value.{Value}
-use Rattle.cube_model.specs.declared.answer.Value.TheVariants.{Whole}
 use Rattle.cube_model.specs.declared.query.Order.{Order}
 use Rattle.cube_model.specs.Ascending.{IsAscending, ascending, by_order, insert_once}
 use Rattle.cube_model.specs.Keys.{key_cmp}
-use Rattle.cube_model.specs.Order.{member_cmp_total}
 use Rattle.cube_model.proofs.KeyOrder.{key_cmp_total, key_cmp-IsAntisymmetric}
-use Rattle.cube_model.proofs.LawsLemmas.{value_cmp_total}
+use Rattle.cube_model.proofs.LawsLemmas.{answer_cmp_total, last_ties}
 use Rattle.cube_model.specs.Orders.{answer_cmp, line_cmp}
 use Rattle.partial_reports.specs.Merges.{keys_in, line_of_key}
 use Rattle.report_formats.proofs.Inserted.{ascending-sorted, at_each, from_each}
-
-pub line_cmp_total : (order : Order) → IsTotalOrder (line_cmp order)
-line_cmp_total order =
-    then_total (on_total (λ line. slice_index_or line.key order.column Any) member_cmp_total)
-    (then_total
-    (back_total (on_total (λ line. slice_index_or line.values order.aggregate (Whole (pos 0))) value_cmp_total))
-    (on_total (λ line. line.key) key_cmp_total))
-
--- what ends in a comparison of two things ties only where these do
-last_ties : (a b c : Ordering) → ordering_then a (ordering_then b c) ≡ Equal → c ≡ Equal
-last_ties Less b c e = cc
-last_ties Greater b c e = cc
-last_ties Equal Less c e = cc
-last_ties Equal Greater c e = cc
-last_ties Equal Equal c e = e
 
 abbrev values_in : Option Line → List Value
 values_in None = []
@@ -84,10 +66,10 @@ module _ (order : Order) (all : List Line) where
   by_line = on own (line_cmp order)
 
   by_line_total : IsTotalOrder by_line
-  by_line_total = on_total own (line_cmp_total order)
+  by_line_total = on_total own (answer_cmp_total (Some order))
 
   by_line_same : IsAntisymmetric by_line
-  by_line_same left right e = key_cmp-IsAntisymmetric left right (last_ties _ _ _ e)
+  by_line_same left right e = key_cmp-IsAntisymmetric left right (last_ties _ _ (last_ties _ _ e))
 
   insert_once-map : (key : List Member) (keys : List (List Member))
       → insert_once (line_cmp order) (own key) (map own keys) ≡ map own (insert_once by_line key keys)
@@ -114,7 +96,7 @@ module _ (order : Order) (all : List Line) where
   apart key other less Less e = refl
   apart key other less Greater e = refl
   apart key other less Equal e =
-      absurd (let ties : key_cmp key other ≡ Equal = last_ties _ _ _ e in cc (less, ties))
+      absurd (let ties : key_cmp key other ≡ Equal = last_ties _ _ (last_ties _ _ e) in cc (less, ties))
 
   apart_all : (line : Line) (lines : List Line) → AllByRecursion (λ other. answer_cmp None line other ≡ Less) lines
       → AllByRecursion (λ other. eq_by_cmp by_line line.key other ≡ false) (keys_in lines)

@@ -1,5 +1,5 @@
 //! Partial reports merged.
-ghost use Rattle.std.specs.Prelude.{◌≡◌, ◌<◌, ◌++◌, ℕ, length, slice_index, IfErr, IfNone, IfOk, IfSome, OnErr, OnOk};
+ghost use Rattle.std.specs.Prelude.{◌≡◌, ◌++◌, IfErr, IfNone, IfOk, IfSome, OnErr, OnOk};
 ghost use Rattle.partial_reports.specs.Finishing.{CanBeFinished, FinishRefuses};
 ghost use Rattle.partial_reports.specs.Parts.{partial_query};
 ghost use Rattle.partial_reports.specs.Wide.{narrow_lines};
@@ -77,7 +77,6 @@ impl Merge {
             report,
             line,
         } = read_head(alloc, text)?;
-        check_digest(&digest);
         let (query, partial) = queries_of(alloc, head.words.as_slice())?;
         let answer = read_answer(alloc, &partial, line, report)?;
         let lines = widened(alloc, answer.lines)?;
@@ -126,7 +125,6 @@ impl Merge {
         ensures refused { IfErr result (RefusesAdding self.now text.now) }
     {
         let read = read_head(alloc, text)?;
-        check_digest(&read.digest);
         check_alike(&self.head, &self.digest, &read)?;
         let numbers = merged_numbers(
             alloc,
@@ -216,14 +214,6 @@ fn with_numbers(head: Head, numbers: Items<u32>) -> Head
         parts,
         words,
     }
-}
-
-// A digest is 32 bytes.
-fn check_digest(digest: &[u8; 32])
-    ensures size { length digest.now ≡ 32 }
-    ensures bytes { (place : ℕ) → slice_index digest.now place < 256 }
-{
-    let _bytes = digest.as_slice();
 }
 
 // Checks that a head is of the same words, the same whole and the same dimension rows.

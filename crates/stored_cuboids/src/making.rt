@@ -48,7 +48,6 @@ pub(crate) fn appended(
         span.to) }
     ensures memory { IfErr result (λ fault. fault ≡ Memory) }
 {
-    let _proper = tail.view();
     let after = StoredCuboid {
         view: cuboid.view,
         runs: cuboid.runs + 1,
@@ -77,7 +76,6 @@ pub(crate) fn replaced(
         mark) }
     ensures memory { IfErr result (λ fault. fault ≡ Memory) }
 {
-    let _proper = cells.view();
     let after = StoredCuboid {
         view: cuboid.view,
         runs: 1,

@@ -108,7 +108,6 @@ fn next_run<D: Sectors>(
         (λ fault. (fault ≡ Memory)
         ⊎ ((fault ≡ Device) ⊎ ((fault ≡ BadLayout) ⊎ (fault ≡ TooManyCells (index_of tail.now.view))))) }
 {
-    let _proper = tail.view();
     if has_room(cuboid, tail.as_slice().len()) {
         return appended(alloc, root, cuboid, tail, span);
     }
@@ -156,7 +155,6 @@ fn merged_with<D: Sectors>(
         Ok(cells) => cells,
         Err(fault) => return Err(fault),
     };
-    let _proper = cells.view();
     match cells.merge(alloc, tail) {
         Ok(()) => Ok(cells),
         Err(fault) => Err(fault),

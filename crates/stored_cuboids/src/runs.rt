@@ -128,12 +128,8 @@ fn merge_in(alloc: Global, cells: &mut Cells, read: &Cells) -> Result<(), Fault>
     ensures refused { IfErr result (λ fault. (fault ≡ Memory) ⊎ ((fault ≡ BadLayout)
         × ((new : PlainCells) → IsMergeOf cells.old read.now new → AreProperCells new → ⊥))) }
 {
-    let _views = (cells.view(), read.view());
     match cells.merge(alloc, read) {
-        Ok(()) => {
-            let _view = cells.view();
-            Ok(())
-        }
+        Ok(()) => Ok(()),
         Err(Fault::BadLayout) => Err(Fault::BadLayout),
         Err(Fault::TooManyCells { .. }) => Err(Fault::BadLayout),
         Err(_) => Err(Fault::Memory),

@@ -1,5 +1,5 @@
 -- What an addition puts.
-use Rattle.std.proofs.Common.{◌≢◌, ◌<◌, ◌≤◌, zero, suc, arith, ℕ, List, [], ◌∷◌, ◌++◌, length, All, AllPairs}
+use Rattle.std.proofs.Common.{◌≢◌, ◌≤◌, zero, suc, arith, ℕ, List, [], ◌++◌, length, All, AllPairs}
 use Rattle.std.proofs.lemmas.List.{length-append}
 use Rattle.std.proofs.lemmas.List.Elements.{All-nil, All-cons}
 use Rattle.std.proofs.lemmas.List.Kept.{AllPairs-cons}

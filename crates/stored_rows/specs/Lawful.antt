@@ -10,7 +10,8 @@ use Rattle.cuboid_upkeep.specs.Grouping.{RepresentRows}
 use Rattle.object_store.specs.Commit.{committed}
 use Rattle.object_store.specs.Content.{Content}
 use Rattle.warehouse_objects.specs.Represents.{Represents, root_of}
-use Rattle.warehouse_objects.specs.Warehouse.{AreInOrder, AreStorable, Warehouse}
+use Rattle.dimensions.specs.Shown.{AreStorable}
+use Rattle.warehouse_objects.specs.Warehouse.{AreInOrder, Warehouse}
 use Rattle.warehouse_root.specs.Layouts.{layout_number}
 use Rattle.warehouse_root.specs.Limits.{most_additions}
 use Rattle.warehouse_root.specs.Root as roots

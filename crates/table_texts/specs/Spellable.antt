@@ -15,6 +15,8 @@ use Rattle.cube_model.specs.declared.rows.DimRows.{DimRows}
 use Rattle.cube_model.specs.declared.rows.LineOrder.{LineOrder}
 use Rattle.cube_model.specs.Limits.{longest_text}
 use Rattle.ssb_reports.specs.Writing.{Writes}
+use Rattle.table_texts.specs.declared.cell.Cell.{Cell}
+use Rattle.table_texts.specs.declared.cell.Cell.TheVariants.{Number, Text}
 
 -- neither a bar (124) nor a line feed (10)
 abbrev pub is_plain_byte : ℕ → Bool
@@ -41,15 +43,23 @@ has_figures_in_range row =
     && (nat_lt row.discount (2 ^ 8) &&
     (nat_lt row.revenue (2 ^ 63) && (nat_lt row.supplycost (2 ^ 63) && nat_lt row.tax (2 ^ 8))))))
 
+-- fields can hold its texts
+abbrev pub has_plain_texts : LineOrder → Bool
+has_plain_texts row =
+    list_all is_field_text (row.orderpriority ∷ row.shippriority ∷ row.commitdate ∷ row.shipmode ∷ [])
+
 -- a line can spell the texts of a fact row, of which the ship mode is the last field
 abbrev pub has_field_texts : LineOrder → Bool
-has_field_texts row =
-    list_all is_field_text (row.orderpriority ∷ row.shippriority ∷ row.commitdate ∷ row.shipmode ∷ [])
-    && not (ends_in_cr row.shipmode)
+has_field_texts row = has_plain_texts row && not (ends_in_cr row.shipmode)
 
 -- a line can spell a fact row
 abbrev pub is_spellable : LineOrder → Bool
 is_spellable row = has_keys_in_range row && (has_figures_in_range row && has_field_texts row)
+
+-- a line can hold a field: all numbers, and the texts that a field can hold
+abbrev pub is_spellable_cell : Cell → Bool
+is_spellable_cell (Number number) = true
+is_spellable_cell (Text text) = is_field_text text.now
 
 -- a line can spell a row of a dimension. Its last field is one that is not kept
 abbrev pub is_spellable_customer : CustomerRow → Bool

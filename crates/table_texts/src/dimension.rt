@@ -1,5 +1,5 @@
 //! The table of a dimension.
-ghost use Rattle.std.specs.Prelude.{◌≡◌, ◌<◌, [], ◌∷◌};
+ghost use Rattle.std.specs.Prelude.{◌≡◌, ◌<◌, ◌^◌, [], ◌∷◌};
 ghost use Rattle.cube_model.specs.Attributes.{axis_of};
 ghost use Rattle.cube_model.specs.Places.{row_count_of, text_at};
 ghost use Rattle.ssb_reports.specs.Report.{row_text};
@@ -51,11 +51,10 @@ fn is_spellable(dims: &Dims, axis: Axis) -> bool
 }
 
 fn is_spellable_at(dims: &Dims, axis: Axis, place: usize) -> bool
-    requires { place < row_count_of dims.now axis }
+    requires place { place < row_count_of dims.now axis }
+    requires key { row_key dims.now axis place < 2 ^ 32 }
     ensures { result ≡ is_spellable_at dims.now axis place }
 {
-    // Its type keeps the key in the range of its column.
-    let _key = key_at(dims, axis, place);
     let KeptTexts {
         first,
         second,

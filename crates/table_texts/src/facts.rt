@@ -1,14 +1,15 @@
 //! The table of fact rows.
-ghost use Rattle.std.specs.Prelude.{◌≡◌, ◌++◌, map};
+ghost use Rattle.std.specs.Prelude.{◌≡◌, ◌++◌, ◌&&◌, map};
 ghost use Rattle.std.specs.List.{list_all};
 ghost use Rattle.ssb_reports.specs.Report.{row_text};
 ghost use Rattle.ssb_reports.specs.Writing.{Writes};
 ghost use Rattle.table_texts.specs.Cells.{cell_text};
-ghost use Rattle.table_texts.specs.Spellable.{WritesTable, is_spellable};
+ghost use Rattle.table_texts.specs.Spellable.{WritesTable, has_figures_in_range, has_keys_in_range, has_plain_texts};
+ghost use Rattle.table_texts.specs.Spellable.{is_spellable, is_spellable_cell};
 ghost use Rattle.table_texts.specs.Texts.{fact_fields, facts_text, key_fields, other_fields};
 
 use crate::cell::{Cell, write_line};
-use crate::spellable::are_spellable;
+use crate::spellable::{are_fields, ends_in_cr};
 use cube_model::{Fault, LineOrder};
 use std::io::Write;
 
@@ -24,6 +25,20 @@ pub fn write_facts<W: Write>(rows: &[LineOrder], out: &mut W) -> Result<(), Faul
         return Err(Fault::BadLayout);
     }
     write_rows(rows, out)
+}
+
+// Whether lines can spell fact rows.
+fn are_spellable(rows: &[LineOrder]) -> bool
+    ensures { result ≡ list_all is_spellable rows.now }
+{
+    rows.iter().all(is_spellable)
+}
+
+// Whether a line can spell a fact row, of which the ship mode is the last field.
+fn is_spellable(row: &LineOrder) -> bool
+    ensures { result ≡ is_spellable row.now }
+{
+    are_fields(&keys_of(row)) && are_fields(&others_of(row)) && !ends_in_cr(row.shipmode.as_slice())
 }
 
 fn write_rows<W: Write>(rows: &[LineOrder], out: &mut W) -> Result<(), Fault>
@@ -43,7 +58,8 @@ fn write_row<W: Write>(row: &LineOrder, out: &mut W) -> Result<(), Fault>
 
 // The fields of the keys of a fact row.
 fn keys_of(row: &LineOrder) -> [Cell<'_>; 6]
-    ensures { map cell_text result ≡ key_fields row.now }
+    ensures fields { map cell_text result ≡ key_fields row.now }
+    ensures spellable { list_all is_spellable_cell result ≡ has_keys_in_range row.now }
 {
     [
         Cell::Number(row.orderkey.get()),
@@ -57,7 +73,8 @@ fn keys_of(row: &LineOrder) -> [Cell<'_>; 6]
 
 // Its other fields.
 fn others_of(row: &LineOrder) -> [Cell<'_>; 11]
-    ensures { map cell_text result ≡ other_fields row.now }
+    ensures fields { map cell_text result ≡ other_fields row.now }
+    ensures spellable { list_all is_spellable_cell result ≡ (has_figures_in_range row.now && has_plain_texts row.now) }
 {
     [
         Cell::Text(row.orderpriority.as_slice()),

@@ -1,62 +1,25 @@
-//! The rows that lines can spell.
+//! The fields that lines can spell.
 ghost use Rattle.std.specs.Prelude.{◌≡◌, true};
 ghost use Rattle.std.specs.List.{list_all};
-ghost use Rattle.table_texts.specs.Spellable.{ends_in_cr, has_field_texts, has_figures_in_range, has_keys_in_range};
-ghost use Rattle.table_texts.specs.Spellable.{is_field_text, is_plain_byte, is_spellable};
+ghost use Rattle.table_texts.specs.Spellable.{ends_in_cr, is_field_text, is_plain_byte, is_spellable_cell};
 
-use cube_model::LineOrder;
+use crate::cell::Cell;
 use cube_model::limits::LONGEST_TEXT;
 
-/// Whether lines can spell fact rows.
-pub(crate) fn are_spellable(rows: &[LineOrder]) -> bool
-    ensures { result ≡ list_all is_spellable rows.now }
+/// Whether a line can hold some fields: all numbers, and the texts that a field can hold.
+pub(crate) fn are_fields(cells: &[Cell<'_>]) -> bool
+    ensures { result ≡ list_all is_spellable_cell cells.now }
 {
-    rows.iter().all(is_spellable)
+    cells.iter().all(is_spellable_cell)
 }
 
-fn is_spellable(row: &LineOrder) -> bool
-    ensures { result ≡ is_spellable row.now }
+fn is_spellable_cell(cell: &Cell<'_>) -> bool
+    ensures { result ≡ is_spellable_cell cell.now }
 {
-    keys_are_in_range(row);
-    figures_are_in_range(row);
-    has_field_texts(row)
-}
-
-// The types of the keys keep them in the ranges of their columns.
-fn keys_are_in_range(row: &LineOrder)
-    ensures { has_keys_in_range row.now ≡ true }
-{
-    let _orderkey = row.orderkey.get();
-    let _linenumber = row.linenumber;
-    let _custkey = row.custkey;
-    let _partkey = row.partkey;
-    let _suppkey = row.suppkey;
-    let _orderdate = row.orderdate;
-}
-
-// So do those of the other numbers.
-fn figures_are_in_range(row: &LineOrder)
-    ensures { has_figures_in_range row.now ≡ true }
-{
-    let _quantity = row.quantity;
-    let _discount = row.discount;
-    let _tax = row.tax;
-    let _extendedprice = row.extendedprice.get();
-    let _ordtotalprice = row.ordtotalprice.get();
-    let _revenue = row.revenue.get();
-    let _supplycost = row.supplycost.get();
-}
-
-fn has_field_texts(row: &LineOrder) -> bool
-    ensures { result ≡ has_field_texts row.now }
-{
-    let texts = [
-        row.orderpriority.as_slice(),
-        row.shippriority.as_slice(),
-        row.commitdate.as_slice(),
-        row.shipmode.as_slice(),
-    ];
-    are_field_texts(&texts) && !ends_in_cr(row.shipmode.as_slice())
+    match cell {
+        Cell::Number(_) => true,
+        Cell::Text(text) => is_field_text(text),
+    }
 }
 
 /// Whether fields can hold some texts.
@@ -85,7 +48,8 @@ fn is_plain_byte(byte: &u8) -> bool
     *byte != b'|' && *byte != b'\n'
 }
 
-fn ends_in_cr(text: &[u8]) -> bool
+/// Whether a text ends with a carriage return, which a reader would drop at the end of a line.
+pub(crate) fn ends_in_cr(text: &[u8]) -> bool
     ensures { result ≡ ends_in_cr text.now }
 {
     !text.is_empty() && text[text.len() - 1] == b'\r'

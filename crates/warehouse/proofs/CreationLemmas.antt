@@ -24,7 +24,8 @@ use Rattle.warehouse_root.specs.Layouts.{dimension_object_count, layout_number}
 use Rattle.warehouse_root.specs.Modes.{modes_spelling}
 use Rattle.warehouse_root.specs.Root as roots
 use Rattle.warehouse_root.specs.Root.{PlainRoot}
-use Rattle.warehouse_objects.specs.Warehouse.{AreStorable, fresh_in}
+use Rattle.dimensions.specs.Shown.{AreStorable}
+use Rattle.warehouse_objects.specs.Warehouse.{fresh_in}
 use Rattle.warehouse_objects.specs.Represents.{HasModes, Represents, dimension_of, root_of}
 use Rattle.warehouse_objects.specs.Lawful.{beginning_puts}
 use Rattle.warehouse.specs.Creating.{MakesStore, RefusesToMake}

@@ -2,7 +2,6 @@
 use Rattle.std.proofs.Common.{◌≡◌, ◌∙◌, ℕ, List, false, refl, subst, sym}
 use Rattle.sector_device.specs.declared.device.Sectors.{Ghosts}
 use Rattle.cube_model.specs.declared.rows.DimRows.{DimRows}
-use Rattle.cube_model.proofs.LawsLemmas.{valid_rows_keep_the_rules}
 use Rattle.object_store.specs.Content.{Content}
 use Rattle.object_store.specs.Store as stores
 use Rattle.warehouse_root.specs.declared.layout.Layout.{Layout}
@@ -27,7 +26,7 @@ module _ {rows : DimRows} {root : PlainRoot} (c : Content) (w : Warehouse) (mode
 
   pub laid_agrees : IsLaidOut c w → Agrees w rows root
   laid_agrees laid = record {
-    rows_are = rows_one valid_rows_keep_the_rules c w.rows rows laid.rows is.storable
+    rows_are = rows_one c w.rows rows laid.rows is.storable
         (record {
           customers = laid.objects 1;
           suppliers = laid.objects 2;

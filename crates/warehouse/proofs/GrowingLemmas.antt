@@ -27,7 +27,8 @@ use Rattle.warehouse_objects.specs.Facts.{PassesChecksIn, refusal_in, refusal_of
 use Rattle.warehouse_objects.specs.Warehouse.{Warehouse, loaded, ship_modes_of}
 use Rattle.warehouse_objects.proofs.Batches.{both}
 use Rattle.warehouse.specs.declared.prepared.MoreModes.{MoreModes}
-use Rattle.warehouse.specs.Prepared.{AddsModes, AreMore, ChecksModes, HasFitModes, Admitted, Prepares, CanBePut, IsPrepared, MayFollow}
+use Rattle.warehouse.specs.Prepared.{AddsModes, AreMore, ChecksModes, HasFitModes, Admitted, Prepares, CanBePut}
+use Rattle.warehouse.specs.Prepared.{IsPrepared, MayFollow}
 use Rattle.std.specs.Prelude.{IfOk, IfErr, IfSome}
 use Rattle.cube_model.specs.declared.fault.Fault.TheVariants.{Memory}
 use Rattle.column_segment.specs.Encoding.{HaveRows}

@@ -27,7 +27,8 @@ use Rattle.warehouse_objects.specs.Loaded.{IsLoaded}
 use Rattle.warehouse_objects.specs.Migration.{migration_refusal}
 use Rattle.warehouse_objects.specs.Represents.{HasModes, Represents, dimension_of, modes_object, object_of, root_of}
 use Rattle.warehouse_objects.specs.Represents.{run_after, segment_after, HasRows}
-use Rattle.warehouse_objects.specs.Warehouse.{Warehouse, migrated, ship_modes_of, loaded, AreStorable}
+use Rattle.dimensions.specs.Shown.{AreStorable}
+use Rattle.warehouse_objects.specs.Warehouse.{Warehouse, migrated, ship_modes_of, loaded}
 use Rattle.warehouse_objects.proofs.CallerLemmas.{groupings_moved, batch_is_put, modes_still, represents_loaded}
 use Rattle.warehouse_objects.proofs.CallerLemmas.{segment_and_modes}
 use Rattle.warehouse.specs.Migrating.{RefusesMove, IsMigration, IsMigrationOf, MigratedOrNot, migration_puts}

@@ -6,7 +6,7 @@ use Rattle.warehouse_root.specs.declared.layout.Layout.{Layout}
 use Rattle.warehouse_root.specs.Modes.{modes_spelling}
 use Rattle.warehouse_root.specs.Root.{IsRoot, first_root}
 use Rattle.warehouse_objects.specs.Represents.{dimension_of}
-use Rattle.warehouse_objects.specs.Warehouse.{AreStorable}
+use Rattle.dimensions.specs.Shown.{AreStorable}
 use Rattle.warehouse.specs.declared.beginning.Beginning.{Beginning}
 
 -- the bytes of the four dimensions, which can be stored, and of no ship modes, and the root of no batch with its bytes

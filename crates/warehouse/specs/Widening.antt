@@ -9,7 +9,8 @@ use Rattle.object_store.specs.Content.{Content}
 use Rattle.object_store.specs.Disk.{Leaves}
 use Rattle.warehouse_root.specs.Root.{IsRoot, PlainRoot, root_with_addition}
 use Rattle.warehouse_objects.specs.Facts.{AdmitsRows}
-use Rattle.warehouse_objects.specs.Warehouse.{AreStorable, Warehouse}
+use Rattle.dimensions.specs.Shown.{AreStorable}
+use Rattle.warehouse_objects.specs.Warehouse.{Warehouse}
 use Rattle.warehouse_objects.specs.Represents.{Represents}
 use Rattle.warehouse.specs.Loaded.{Agrees}
 use Rattle.warehouse.specs.Session.{IsAt, device_of, disk_of}

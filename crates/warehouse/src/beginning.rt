@@ -1,13 +1,14 @@
 //! What a warehouse is made of, made ready before the first device call.
 ghost use Rattle.std.specs.Prelude.{◌≡◌, IfOk, IfErr};
 ghost use Rattle.cube_model.specs.declared.fault.Fault.TheVariants.{Memory};
+ghost use Rattle.dimensions.specs.Shown.{AreStorable};
 ghost use Rattle.warehouse_objects.specs.Represents.{dimension_of};
 
 use cube_model::{Axis, Fault};
 use dimension_objects::encode;
 use dimensions::Dims;
 use std::alloc::Global;
-use warehouse_objects::{ShipModes, rows_are_storable};
+use warehouse_objects::ShipModes;
 use warehouse_root::{Layout, Root};
 
 /// The bytes of the four dimensions and of no ship modes, and the root of no batch.
@@ -30,7 +31,6 @@ impl Beginning {
         ensures ok { IfOk result (IsBeginning layout dims.now) }
         ensures memory { IfErr result (λ fault. fault ≡ Memory) }
     {
-        rows_are_storable(dims);
         let root = Root::new(alloc, layout);
         let root_bytes = root.encode(alloc)?;
         let (customers, suppliers) = two_encoded(alloc, dims, Axis::Customer, Axis::Supplier)?;
@@ -58,6 +58,7 @@ fn two_encoded(
     ensures first { IfOk result (λ two. two.0.items ≡ dimension_of dims.now first) }
     ensures second { IfOk result (λ two. two.1.items ≡ dimension_of dims.now second) }
     ensures memory { IfErr result (λ fault. fault ≡ Memory) }
+    ensures storable { AreStorable dims.now }
 {
     Ok((encode(alloc, dims, first)?, encode(alloc, dims, second)?))
 }

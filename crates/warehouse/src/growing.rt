@@ -166,6 +166,7 @@ impl GrowingBatch {
             → MatchResult result (λ _. early_refusal w.rows w.batches number rows ≡ None)
             (λ fault. early_refusal w.rows w.batches number rows ≡ Some fault) }
         ensures short { OnOk result (self.now.found.long_text ≡ None) }
+        ensures few { OnOk result (self.now.found.row_count ≤ most_batch_rows) }
         ensures apart { IfErr result (λ fault. is_of_device fault ≡ false) }
     {
         if let Err(fault) = admission_of(root).check_number(number) {
@@ -182,13 +183,13 @@ impl GrowingBatch {
         requires grown { (dimensions : DimRows) × (root : PlainRoot) × (rows : List LineOrder)
             × IsGrown dimensions root rows self.now }
         requires short { self.now.found.long_text ≡ None }
+        requires few { self.now.found.row_count ≤ most_batch_rows }
         ensures more { IfOk result (λ more. IfSome more (CanBePut Second)) }
         ensures model { (dimensions : DimRows) (root : PlainRoot) (earlier rows : List LineOrder)
             → IsGrown dimensions root rows self.now → modes.now ≡ kept_modes Second earlier
             → AddsModes earlier rows result }
         ensures apart { IfErr result (λ fault. is_of_device fault ≡ false) }
     {
-        let _rows = self.found.row_count();
         let (own, codes) = self.columns.ship_modes();
         let all = match modes.with_batch(alloc, own, codes) {
             Ok(all) => all,

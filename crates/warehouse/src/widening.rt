@@ -4,6 +4,7 @@ ghost use Rattle.cube_model.specs.declared.fault.Fault.TheVariants.{Memory};
 ghost use Rattle.cube_model.specs.declared.rows.DimRows as dim_rows;
 ghost use Rattle.cube_model.specs.Validity.{HaveShortTexts};
 ghost use Rattle.dimensions.specs.Added.{addition_cause, joined};
+ghost use Rattle.dimensions.specs.Shown.{AreStorable};
 ghost use Rattle.stored_rows.specs.Added.{put_of, widening_puts};
 ghost use Rattle.object_store.specs.Commit as commits;
 ghost use Rattle.warehouse_root.specs.Limits.{most_additions};
@@ -17,7 +18,6 @@ use dimension_objects::encode;
 use dimensions::Dims;
 use std::alloc::Global;
 use std::rc::Rc;
-use warehouse_objects::rows_are_storable;
 use warehouse_root::Root;
 
 /// The most objects that an addition puts: one for each dimension.
@@ -63,10 +63,9 @@ impl Widening {
     fn of(alloc: Global, dims: Dims, root: &Root, rows: &DimRows) -> Result<Widening, Fault>
         requires few { root.now.additions < most_additions }
         ensures ok { IfOk result (λ wider. (old : dim_rows.DimRows) → dims ≡ joined old rows.now
-            → IsWidening old root.now rows.now wider) }
+            → AreStorable (joined old rows.now) → IsWidening old root.now rows.now wider) }
         ensures memory { IfErr result (λ fault. fault ≡ Memory) }
     {
-        rows_are_storable(&dims);
         let root = root.with_addition(alloc)?;
         let root_bytes = root.encode(alloc)?;
         let objects = new_objects(alloc, &dims, rows)?;

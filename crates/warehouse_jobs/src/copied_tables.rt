@@ -2,7 +2,7 @@
 ghost use Rattle.std.specs.Prelude.{◌≡◌, [], IfErr, IfOk};
 ghost use Rattle.cube_model.specs.declared.fault.Fault.TheVariants.{Memory};
 
-use cube_model::{Axis, DimRows, Fault, Items};
+use cube_model::{DimRows, Fault, Items};
 use dimensions::Dims;
 use std::alloc::Global;
 
@@ -11,7 +11,6 @@ pub(crate) fn copied(alloc: Global, dims: &Dims) -> Result<Dims, Fault>
     ensures same { IfOk result (λ copy. copy ≡ dims.now) }
     ensures memory { IfErr result (λ fault. fault ≡ Memory) }
 {
-    let _rows = dims.row_count(Axis::Customer); // they are valid
     let none = no_rows(alloc);
     dims.with_rows(alloc, &none)
 }

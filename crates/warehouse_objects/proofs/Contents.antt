@@ -14,14 +14,13 @@ use Rattle.cube_model.specs.declared.rows.LineOrder.{LineOrder}
 use Rattle.batch_admission.proofs.CallerLemmas.{all_rows-last}
 use Rattle.batch_admission.specs.Totals.{totals_of}
 use Rattle.cube_model.specs.Admission.{IsAdmissible, all_rows}
-use Rattle.cube_model.specs.Lawful.{KeepAllRules, ValidRowsKeepTheRules}
 use Rattle.object_store.specs.Content.{Content, bytes_of}
 use Rattle.object_store.specs.Commit.{ArePuts, IsObject, among, committed, created}
 use Rattle.object_store.proofs.CallerLemmas.{bytes_after, bytes_created, layout_after, layout_created, once_after}
 use Rattle.object_store.proofs.CallerLemmas.{once_created, one_put, root_after, root_created}
 use Rattle.object_store.proofs.Lists.{AllPairs-head, AllPairs-nil, AllPairs-tail}
 use Rattle.column_segment.specs.Segment.{FitColumns, IsBatch, segment_of}
-use Rattle.dimensions.proofs.CallerLemmas.{good_customers, good_dates, good_parts, good_suppliers}
+use Rattle.dimensions.proofs.CallerLemmas.{good_on}
 use Rattle.dimensions.specs.Shown.{rows_on}
 use Rattle.warehouse_root.specs.declared.layout.Layout.{Layout}
 use Rattle.warehouse_root.specs.declared.layout.Layout.TheVariants.{First, Second}
@@ -37,7 +36,8 @@ use Rattle.cuboid_cells.specs.Spelled.{IsSpan}
 use Rattle.cuboid_cells.specs.Steps.{cells_of}
 use Rattle.cuboid_upkeep.specs.Grouping.{RepresentRows}
 use Rattle.cuboid_upkeep.proofs.CallerLemmas.{they_still_represent}
-use Rattle.warehouse_objects.specs.Warehouse.{AreInOrder, AreStorable, Cuboid, IsNext, StoredRun, Warehouse, aimed}
+use Rattle.dimensions.specs.Shown.{AreStorable}
+use Rattle.warehouse_objects.specs.Warehouse.{AreInOrder, Cuboid, IsNext, StoredRun, Warehouse, aimed}
 use Rattle.warehouse_objects.specs.Facts.{AdmitsBatch}
 use Rattle.warehouse_objects.specs.Warehouse.{fresh_in, loaded, migrated, ship_modes_of}
 use Rattle.warehouse_objects.specs.Represents.{Follow, HasRows, HoldsGroupings, Represents, dimension_of, modes_object}
@@ -409,16 +409,13 @@ distinct_puts a b c d =
     (AllPairs-nil (λ (a : ℕ × List ℕ) (b : ℕ × List ℕ). a.0 ≢ b.0)))))
 
 -- the dimensions are puts
-module _ (law : ValidRowsKeepTheRules) (rows : DimRows) (storable : AreStorable rows) where
-  keep : KeepAllRules rows
-  keep = (law rows).0 storable.valid
-
+module _ (rows : DimRows) (storable : AreStorable rows) where
   pub dimensions_are_puts : ArePuts (dimension_puts rows)
   dimensions_are_puts =
-      let c = good_customers rows keep storable.short in
-      let s = good_suppliers rows keep storable.short in
-      let p = good_parts rows keep storable.short in
-      let d = good_dates rows keep storable.short in record {
+      let c = good_on rows storable Customer in
+      let s = good_on rows storable Supplier in
+      let p = good_on rows storable Part in
+      let d = good_on rows storable Date in record {
         each =
             All-cons IsObject (1, dimension_of rows Customer)
             ((2, dimension_of rows Supplier) ∷ (3, dimension_of rows Part) ∷ (4, dimension_of rows Date) ∷ [])
@@ -527,10 +524,10 @@ has_rows c w represents =
       dates = represents.objects 4;
     }
 
-pub rows_one : ValidRowsKeepTheRules → (c : Content) (rows others : DimRows) → AreStorable rows → AreStorable others
+pub rows_one : (c : Content) (rows others : DimRows) → AreStorable rows → AreStorable others
     → HasRows c rows → HasRows c others → rows ≡ others
-rows_one law c rows others storable also has have =
-    same_rows law rows others storable also
+rows_one c rows others storable also has have =
+    same_rows rows others storable also
     (some_one _ _ (sym has.customers ∙ have.customers)) (some_one _ _ (sym has.suppliers ∙ have.suppliers))
     (some_one _ _ (sym has.parts ∙ have.parts)) (some_one _ _ (sym has.dates ∙ have.dates))
 

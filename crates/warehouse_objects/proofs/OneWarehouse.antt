@@ -10,7 +10,6 @@ use Rattle.std.proofs.lemmas.List.Elements.{All-head, All-tail}
 use Rattle.std.proofs.lemmas.Option.{slice_get-get_or, slice_get_within}
 use Rattle.cube_model.specs.declared.attr.Axis.TheVariants.{Customer, Supplier, Part, Date}
 use Rattle.cube_model.specs.declared.rows.LineOrder.{LineOrder}
-use Rattle.cube_model.specs.Lawful.{ValidRowsKeepTheRules}
 use Rattle.object_store.specs.Content.{Content}
 use Rattle.column_segment.specs.Segment.{segment_of}
 use Rattle.column_segment.proofs.CallerLemmas.{IsSegment-one}
@@ -105,7 +104,7 @@ one_layout Second Second same = refl
 
 -- ---- one warehouse
 
-module _ (law : ValidRowsKeepTheRules) (c : Content) (w v : Warehouse) (is : RepresentsWith IsLaid c w)
+module _ (c : Content) (w v : Warehouse) (is : RepresentsWith IsLaid c w)
     (also : RepresentsWith IsLaid c v) where
   same_root : root_of w ≡ root_of v
   same_root =
@@ -183,7 +182,7 @@ module _ (law : ValidRowsKeepTheRules) (c : Content) (w v : Warehouse) (is : Rep
 
   pub laid_one : w ≡ v
   laid_one =
-      let rows : w.rows ≡ v.rows = rows_one law c w.rows v.rows is.rows also.rows
+      let rows : w.rows ≡ v.rows = rows_one c w.rows v.rows is.rows also.rows
       (record { customers = is.objects 1; suppliers = is.objects 2; parts = is.objects 3; dates = is.objects 4 })
       (record {
         customers = also.objects 1;
@@ -244,5 +243,5 @@ laid_of c w represents = record {
   cuboids = λ k d within. (represents.cuboids k d within).laid;
 }
 
-pub one_warehouse : ValidRowsKeepTheRules → (c : Content) (w v : Warehouse) → Represents c w → Represents c v → w ≡ v
-one_warehouse law c w v is also = laid_one law c w v (laid_of c w is) (laid_of c v also)
+pub one_warehouse : (c : Content) (w v : Warehouse) → Represents c w → Represents c v → w ≡ v
+one_warehouse c w v is also = laid_one c w v (laid_of c w is) (laid_of c v also)

@@ -12,7 +12,8 @@ use Rattle.object_store.specs.Store.{IsStill, content_of, disk_of}
 use Rattle.object_store.specs.declared.store.Store.{Store}
 use Rattle.dimension_objects.specs.Spelled.{AreDimensionObjects}
 use Rattle.warehouse_objects.specs.Lawful.{RowsAreOne}
-use Rattle.warehouse_objects.specs.Warehouse.{AreStorable, Warehouse}
+use Rattle.dimensions.specs.Shown.{AreStorable}
+use Rattle.warehouse_objects.specs.Warehouse.{Warehouse}
 use Rattle.warehouse_objects.specs.Represents.{HasRows, Represents, dimension_of, root_of}
 use Rattle.warehouse_objects.proofs.Batches.{some_one}
 use Rattle.warehouse_objects.proofs.Contents.{has_rows}
@@ -45,12 +46,7 @@ module _ (a b c d : List ℕ) where
       suppliers_are = at_b;
       parts_are = at_c;
       dates_are = at_d;
-      customer_keys = storable.keys Customer;
-      supplier_keys = storable.keys Supplier;
-      part_keys = storable.keys Part;
-      date_keys = storable.keys Date;
-      valid = storable.valid;
-      short = storable.short;
+      storable = storable;
     }),
   )) none
 

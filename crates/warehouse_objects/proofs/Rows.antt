@@ -11,7 +11,6 @@ use Rattle.cube_model.specs.declared.rows.SupplierRow.{SupplierRow}
 use Rattle.cube_model.specs.declared.rows.PartRow.{PartRow}
 use Rattle.cube_model.specs.declared.rows.DateRow.{DateRow}
 use Rattle.cube_model.specs.declared.rows.DimRows.{DimRows}
-use Rattle.cube_model.specs.Lawful.{KeepAllRules, ValidRowsKeepTheRules}
 use Rattle.dictionary.specs.Columns.{text_of_code}
 use Rattle.dictionary.specs.Dictionary.{firsts}
 use Rattle.dictionary.proofs.CallerLemmas.{bytes_eq-refl, list_any_here, list_any-firsts, place_within, text_at_place}
@@ -21,16 +20,17 @@ use Rattle.dimensions.specs.Shapes.{lowers_of, lower_of}
 use Rattle.dimensions.specs.Shown.{rows_on}
 use Rattle.dimensions.specs.TextRows.{TextRow, column_of, text_in, row_of_customer, row_of_date, row_of_part}
 use Rattle.dimensions.specs.TextRows.{row_of_supplier}
-use Rattle.dimensions.proofs.CallerLemmas.{few_good_rows, good_codes, good_customers, good_dates, good_parts}
-use Rattle.dimensions.proofs.CallerLemmas.{good_suppliers, lower_below}
+use Rattle.dimensions.proofs.CallerLemmas.{few_good_rows, good_codes, good_on}
+use Rattle.dimensions.proofs.CallerLemmas.{lower_below}
 use Rattle.dimensions.proofs.CodedRules.{determined}
 use Rattle.dimensions.proofs.CodedTexts.{all_from_get}
-use Rattle.dimension_objects.specs.Spelled.{KeysFit, codes_in_order, dimension_spelling, keys_spelling, linked_columns}
+use Rattle.dimensions.specs.TextRows.{KeysFit}
+use Rattle.dimension_objects.specs.Spelled.{codes_in_order, dimension_spelling, keys_spelling, linked_columns}
 use Rattle.dimension_objects.specs.Spelled.{dimension_parts, row_columns, stored_columns, texts_in_order}
 use Rattle.dimension_objects.proofs.Front.{FitCodes, numbers-one}
 use Rattle.dimension_objects.proofs.SpelledLaws.{after_codes, after_header, after_texts, each_column, each_stored}
 use Rattle.dimension_objects.proofs.SpelledLaws.{keys_fit, linked_all, many, places, proper_texts, row_all}
-use Rattle.warehouse_objects.specs.Warehouse.{AreStorable}
+use Rattle.dimensions.specs.Shown.{AreStorable}
 
 -- ---- texts above others, from the texts at their places
 
@@ -272,24 +272,22 @@ date_back row other e = λ i. record {
 -- ---- the four dimensions
 
 -- rows whose four objects have the same bytes are the same rows
-pub same_rows : ValidRowsKeepTheRules → (rows others : DimRows) → AreStorable rows → AreStorable others
+pub same_rows : (rows others : DimRows) → AreStorable rows → AreStorable others
     → dimension_spelling Customer (rows_on rows Customer) ≡ dimension_spelling Customer (rows_on others Customer)
     → dimension_spelling Supplier (rows_on rows Supplier) ≡ dimension_spelling Supplier (rows_on others Supplier)
     → dimension_spelling Part (rows_on rows Part) ≡ dimension_spelling Part (rows_on others Part)
     → dimension_spelling Date (rows_on rows Date) ≡ dimension_spelling Date (rows_on others Date) → rows ≡ others
-same_rows law rows others storable also c s p d =
-    let keep : KeepAllRules rows = (law rows).0 storable.valid in
-    let kept : KeepAllRules others = (law others).0 also.valid in
+same_rows rows others storable also c s p d =
     let customers = axis_one row_of_customer Customer (λ row. refl) customer_back rows.customers others.customers
-    (good_customers rows keep storable.short) (good_customers others kept also.short) (storable.keys Customer)
+    (good_on rows storable Customer) (good_on others also Customer) (storable.keys Customer)
     (also.keys Customer) c in
     let suppliers = axis_one row_of_supplier Supplier (λ row. refl) supplier_back rows.suppliers others.suppliers
-    (good_suppliers rows keep storable.short) (good_suppliers others kept also.short) (storable.keys Supplier)
+    (good_on rows storable Supplier) (good_on others also Supplier) (storable.keys Supplier)
     (also.keys Supplier) s in
     let parts =
-    axis_one row_of_part Part (λ row. refl) part_back rows.parts others.parts (good_parts rows keep storable.short)
-    (good_parts others kept also.short) (storable.keys Part) (also.keys Part) p in
+    axis_one row_of_part Part (λ row. refl) part_back rows.parts others.parts (good_on rows storable Part)
+    (good_on others also Part) (storable.keys Part) (also.keys Part) p in
     let dates =
-    axis_one row_of_date Date (λ row. refl) date_back rows.dates others.dates (good_dates rows keep storable.short)
-    (good_dates others kept also.short) (storable.keys Date) (also.keys Date) d in
+    axis_one row_of_date Date (λ row. refl) date_back rows.dates others.dates (good_on rows storable Date)
+    (good_on others also Date) (storable.keys Date) (also.keys Date) d in
     λ i. record { customers = customers i; suppliers = suppliers i; parts = parts i; dates = dates i }

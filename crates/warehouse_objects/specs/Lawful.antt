@@ -17,7 +17,8 @@ use Rattle.warehouse_root.specs.Modes.{AreModes, modes_id, modes_spelling}
 use Rattle.warehouse_root.specs.Objects.{run_id, segment_id}
 use Rattle.warehouse_root.specs.Root as roots
 use Rattle.warehouse_objects.specs.Facts.{AdmitsBatch}
-use Rattle.warehouse_objects.specs.Warehouse.{Warehouse, AreStorable, Cuboid, StoredRun, aimed, cell_count, cuboid_at}
+use Rattle.dimensions.specs.Shown.{AreStorable}
+use Rattle.warehouse_objects.specs.Warehouse.{Warehouse, Cuboid, StoredRun, aimed, cell_count, cuboid_at}
 use Rattle.warehouse_objects.specs.Warehouse.{dropped_ids, fresh_in, kept, loaded, ship_modes_of, with_views}
 use Rattle.warehouse_objects.specs.Represents.{HasModes, HasRows, HoldsGroupings, Represents, dimension_of, root_of}
 use Rattle.warehouse_objects.specs.Represents.{run_bytes}

@@ -6,7 +6,7 @@ use Rattle.warehouse_root.specs.Modes.{AreModes}
 use Rattle.warehouse_root.specs.Root.{IsRoot, PlainRoot}
 use Rattle.object_store.specs.Content.{Content}
 use Rattle.warehouse_objects.specs.Represents.{HasModes, HasRows}
-use Rattle.warehouse_objects.specs.Warehouse.{AreStorable}
+use Rattle.dimensions.specs.Shown.{AreStorable}
 
 -- The dimensions, the ship modes and the root that are kept are those of the content. The dimensions can be stored, and
 -- the root keeps the rules.

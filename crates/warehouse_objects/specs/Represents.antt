@@ -27,7 +27,8 @@ use Rattle.warehouse_root.specs.Layouts.{layout_number, view_count}
 use Rattle.warehouse_root.specs.Modes.{AreModes, modes_id, modes_spelling}
 use Rattle.warehouse_root.specs.Objects.{object_ids, run_id, segment_id}
 use Rattle.warehouse_root.specs.Root.{IsRoot, PlainRoot}
-use Rattle.warehouse_objects.specs.Warehouse.{Warehouse, AreInOrder, AreStorable, Cuboid, StoredRun, cell_count}
+use Rattle.dimensions.specs.Shown.{AreStorable}
+use Rattle.warehouse_objects.specs.Warehouse.{Warehouse, AreInOrder, Cuboid, StoredRun, cell_count}
 use Rattle.warehouse_objects.specs.Warehouse.{cuboid_at, is_among, ship_modes_of}
 
 -- the bytes of the rows of a dimension

@@ -2,14 +2,10 @@
 use Rattle.std.specs.Prelude.{◌≡◌, ℕ, ◌+◌, ◌==◌, if◌then◌else◌, Bool, not, Option, None, Some, List, [], ◌∷◌}
 use Rattle.std.specs.Prelude.{◌++◌, length, map, take, slice_get}
 use Rattle.std.specs.List.{filter, find, flat_map, list_any, range_with_len, sum_by}
-use Rattle.cube_model.specs.declared.attr.Axis.{Axis}
 use Rattle.cube_model.specs.declared.rows.DimRows.{DimRows}
 use Rattle.cube_model.specs.declared.rows.LineOrder.{LineOrder}
 use Rattle.cube_model.specs.Admission.{IsAdmissible, all_rows}
-use Rattle.cube_model.specs.Validity.{HaveShortTexts, IsValid}
 use Rattle.column_segment.specs.Segment.{FitColumns}
-use Rattle.dimensions.specs.Shown.{rows_on}
-use Rattle.dimension_objects.specs.Spelled.{KeysFit}
 use Rattle.lattice.specs.declared.view.View.{View}
 use Rattle.lattice.specs.Views.{index_of, lattice}
 use Rattle.cuboid_cells.specs.declared.cell.Cell.{Cell}
@@ -111,12 +107,6 @@ abbrev pub dropped_ids : Warehouse → List View → List ℕ
 dropped_ids w views =
     flat_map (λ cuboid. range_with_len (run_id (index_of cuboid.view) 0) (length cuboid.runs))
     (filter (λ cuboid. not (is_among views (index_of cuboid.view))) w.cuboids)
-
--- dimension rows that can be stored: they are valid, their texts are short, and their keys fit four bytes
-pub record AreStorable (rows : DimRows) : Type 0 where
-  pub valid : IsValid rows
-  pub short : HaveShortTexts rows
-  pub keys : (axis : Axis) → KeysFit (rows_on rows axis)
 
 -- a batch that may follow others: it is admissible after them, and its numbers fit their columns
 pub record IsNext (rows : DimRows) (batches : List (List LineOrder)) (batch : List LineOrder) : Type 0 where

@@ -6,10 +6,8 @@ pub mod laws;
 mod objects;
 mod reading;
 mod ship_modes;
-mod storable;
 
 pub use folding::{decoded_batch, fold_batch, fold_batches};
 pub use objects::has_its_objects;
 pub use reading::{read_dims, read_modes, read_object, read_root};
 pub use ship_modes::ShipModes;
-pub use storable::rows_are_storable;

@@ -8,7 +8,8 @@ ghost use Rattle.object_store.specs.Store.{content_of, device_of, has_failed};
 ghost use Rattle.warehouse_root.specs.Layouts.{layout_number};
 ghost use Rattle.warehouse_root.specs.Modes.{AreModes};
 ghost use Rattle.warehouse_root.specs.Root.{IsRoot, IsRootOf};
-ghost use Rattle.warehouse_objects.specs.Warehouse.{AreStorable, Warehouse};
+ghost use Rattle.dimensions.specs.Shown.{AreStorable};
+ghost use Rattle.warehouse_objects.specs.Warehouse.{Warehouse};
 ghost use Rattle.warehouse_objects.specs.Reads.{ReadsOnly};
 ghost use Rattle.warehouse_objects.specs.Represents.{HasModes, HasRows, Represents, dimension_of, root_of};
 

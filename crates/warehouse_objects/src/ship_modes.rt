@@ -112,7 +112,6 @@ impl ShipModes {
             let place = MemberPlace::InBatch { row };
             return Err(Fault::TooManyMembers { place });
         }
-        let _few = texts.len();
         Ok(ShipModes { texts })
     }
 }

@@ -59,4 +59,4 @@ loop-place-preserved c =
     (set c.loop-place.met.items n true) (c.loop-place.place + 1))
     (sym (c.from-in-loop-place.ensures ∙ c.from_le_bytes-code.ensures))
     (adding_more c.args.known.now known texts c.args.codes.now c.loop-place.met.items c.loop-place.place
-    c.loop-place.invariant c.loop-place-test.true code.0 c.add.new.self adds)
+    c.loop-place.invariant c.loop-place-test.true code.0 c.add.new.self adds c.in_ok-add.ensures.few)

@@ -1,4 +1,5 @@
-use Rattle.std.proofs.Common.{◌≡◌, ◌*◌, ◌+◌, ◌<◌, ◌∙◌, ◌++◌, ℕ, All, List, [], ◌∷◌, add-one, ap, arith, length, length-set, subst, sym}
+use Rattle.std.proofs.Common.{◌≡◌, ◌*◌, ◌+◌, ◌<◌, ◌∙◌, ◌++◌, ℕ, All, List, [], ◌∷◌, add-one, ap, arith, length}
+use Rattle.std.proofs.Common.{length-set, subst, sym}
 use Rattle.std.proofs.Common.{take}
 use Rattle.std.proofs.Math.ListN.{set}
 use Rattle.std.proofs.Math.Seq.{take-suc-set}

@@ -24,18 +24,18 @@ returns-clause-refused c bad rows represent known room =
     elim (c.with_cells.ensures.refused bad) [
       | inl none ↦
           let asked = subst (λ (own : AskedOfCells). HaveNoRepresentative own c.as_slice-cells.result.now)
-          c.in_ok-numbers.ensures none in
+          c.in_ok-numbers.ensures.asked none in
           let seen = subst
           (λ (view : View). HaveNoRepresentative (asked_of dims query view modes) c.as_slice-cells.result.now)
           c.view-view.ensures.value asked in
           let own : HaveNoRepresentative (asked_of dims query plain.view modes) plain.cells =
           subst (λ (cells : List Cell). HaveNoRepresentative (asked_of dims query plain.view modes) cells)
-          c.as_slice-cells.ensures seen in
+          c.as_slice-cells.ensures.cells seen in
           let row = represents_among dims modes plain rows represent known own.cell own.among in
           own.none row.0 row.1
       | inr full ↦
           full (subst (λ (aggs : List Agg). GroupsHaveRoomFor entries aggs c.as_slice-cells.result.now columns)
           (sym aggregates)
           (subst (λ (cells : List Cell). GroupsHaveRoomFor entries query.aggregates cells columns)
-          (sym c.as_slice-cells.ensures) room))
+          (sym c.as_slice-cells.ensures.cells) room))
     ]

@@ -19,7 +19,8 @@ returns-clause-refused g c = λ bad keeps cells left.
     let aggregates = c.as_slice-aggregates.ensures ∙ ap (λ q. q.aggregates) c.query.ensures in
     elim (c.merge_run.ensures.refused bad keeps cells left) [
       | inl none ↦
-          (let asked = subst (λ (own : AskedOfCells). HaveNoRepresentative own cells) c.in_ok-numbers.ensures none in
+          (let asked = subst (λ (own : AskedOfCells). HaveNoRepresentative own cells) c.in_ok-numbers.ensures.asked
+          none in
           inl (subst (λ (head : RunHead). HaveNoRepresentative (asked_of dims query head.view modes) cells)
           c.head.ensures
           asked))

@@ -7,4 +7,4 @@ returns-clause-ok c =
     let asked = c.args.plan.now in
     c.in_ok-mask.ensures.ok
     ∙ bounds_tell asked.dimensions asked.query.conditions c.bounds-limits.result c.args.batch.now c.requires
-    c.bounds-limits.ensures c.len.ensures.figures
+    c.bounds-limits.ensures c.mask.ensures.figures

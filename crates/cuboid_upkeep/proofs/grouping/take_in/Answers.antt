@@ -12,7 +12,7 @@ use Rattle.cuboid_upkeep.proofs.grouping.take_in.Goals as goal
 pub returns-then-place-len-clause-ok : goal.returns-then-place-len-clause-ok
 returns-then-place-len-clause-ok c =
     taken_after c.args.cells.now.items c.args.cell c.in-Ok.place
-    (c.in-Ok.ensures.index ∙ (λ i. position_or_len (nat_eq (c.number.ensures i)) (c.requires.keys_are i)))
+    (c.in-Ok.ensures.index ∙ (λ i. position_or_len (nat_eq (c.number.ensures.number i)) (c.requires.keys_are i)))
     (omega (arith, c.if-place-len.true, c.len.ensures)) c.push.new.self.items c.in_ok-push.ensures.items
 
 pub returns-clause-keyed : goal.returns-clause-keyed
@@ -34,7 +34,7 @@ returns-clause-keyed c =
     (AreKeyed c.insert_full.new.self.keys new)
     (λ m.
     merged_keyed cells c.args.cell c.in-Ok.place
-    (c.in-Ok.ensures.index ∙ (λ i. position_or_len (nat_eq (c.number.ensures i)) (c.requires.keys_are i))) within
+    (c.in-Ok.ensures.index ∙ (λ i. position_or_len (nat_eq (c.number.ensures.number i)) (c.requires.keys_are i))) within
     new m
     keys c.insert_full.new.self.keys c.requires.keys_are
     (c.in-Ok.ensures.keys ∙ keys_stay keys c.number.result c.in-Ok.place c.in-Ok.ensures.index in_keys) once)
@@ -48,7 +48,7 @@ returns-clause-ok c =
     ok_through c.merge_at.result (MergesAt cells c.in-Ok.place c.args.cell new) (TakesIn cells c.args.cell new)
     (λ m.
     merged_taken cells c.args.cell c.in-Ok.place
-    (c.in-Ok.ensures.index ∙ (λ i. position_or_len (nat_eq (c.number.ensures i)) (c.requires.keys_are i))) within
+    (c.in-Ok.ensures.index ∙ (λ i. position_or_len (nat_eq (c.number.ensures.number i)) (c.requires.keys_are i))) within
     new m)
     c.merge_at.ensures.ok
 
@@ -61,7 +61,8 @@ returns-clause-refused c =
     (λ fault why. inr (
       why.0,
       merge_overflows cells c.args.cell c.in-Ok.place
-          (c.in-Ok.ensures.index ∙ (λ i. position_or_len (nat_eq (c.number.ensures i)) (c.requires.keys_are i))) within
+          (c.in-Ok.ensures.index ∙ (λ i. position_or_len (nat_eq (c.number.ensures.number i)) (c.requires.keys_are i)))
+          within
           why.1,
     ))
     c.merge_at.ensures.refused

@@ -17,8 +17,8 @@ part_of-requires c =
     subst (λ (dims : DimRows). IsOfRow dims c.args.axis c.in_ok-keys.keys.every) (sym c.requires)
     (every_known c.args.dims.now c.args.axis c.args.grouped c.in_ok-keys.keys c.in_ok-keys.ensures.sound)
 
-pub returns : goal.returns
-returns c =
+pub returns-clause-parts : goal.returns-clause-parts
+returns-clause-parts c =
     let dims = c.args.dims.now in
     let query = c.args.plan.now.query in
     parts_after dims query c.args.axis c.args.grouped c.in_ok-keys.keys

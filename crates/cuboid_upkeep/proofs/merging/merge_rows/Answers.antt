@@ -34,7 +34,7 @@ returns-then-is_empty-clause-ok g c =
     let same : c.args.cells.now.view ≡ batch.view = sym (c.in_ok-batch.ensures.view ∙ c.view.ensures.value) in
     let zero : length c.as_slice.result.now ≡ 0 = grind (arith, nat_tests, c.is_empty.ensures, c.if-is_empty.true) in
     let none : c.args.cells.now.cells ≡ [] =
-    nil_from_length c.args.cells.now.cells (ap length (sym c.as_slice.ensures) ∙ zero) in
+    nil_from_length c.args.cells.now.cells (ap length (sym c.as_slice.ensures.cells) ∙ zero) in
     λ so_far represent.
     both_represent c.args.dims.now modes so_far rows c.args.cells.now batch batch same represent
     c.in_ok-batch.ensures.ok

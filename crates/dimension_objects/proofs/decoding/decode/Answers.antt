@@ -10,7 +10,7 @@ returns-in_err-customers-clause-refused c =
     let p = err_from_is_err_and c.from_residual.result c.from_residual.ensures.1 in
     rw (p.1, p.2)
     (refused_so c.in_err-customers.field-0.0
-    (none_customers valid_rows_keep_the_rules c.args.customers.now c.args.suppliers.now c.args.parts.now
+    (none_customers c.args.customers.now c.args.suppliers.now c.args.parts.now
     c.args.dates.now) c.in_err-customers.ensures.refused)
 
 pub returns-in_err-suppliers-clause-refused : goal.returns-in_err-suppliers-clause-refused
@@ -18,7 +18,7 @@ returns-in_err-suppliers-clause-refused c =
     let p = err_from_is_err_and c.from_residual-in_err-suppliers.result c.from_residual-in_err-suppliers.ensures.1 in
     rw (p.1, p.2)
     (refused_so c.in_err-suppliers.field-0.0
-    (none_suppliers valid_rows_keep_the_rules c.args.customers.now c.args.suppliers.now c.args.parts.now
+    (none_suppliers c.args.customers.now c.args.suppliers.now c.args.parts.now
     c.args.dates.now) c.in_err-suppliers.ensures.refused)
 
 pub returns-in_err-parts-clause-refused : goal.returns-in_err-parts-clause-refused
@@ -26,7 +26,7 @@ returns-in_err-parts-clause-refused c =
     let p = err_from_is_err_and c.from_residual-in_err-parts.result c.from_residual-in_err-parts.ensures.1 in
     rw (p.1, p.2)
     (refused_so c.in_err-parts.field-0.0
-    (none_parts valid_rows_keep_the_rules c.args.customers.now c.args.suppliers.now c.args.parts.now
+    (none_parts c.args.customers.now c.args.suppliers.now c.args.parts.now
     c.args.dates.now) c.in_err-parts.ensures.refused)
 
 pub returns-in_err-dates-clause-refused : goal.returns-in_err-dates-clause-refused
@@ -34,13 +34,13 @@ returns-in_err-dates-clause-refused c =
     let p = err_from_is_err_and c.from_residual-in_err-dates.result c.from_residual-in_err-dates.ensures.1 in
     rw (p.1, p.2)
     (refused_so c.in_err-dates.field-0.0
-    (none_dates valid_rows_keep_the_rules c.args.customers.now c.args.suppliers.now c.args.parts.now
+    (none_dates c.args.customers.now c.args.suppliers.now c.args.parts.now
     c.args.dates.now) c.in_err-dates.ensures.refused)
 
 pub returns-clause-ok : goal.returns-clause-ok
 returns-clause-ok c =
-    ok_so _ _ _ _ c.of_coded.result
-    (λ rows are valid short.
+    ok_so _ _ _ c.of_coded.result
+    (λ rows are storable.
     all_objects c.args.customers.now c.args.suppliers.now c.args.parts.now c.args.dates.now
     (record {
       customers = c.in_ok-customers.customers;
@@ -49,13 +49,13 @@ returns-clause-ok c =
       dates = c.in_ok-dates.dates;
     })
     c.in_ok-customers.ensures.ok c.in_ok-suppliers.ensures.ok c.in_ok-parts.ensures.ok c.in_ok-dates.ensures.ok rows are
-    valid short)
-    c.of_coded.ensures.ok c.of_coded.ensures.valid c.of_coded.ensures.short
+    storable)
+    c.of_coded.ensures.ok c.of_coded.ensures.storable
 
 pub returns-clause-refused : goal.returns-clause-refused
 returns-clause-refused c =
     err_so _ _ c.of_coded.result (λ fault. refused_so fault
-    (no_objects valid_rows_keep_the_rules c.args.customers.now c.args.suppliers.now c.args.parts.now
+    (no_objects c.args.customers.now c.args.suppliers.now c.args.parts.now
     c.args.dates.now
     (record {
       customers = c.in_ok-customers.customers;

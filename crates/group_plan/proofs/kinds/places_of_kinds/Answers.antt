@@ -15,17 +15,17 @@ texts-requires c = some_column c.args.axis
 pub first_places-requires : goal.first_places-requires
 first_places-requires c =
     in_first_order (texts_at_places c.args.axis 0 (rows_on c.args.dims.now c.args.axis)) c.codes.result.now c.len.result
-    c.codes.ensures
+    c.codes.ensures.codes
     (c.len.ensures.count ∙ ap length c.texts.ensures.texts)
 
-pub returns-in-Date : goal.returns-in-Date
-returns-in-Date c =
+pub returns-in-Date-clause-places : goal.returns-in-Date-clause-places
+returns-in-Date-clause-places c =
     IfOk-weaker c.all_places.result _ _
     (λ places is. days_are_kinds c.args.dims.now c.args.axis places.items c.in-Date.is
     (is ∙ ap (range_with_len 0) c.row_count.ensures.count)) c.all_places.ensures
 
-pub returns-in_default : goal.returns-in_default
-returns-in_default c =
+pub returns-in_default-clause-places : goal.returns-in_default-clause-places
+returns-in_default-clause-places c =
     IfOk-weaker c.first_places.result _ _
     (λ places hold. kinds_of_codes c.args.dims.now c.args.axis c.codes.result.now places.items c.in_default.not-Date
-    c.codes.ensures hold) c.first_places.ensures
+    c.codes.ensures.codes hold) c.first_places.ensures

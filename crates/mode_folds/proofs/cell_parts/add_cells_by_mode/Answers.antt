@@ -30,7 +30,7 @@ of-part-requires c =
     let code = c.loop-part.code in
     let cells = c.args.cells.now in
     let divided : AreCellParts c.len.result cells.cells parts =
-    subst (λ l. AreCellParts c.len.result l parts) c.as_slice.ensures c.in_ok-part-items.ensures in
+    subst (λ l. AreCellParts c.len.result l parts) c.as_slice.ensures.cells c.in_ok-part-items.ensures in
     let part_is : c.in-Some.part.items ≡ cells_at code cells.cells =
     part_at c.len.result cells.cells parts divided code c.in-Some.part
     (omega (arith, turn.0, c.loop-part.invariant.count))
@@ -52,7 +52,7 @@ returns-in_err-add_cells_of_mode-clause-refused c =
     let code = c.loop-part.code in
     let cells = c.args.cells.now in
     let divided : AreCellParts c.len.result cells.cells parts =
-    subst (λ l. AreCellParts c.len.result l parts) c.as_slice.ensures c.in_ok-part-items.ensures in
+    subst (λ l. AreCellParts c.len.result l parts) c.as_slice.ensures.cells c.in_ok-part-items.ensures in
     let part_is : c.in-Some.part.items ≡ cells_at code cells.cells =
     part_at c.len.result cells.cells parts divided code c.in-Some.part
     (omega (arith, turn.0, c.loop-part.invariant.count))
@@ -86,7 +86,7 @@ loop-part-preserved c =
     let code = c.loop-part.code in
     let cells = c.args.cells.now in
     let divided : AreCellParts c.len.result cells.cells parts =
-    subst (λ l. AreCellParts c.len.result l parts) c.as_slice.ensures c.in_ok-part-items.ensures in
+    subst (λ l. AreCellParts c.len.result l parts) c.as_slice.ensures.cells c.in_ok-part-items.ensures in
     let part_is : c.in-Some.part.items ≡ cells_at code cells.cells =
     part_at c.len.result cells.cells parts divided code c.in-Some.part
     (omega (arith, turn.0, c.loop-part.invariant.count))

@@ -18,7 +18,7 @@ nothing (cell ∷ cells) is =
 pub returns-then-is_empty-clause-ok : goal.returns-then-is_empty-clause-ok
 returns-then-is_empty-clause-ok c = λ rows represent own.
     let empty : c.args.cells.now.cells ≡ [] =
-    sym c.as_slice.ensures ∙ nothing c.as_slice.result.now (sym c.is_empty.ensures ∙ c.if-is_empty.true) in
+    sym c.as_slice.ensures.cells ∙ nothing c.as_slice.result.now (sym c.is_empty.ensures ∙ c.if-is_empty.true) in
     none_taken c.args.dims.now c.args.query.now c.args.own.now.texts c.args.folds.now.items rows
     (no_rows c.args.dims.now c.args.modes.now.texts c.args.cells.now.view rows c.args.cells.now.cells empty represent)
 

@@ -15,7 +15,7 @@ of-requires c =
     let own_are : c.in_ok-own.own.items ≡ kept (passes_at c.args.conditions.now texts) cells.cells =
     c.in_ok-own.ensures
     ∙ (λ i. filter (λ cell. get_or ((c.as_slice.ensures.value ∙ c.in_ok-choice.ensures) i) cell.key.ship_mode false)
-    (c.as_slice-2.ensures i)) in
+    (c.as_slice-2.ensures.cells i)) in
     subst (λ list. AreProperCells (cells_of c.view.result list)) (sym own_are)
     (subst (λ view. AreProperCells (cells_of view (kept (passes_at c.args.conditions.now texts) cells.cells)))
     (sym c.view.ensures.value)
@@ -31,7 +31,7 @@ returns-clause-represent c = λ dimensions rows grouped represent.
     let own_are : c.in_ok-own.own.items ≡ kept (passes_at c.args.conditions.now texts) cells.cells =
     c.in_ok-own.ensures
     ∙ (λ i. filter (λ cell. get_or ((c.as_slice.ensures.value ∙ c.in_ok-choice.ensures) i) cell.key.ship_mode false)
-    (c.as_slice-2.ensures i)) in
+    (c.as_slice-2.ensures.cells i)) in
     subst (RepresentRows dimensions texts (passing c.args.conditions.now rows))
     (sym (c.of.ensures ∙ (λ i. cells_of (c.view.ensures.value i) (own_are i))))
     (passing_represent dimensions c.args.conditions.now texts cells rows grouped c.view.ensures.proper represent)

@@ -1,7 +1,6 @@
-use Rattle.std.proofs.Common.{◌∙◌, sym, ap, ◌++◌, ◌∷◌, []}
-use Rattle.std.specs.Option.{option_map}
+use Rattle.std.proofs.Common.{◌∙◌, ap, ◌++◌, ◌∷◌, []}
 use Rattle.std.proofs.lemmas.Result.{err_from_is_err_and}
-use Rattle.partial_reports.proofs.FieldsLemmas.{all_members, next_member}
+use Rattle.partial_reports.proofs.FieldsLemmas.{next_member}
 use Rattle.ssb_reports.specs.Report.{member_text}
 use Rattle.partial_reports.proofs.fields.parse_key.Goals as goal
 

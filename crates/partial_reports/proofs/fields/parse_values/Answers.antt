@@ -1,7 +1,5 @@
-use Rattle.std.proofs.Common.{◌∙◌, sym, ap, ◌++◌, ◌∷◌, []}
-use Rattle.std.specs.Option.{option_map}
-use Rattle.std.proofs.lemmas.Result.{err_from_is_err_and}
-use Rattle.partial_reports.proofs.FieldsLemmas.{all_values, next_value}
+use Rattle.std.proofs.Common.{◌∙◌, ap, ◌++◌, ◌∷◌, []}
+use Rattle.partial_reports.proofs.FieldsLemmas.{next_value}
 use Rattle.ssb_reports.specs.Report.{value_text}
 use Rattle.partial_reports.proofs.fields.parse_values.Goals as goal
 

@@ -1,4 +1,4 @@
-use Rattle.std.proofs.Common.{◌≡◌, ◌∙◌, sym}
+use Rattle.std.proofs.Common.{◌∙◌, sym}
 use Rattle.std.proofs.lemmas.Result.{IfOk-weaker}
 use Rattle.partial_reports.proofs.MergingLemmas.{taken_equal, taken_greater, taken_less}
 use Rattle.partial_reports.proofs.merging.next_line.Goals as goal

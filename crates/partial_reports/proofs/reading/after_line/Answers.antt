@@ -1,4 +1,4 @@
-use Rattle.std.proofs.Common.{◌≡◌, ◌∙◌, sym, ap, ◌++◌, List, ℕ, rules, arith}
+use Rattle.std.proofs.Common.{◌≡◌, ◌∙◌, sym, ◌++◌, rules, arith}
 use Rattle.std.proofs.lemmas.Grind.{common_steps}
 use Rattle.std.proofs.lemmas.List.{append_cancel_left}
 use Rattle.partial_reports.specs.Readable.{IsReadableLine}

@@ -16,7 +16,7 @@ returns-in-Ok-clause-cells c =
     (sym c.in_ok-finish-in-Ok.ensures.ok) (record {
       view_is = c.in-Ok.ensures.view ∙ ap (λ (cells : PlainCells). cells.view) c.in_ok-cells.ensures.none;
       represent = subst (λ (rows : List LineOrder). RepresentRows c.args.dims.now c.args.modes.now.texts rows
-          (grown c.add_rows.new.self)) c.of-rows.ensures
+          (grown c.add_rows.new.self)) c.of-rows.ensures.rows
           (c.in-Ok.ensures.ok []
           (none_represent c.args.dims.now c.args.modes.now.texts c.args.view (grown c.in_ok-cells.cells)
           c.in_ok-cells.ensures.none));

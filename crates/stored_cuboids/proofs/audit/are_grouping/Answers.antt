@@ -15,8 +15,9 @@ returns-in-Ok-clause-answer g c = λ k w laid rooted same within.
     let view : c.in-Ok.own.view ≡ c.args.cells.now.view = c.in-Ok.ensures.view ∙ c.view.ensures.value in
     let grouping = is_grouping cells_are_the_one w.rows (ship_modes_of w)
     (all_rows (take c.args.mark w.batches)) c.in-Ok.own c.args.cells.now view (c.in-Ok.ensures.ok k w laid same) in (
-      λ is. grouping.0 (sym c.as_slice.ensures ∙ c.are_same.ensures.0 is ∙ c.as_slice-in-Ok.ensures),
-      λ represent. c.are_same.ensures.1 (c.as_slice.ensures ∙ grouping.1 represent ∙ sym c.as_slice-in-Ok.ensures),
+      λ is. grouping.0 (sym c.as_slice.ensures.cells ∙ c.are_same.ensures.0 is ∙ c.as_slice-in-Ok.ensures.cells),
+      λ represent. c.are_same.ensures.1 (c.as_slice.ensures.cells ∙ grouping.1 represent
+          ∙ sym c.as_slice-in-Ok.ensures.cells),
     )
 
 pub returns-in-Err-TooManyCells-clause-answer : goal.returns-in-Err-TooManyCells-clause-answer

@@ -16,7 +16,7 @@ returns-clause-ok c =
       represent =
           λ so_far represent. subst (λ (rows : List LineOrder).
           RepresentRows c.args.dims.now c.dictionary.result.now.texts (so_far ++ rows) (grown c.add_rows.new.self))
-          c.of-rows.ensures (more so_far represent);
+          c.of-rows.ensures.rows (more so_far represent);
     })) c.add_rows.ensures.ok
 
 pub returns-clause-refused : goal.returns-clause-refused
@@ -27,5 +27,5 @@ returns-clause-refused c =
     c.args.segment.now.rows fault) c.dictionary.ensures.texts
     (λ so_far represent. subst (λ (rows : List LineOrder).
     IsAddFault c.args.dims.now c.dictionary.result.now.texts (grown c.args.cells.now).view (so_far ++ rows) fault)
-    c.of-rows.ensures (why so_far represent)))
+    c.of-rows.ensures.rows (why so_far represent)))
     c.add_rows.ensures.refused

@@ -9,6 +9,6 @@ returns-clause-ok c =
     IfOk-weaker c.made.result _ _
     (λ next made. next_appended c.args.root.now c.args.cuboid c.args.tail.now c.args.span next _ _ _ made
     c.requires.view (omega (arith, c.requires.from, c.requires.some)) c.requires.to refl refl
-    refl (ap (λ (l : List Cell). c.args.cuboid.cells + length l) c.as_slice.ensures) c.run_id-id.ensures
+    refl (ap (λ (l : List Cell). c.args.cuboid.cells + length l) c.as_slice.ensures.cells) c.run_id-id.ensures
     c.new.ensures.items c.requires.from c.requires.runs c.requires.cells)
     c.made.ensures.ok

@@ -9,5 +9,5 @@ returns-clause-ok c =
     IfOk-weaker c.made.result _ _
     (λ next made. next_replaced c.args.root.now c.args.cuboid c.args.cells.now _ next _ _ _ made c.requires.view
     c.requires.above c.requires.to refl refl
-    refl (ap (λ (l : List Cell). length l) c.as_slice.ensures) c.run_id.ensures c.in_ok-drops.ensures.ok refl)
+    refl (ap (λ (l : List Cell). length l) c.as_slice.ensures.cells) c.run_id.ensures c.in_ok-drops.ensures.ok refl)
     c.made.ensures.ok

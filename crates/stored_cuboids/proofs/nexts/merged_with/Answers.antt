@@ -32,7 +32,7 @@ returns-in-Err-merge-clause-large g c is k w stored rows represents found said r
     subst (λ (v : View). HaveTooMany w.rows (ship_modes_of w) v all) (sym same)
     (large_of w.rows (ship_modes_of w) c.in-Ok.cells.view all c.in-Err-merge.fault (index_of c.args.tail.now.view) is
     (not_merged rows_in_range_fit w.rows (ship_modes_of w) c.in-Ok.cells c.args.tail.now
-    (all_rows (take c.args.cuboid.mark w.batches)) rows c.in-Err-merge.fault same c.view-proper.ensures.proper
+    (all_rows (take c.args.cuboid.mark w.batches)) rows c.in-Err-merge.fault same c.merge.ensures.before.0
     (c.in-Ok.ensures.grouping k w stored represents found said) represent c.in-Err-merge.ensures.refused))
 
 pub returns-in-Err-merge-clause-refused : goal.returns-in-Err-merge-clause-refused
@@ -42,5 +42,5 @@ returns-in-Err-merge-clause-refused g c is k w stored rows represents found said
     unfit_of w.rows (ship_modes_of w) c.in-Ok.cells.view (all_rows (take c.args.cuboid.mark w.batches) ++ rows)
     c.in-Err-merge.fault is
     (not_merged rows_in_range_fit w.rows (ship_modes_of w) c.in-Ok.cells c.args.tail.now
-    (all_rows (take c.args.cuboid.mark w.batches)) rows c.in-Err-merge.fault same c.view-proper.ensures.proper
+    (all_rows (take c.args.cuboid.mark w.batches)) rows c.in-Err-merge.fault same c.merge.ensures.before.0
     (c.in-Ok.ensures.grouping k w stored represents found said) represent c.in-Err-merge.ensures.refused) in_range few

@@ -13,7 +13,7 @@ returns-in-Err-BadLayout-clause-refused c =
     let cause = of_fault _ c.merge.result BadLayout c.merge.ensures.refused is in
     inr (
       refl,
-      no_merge c.args.cells.now c.args.read.now BadLayout c.view.ensures.proper c.view-2.ensures.proper cause
+      no_merge c.args.cells.now c.args.read.now BadLayout c.merge.ensures.before.0 c.merge.ensures.before.1 cause
           (λ (memory : BadLayout ≡ Memory). cc),
     )
 
@@ -24,6 +24,6 @@ returns-in-Err-TooManyCells-clause-refused c =
     let cause = of_fault _ c.merge.result (TooManyCells number) c.merge.ensures.refused is in
     inr (
       refl,
-      no_merge c.args.cells.now c.args.read.now (TooManyCells number) c.view.ensures.proper
-          c.view-2.ensures.proper cause (no_memory number),
+      no_merge c.args.cells.now c.args.read.now (TooManyCells number) c.merge.ensures.before.0
+          c.merge.ensures.before.1 cause (no_memory number),
     )

@@ -1,4 +1,4 @@
-use Rattle.std.proofs.Common.{◌≡◌, ◌+◌, ◌*◌, List, ℕ, drop, subst, sym}
+use Rattle.std.proofs.Common.{◌+◌, ◌*◌, List, ℕ, drop, subst, sym}
 use Rattle.std.specs.Option.{IsSomeAnd}
 use Rattle.std.proofs.lemmas.Result.{IfOk-weaker}
 use Rattle.cube_model.specs.declared.fault.Fault.TheVariants.{BadLayout}

@@ -5,7 +5,6 @@ use Rattle.warehouse_root.specs.Root as roots
 use Rattle.warehouse_root.proofs.CallerLemmas.{root_is_short}
 use Rattle.warehouse_objects.specs.Lawful.{beginning_puts}
 use Rattle.warehouse.proofs.CreationLemmas.{few_at_first, makes_store, puts_are, refuses_to_make}
-use Rattle.cube_model.proofs.LawsLemmas.{valid_rows_keep_the_rules}
 use Rattle.warehouse_objects.proofs.Contents.{beginning_is_put, dimensions_are_puts}
 use Rattle.warehouse.proofs.creation.make_store.Goals as goal
 
@@ -22,7 +21,7 @@ create-requires-clause-puts g c =
     (c.as_slice-3.ensures.value ∙ is.parts) (c.as_slice-4.ensures.value ∙ is.dates)
     (c.as_slice-5.ensures.value ∙ is.modes) in
     subst ArePuts (sym are) (beginning_is_put c.args.dims.now.value
-    (dimensions_are_puts valid_rows_keep_the_rules c.args.dims.now.value is.storable) c.args.layout)
+    (dimensions_are_puts c.args.dims.now.value is.storable) c.args.layout)
 
 pub create-requires-clause-root : goal.create-requires-clause-root
 create-requires-clause-root g c =

@@ -1,7 +1,6 @@
 use Rattle.warehouse.proofs.LawsLemmas.{fewer_not_found}
-use Rattle.cube_model.proofs.LawsLemmas.{valid_rows_keep_the_rules}
 use Rattle.warehouse_objects.proofs.OneWarehouse.{one_warehouse}
 use Rattle.warehouse.proofs.laws.fewer_is_not_found.Goals as goal
 
 pub returns : goal.returns
-returns g c = fewer_not_found g.D.Sectors (one_warehouse valid_rows_keep_the_rules)
+returns g c = fewer_not_found g.D.Sectors one_warehouse

@@ -3,7 +3,7 @@ use Rattle.cube_model.specs.declared.rows.DimRows.{DimRows}
 use Rattle.object_store.specs.Content.{Content}
 use Rattle.warehouse_root.specs.declared.layout.Layout.{Layout}
 use Rattle.warehouse_objects.specs.Represents.{HasModes, HasRows}
-use Rattle.warehouse_objects.specs.Warehouse.{AreStorable}
+use Rattle.dimensions.specs.Shown.{AreStorable}
 use Rattle.object_store.specs.Store as stores
 use Rattle.warehouse_objects.proofs.OneMoreRead.{then_reads}
 use Rattle.object_store.proofs.CallerLemmas.{leaves_now}

@@ -6,7 +6,8 @@ use Rattle.warehouse.proofs.Refusing.{addition_apart}
 use Rattle.warehouse.proofs.widening.widen.Goals as goal
 
 pub returns-in-Ok-clause-ok : goal.returns-in-Ok-clause-ok
-returns-in-Ok-clause-ok c = IfOk-weaker c.of.result _ _ (λ wider widens. widens c.args.dims.now c.in-Ok.ensures.ok)
+returns-in-Ok-clause-ok c =
+    IfOk-weaker c.of.result _ _ (λ wider widens. widens c.args.dims.now c.in-Ok.ensures.ok c.in-Ok.ensures.storable)
     c.of.ensures.ok
 
 pub returns-in-Err-clause-err : goal.returns-in-Err-clause-err

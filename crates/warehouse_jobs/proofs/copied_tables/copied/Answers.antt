@@ -22,4 +22,4 @@ returns-clause-memory c =
     let empty = c.no_rows-none.ensures in
     IfErr-weaker c.with_rows.result _ _
     (λ fault why. only_memory c.no_rows-none.result empty.customers empty.suppliers empty.parts empty.dates
-    c.args.dims.now fault c.row_count-rows.ensures.valid why) c.with_rows.ensures.err
+    c.args.dims.now fault c.with_rows.ensures.own.valid why) c.with_rows.ensures.err

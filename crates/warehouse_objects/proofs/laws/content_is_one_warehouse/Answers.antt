@@ -1,6 +1,5 @@
 use Rattle.warehouse_objects.proofs.OneWarehouse.{one_warehouse}
-use Rattle.cube_model.proofs.LawsLemmas.{valid_rows_keep_the_rules}
 use Rattle.warehouse_objects.proofs.laws.content_is_one_warehouse.Goals as goal
 
 pub returns : goal.returns
-returns c = one_warehouse valid_rows_keep_the_rules
+returns c = one_warehouse

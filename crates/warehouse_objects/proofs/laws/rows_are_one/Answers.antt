@@ -1,6 +1,5 @@
 use Rattle.warehouse_objects.proofs.Contents.{rows_one}
-use Rattle.cube_model.proofs.LawsLemmas.{valid_rows_keep_the_rules}
 use Rattle.warehouse_objects.proofs.laws.rows_are_one.Goals as goal
 
 pub returns : goal.returns
-returns c = rows_one valid_rows_keep_the_rules
+returns c = rows_one

@@ -6,7 +6,6 @@ use Rattle.object_store.specs.Store.{content_of}
 use Rattle.warehouse_objects.proofs.ReadingLemmas.{first_two_there, rows_found, rows_refused, rows_there}
 use Rattle.warehouse_objects.proofs.Folded.{err_fault}
 use Rattle.warehouse_objects.proofs.OneMoreRead.{then_reads}
-use Rattle.cube_model.proofs.LawsLemmas.{valid_rows_keep_the_rules}
 use Rattle.warehouse_objects.proofs.Contents.{rows_one}
 use Rattle.warehouse_objects.proofs.reading.read_dims.Goals as goal
 
@@ -41,7 +40,7 @@ returns-clause-found g c =
       two.1
           ∙ ap (λ (l : List ℕ). Some l) (sym c.deref-2.ensures.value),
     ))
-    (rows_one valid_rows_keep_the_rules) c.read_others.result c.read_others.ensures.ok c.read_others.ensures.storable
+    rows_one c.read_others.result c.read_others.ensures.ok c.read_others.ensures.storable
 
 pub returns-clause-refused : goal.returns-clause-refused
 returns-clause-refused g c is =

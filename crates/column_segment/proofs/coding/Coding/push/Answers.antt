@@ -16,5 +16,6 @@ returns-clause-ok c =
     let adds = subst (λ code. Adds texts text code c.add.new.self) c.in-Some.is c.in_ok-code.ensures.ok in
     on_ok_weaker c.put_code.result
     (λ put column are. coded_more column text texts c.add.new.self (flat_map (λ code. code) codes)
-    (flat_map (λ code. code) more) c.in-Some.code are adds (flat_more codes more (spelling 2 c.in-Some.code) put))
+    (flat_map (λ code. code) more) c.in-Some.code are adds c.in_ok-code.ensures.few
+    (flat_more codes more (spelling 2 c.in-Some.code) put))
     c.put_code.ensures.ok

@@ -1,6 +1,5 @@
 use Rattle.std.proofs.Common.{◌≤◌, length, sym, ap, subst, ◌∙◌}
 use Rattle.cube_model.specs.Limits.{most_batch_rows}
-use Rattle.column_segment.specs.Projected.{BytesHaveFigures}
 use Rattle.column_segment.proofs.Values.{rows_many}
 use Rattle.column_segment.proofs.fact_columns.FactColumns.len.Goals as goal
 
@@ -11,6 +10,3 @@ pub returns-clause-few : goal.returns-clause-few
 returns-clause-few c =
     subst (λ n. n ≤ most_batch_rows) (sym (rows_many c.self.inside.bytes.now c.self.inside.layout.now)
     ∙ ap length c.self.view_is) c.self.invariant.few
-
-pub returns-clause-figures : goal.returns-clause-figures
-returns-clause-figures c = subst BytesHaveFigures c.self.view_is c.figures_are_bytes.ensures

@@ -1,8 +1,11 @@
-use Rattle.std.proofs.Common.{List, map, ap, ◌∙◌}
+use Rattle.std.proofs.Common.{List, map, ap, subst, ◌∙◌}
 use Rattle.std.proofs.lemmas.Result.{IfOk-weaker}
 use Rattle.cube_model.specs.declared.rows.LineOrder.{LineOrder}
 use Rattle.column_kernels.specs.Masks.{lies_in}
+use Rattle.column_segment.specs.Projected.{HaveSmallFigures}
+use Rattle.column_segment.specs.declared.columns.ByteColumn.TheVariants.{Discount, Quantity}
 use Rattle.column_segment.proofs.Totals.{marks_are}
+use Rattle.column_segment.proofs.Values.{read_fit}
 use Rattle.column_segment.proofs.fact_columns.FactColumns.mask.Goals as goal
 
 pub returns-clause-ok : goal.returns-clause-ok
@@ -16,3 +19,14 @@ returns-clause-ok c =
     ∙ ap (λ (rows : List LineOrder). map
     (λ (row : LineOrder). lies_in c.args.quantity c.args.discount row.quantity row.discount) rows) c.self.view_is)
     c.of_ranges.ensures.ok
+
+pub returns-clause-figures : goal.returns-clause-figures
+returns-clause-figures c =
+    let bytes = c.self.inside.bytes.now in
+    let layout = c.self.inside.layout.now in
+    subst HaveSmallFigures c.self.view_is (record {
+      quantities = read_fit bytes layout c.self.invariant.room Quantity c.byte_part-quantities.result.now
+          c.byte_part-quantities.ensures.value c.byte_part-quantities.ensures.fit;
+      discounts = read_fit bytes layout c.self.invariant.room Discount c.byte_part-discounts.result.now
+          c.byte_part-discounts.ensures.value c.byte_part-discounts.ensures.fit;
+    })

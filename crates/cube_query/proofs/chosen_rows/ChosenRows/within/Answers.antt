@@ -10,5 +10,5 @@ invariant_of-result c =
 
 pub returns-clause-ok : goal.returns-clause-ok
 returns-clause-ok c =
-    chosen_keep c.args.bounds c.args.batch _ _ _ c.len.ensures.figures c.of.ensures c.in_ok-mask.ensures.ok
+    chosen_keep c.args.bounds c.args.batch _ _ _ c.mask.ensures.figures c.of.ensures c.in_ok-mask.ensures.ok
     c.in_ok-places.ensures

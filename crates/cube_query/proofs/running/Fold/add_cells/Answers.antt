@@ -92,7 +92,7 @@ returns c =
             represents_merged dims inside.plan over inside.slots inside.columns.items c.self.invariant
             c.columns_with_cells.new.slots c.columns_with_cells.ensures.cover c.columns_with_cells.ensures.grow modes
             plain merged are
-            c.one_key_one_group.ensures serves rows represent so_far
+            c.columns_with_cells.ensures.storable serves rows represent so_far
             (subst (λ (state : FoldState). RepresentsRows dims state so_far) (sym c.self.view_is) represents);
       };
       err = tt;

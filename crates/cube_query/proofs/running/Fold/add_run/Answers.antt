@@ -74,7 +74,7 @@ returns-clause-ok g c =
           (sym (written inside.columns.len c.with_run.new.columns inside.columns.items many))
           (represents_wanted dims inside.plan over inside.slots inside.columns.items c.self.invariant new
           c.with_run.ensures.cover c.with_run.ensures.grow modes (cells_of view cells) c.with_run.new.columns are
-          c.one_key_one_group.ensures serves rows represent so_far
+          c.with_run.ensures.storable serves rows represent so_far
           (subst (λ (state : FoldState). RepresentsRows dims state so_far) (sym c.self.view_is) represents));
     }) c.with_run.ensures.merged
 

@@ -19,12 +19,12 @@ returns c =
           c.add_batch.ensures.err;
       ok = on_ok_weaker c.add_batch.result
           (λ takes counted same.
-          subst (λ (all : List LineOrder). Takes dims old all new) (c.columns.ensures ∙ sym same) takes)
+          subst (λ (all : List LineOrder). Takes dims old all new) (c.columns.ensures.rows ∙ sym same) takes)
           c.add_batch.ensures.ok;
       err = c.add_batch.ensures.err;
       refused = λ bad counted same can.
           c.add_batch.ensures.refused bad counted
-          (subst (λ (all : List LineOrder). AreSame asks all counted) (sym c.columns.ensures)
+          (subst (λ (all : List LineOrder). AreSame asks all counted) (sym c.columns.ensures.rows)
           (subst (λ (all : List LineOrder). AreSame asks rows all) (sym same) (same_self asks rows))) can;
       only = c.add_batch.ensures.only;
     }

@@ -16,12 +16,12 @@ invariant_of-result c =
           (omega arith) ∙ sym c.hold-within.ensures.value;
       by_customer =
           subst (λ (dims : DimRows). AreParts dims plan.query Customer c.args.view.customer c.in_ok-customers.customers)
-          is c.in_ok-customers.ensures;
+          is c.in_ok-customers.ensures.parts;
       by_supplier =
           subst (λ (dims : DimRows). AreParts dims plan.query Supplier c.args.view.supplier c.in_ok-suppliers.suppliers)
-          is c.in_ok-suppliers.ensures;
+          is c.in_ok-suppliers.ensures.parts;
       by_part = subst (λ (dims : DimRows). AreParts dims plan.query Part c.args.view.part c.in_ok-parts.parts) is
-          c.in_ok-parts.ensures;
+          c.in_ok-parts.ensures.parts;
       by_date = subst (λ (dims : DimRows). AreParts dims plan.query Date c.args.view.date c.in_ok-dates.dates) is
-          c.in_ok-dates.ensures;
+          c.in_ok-dates.ensures.parts;
     }

@@ -1,5 +1,5 @@
-use Rattle.std.proofs.Common.{◌≡◌, ◌<◌, ◌≤◌, ◌+◌, ◌==◌, ◌∙◌, ◌++◌, ◌∷◌, [], ℕ, sym, ap, arith, false, length, OnOk}
-use Rattle.std.proofs.Common.{codes}
+use Rattle.std.proofs.Common.{◌≡◌, ◌<◌, ◌≤◌, ◌+◌, ◌==◌, ◌∙◌, ◌++◌, ◌∷◌, [], ℕ, sym, ap, arith, false, length, OnOk, ◌^◌}
+use Rattle.std.proofs.Common.{codes, subst}
 use Rattle.std.specs.List.{position_or_len}
 use Rattle.std.specs.Str.{bytes_eq}
 use Rattle.std.proofs.lemmas.Result.{on_ok_weaker}
@@ -87,4 +87,5 @@ returns g c = λ rows is.
     omega (arith, c.in_ok-enter.ensures.count, c.enter.new.self.columns.ok.0, c.args.self.now.columns.ok.0) in
     adds_or_fails c.args.axis rows c.args.self.now row is new (c.len-place.result + 1)
     (ap (λ m. m + 1) c.len-place.ensures) fresh unnamed c.number.new.codes c.if-not-number.ensures.room
-    c.push.result keys count (λ i lt. enters i (omega (arith, lt, c.args.self.now.columns.ok.0))) c.push.ensures.memory
+    (subst (λ (k : ℕ). k < 2 ^ 32) c.key-2.ensures c.key-2.type_inv) c.push.result keys count
+    (λ i lt. enters i (omega (arith, lt, c.args.self.now.columns.ok.0))) c.push.ensures.memory

@@ -1,8 +1,10 @@
 use Rattle.std.proofs.Common.{◌≡◌, ◌∙◌, sym, ap, refl, subst, inr, true≢false, ℕ, List, Option, Some, None, MatchOption}
+use Rattle.std.proofs.Common.{◌^◌, ◌<◌}
 use Rattle.dimensions.specs.Coded.{KeysAreDistinct}
 use Rattle.dimensions.specs.Dimensions.{columns_from}
 use Rattle.dimensions.proofs.MadeLaws.{made, refused_columns, refused_keys}
 use Rattle.dimensions.proofs.dimension.Dimension.of_coded.Goals as goal
+use Rattle.std.specs.List.{AllByRecursion}
 
 absent : (A : Type 0) (B : List ℕ → Type 0) (o : Option (List ℕ)) → o ≡ None → MatchOption o A B → A
 absent A B None e found = found
@@ -39,6 +41,8 @@ returns c =
     c.in_ok-keys.field-0 c.in-Some.keys c.in-Some.is c.in_ok-keys.ensures.ok in
     made c.args.axis c.args.coded c.requires (c.has_proper_columns.ensures.0 c.if-not-has_proper_columns.false)
     (subst KeysAreDistinct (c.into_vec.ensures ∙ c.into_parts-keys.ensures.keys) found.1)
+    (subst (AllByRecursion (λ key. key < 2 ^ 32)) (c.into_vec.ensures ∙ c.into_parts-keys.ensures.keys)
+    c.in_ok-keys.ensures.fit)
     (record { keys = c.in-Some.keys; columns = c.in_ok-columns.columns })
     (found.0 ∙ c.into_vec.ensures ∙ c.into_parts-keys.ensures.keys)
     (c.in_ok-columns.ensures.ok

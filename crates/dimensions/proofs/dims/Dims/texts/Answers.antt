@@ -34,4 +34,4 @@ returns-clause-short c =
     subst (λ texts. AreShort texts.texts) (sym (c.texts.ensures ∙ ap (λ column. column.texts) read))
     (column_short c.args.axis (rows_on c.args.self.now c.args.axis) c.dimension.result.now
     c.dimension.ensures.are.stores c.args.column c.requires
-    (short_on c.args.self.now c.args.axis c.dimension.ensures.short))
+    (short_on c.args.self.now c.args.axis c.dimension.ensures.storable.short))

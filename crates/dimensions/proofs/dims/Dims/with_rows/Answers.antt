@@ -11,7 +11,7 @@ use Rattle.dimensions.specs.TextRows.{row_of_customer, row_of_supplier, row_of_p
 use Rattle.dimensions.proofs.DimsLemmas.{added_customers, added_suppliers, added_parts, added_dates, extends_err}
 use Rattle.dimensions.proofs.DimsLemmas.{extends_ok, joined_short, passes_valid, keep_codes}
 use Rattle.dimensions.proofs.MadeLaws.{days_of}
-use Rattle.dimensions.proofs.ShownLaws.{accepted, few_days, shown_is, are_dimensions}
+use Rattle.dimensions.proofs.ShownLaws.{accepted, few_days, shown_is, are_dimensions, keys_fit}
 use Rattle.dimensions.proofs.dims.Dims.with_rows.Goals as goal
 
 pub with_rows-requires-clause-sound : goal.with_rows-requires-clause-sound
@@ -192,8 +192,8 @@ returns-clause-ok c =
     shown_is (joined old c.args.rows.now) c.in_ok-customers.customers c.in_ok-suppliers.suppliers c.in_ok-parts.parts
     c.in_ok-dates.dates customers.0 suppliers.0 parts.0 dates.0
 
-pub returns-clause-valid : goal.returns-clause-valid
-returns-clause-valid c =
+pub returns-clause-storable : goal.returns-clause-storable
+returns-clause-storable c =
     let old : DimRows = c.args.self.now in
     let are : AreDimensions old c.self.inside.customers c.self.inside.suppliers c.self.inside.parts c.self.inside.dates
     c.self.inside.days =
@@ -211,7 +211,12 @@ returns-clause-valid c =
     (ap (map row_of_part) c.as_slice-3.ensures) are.valid are.parts_are c.in_ok-parts.parts c.in_ok-parts.ensures in
     let dates = extends_ok old c.args.rows.now Date c.self.inside.dates (map row_of_date c.as_slice-4.result.now)
     (ap (map row_of_date) c.as_slice-4.ensures) are.valid are.dates_are c.in_ok-dates.dates c.in_ok-dates.ensures in
-    accepted (joined old c.args.rows.now) customers.1 suppliers.1 parts.1 dates.1
+    record {
+      valid = accepted (joined old c.args.rows.now) customers.1 suppliers.1 parts.1 dates.1;
+      short = joined_short old c.args.rows.now are.short c.requires.short;
+      keys = keys_fit (joined old c.args.rows.now) c.in_ok-customers.customers c.in_ok-suppliers.suppliers
+          c.in_ok-parts.parts c.in_ok-dates.dates customers.0 suppliers.0 parts.0 dates.0;
+    }
 
 pub returns-clause-codes : goal.returns-clause-codes
 returns-clause-codes c =

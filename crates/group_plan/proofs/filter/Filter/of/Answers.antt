@@ -5,8 +5,7 @@ use Rattle.group_plan.specs.Plans.{IsShut, gives}
 use Rattle.group_plan.specs.declared.filter.Filter.{Filter}
 use Rattle.group_plan.proofs.Filtering.{OnlyShuts, filter_shuts, nothing_given, shuts_none}
 use Rattle.group_plan.proofs.Keys.{own_row, row_total}
-use Rattle.group_plan.proofs.OneKind.{good_on}
-use Rattle.cube_model.proofs.LawsLemmas.{valid_rows_keep_the_rules}
+use Rattle.dimensions.proofs.CallerLemmas.{good_on}
 use Rattle.group_plan.proofs.filter.Filter.of.Goals as goal
 
 pub at-kind-requires : goal.at-kind-requires
@@ -29,7 +28,7 @@ loop-row-preserved c = λ k e.
     let first = c.span_of-first.result.0 in
     let total = row_total dims axis keys c.keys-keys.ensures.keys in
     let within : row < row_count_of dims axis = omega (arith, c.loop-row-test.true, total) in
-    let good = good_on dims valid_rows_keep_the_rules c.row_count.ensures.valid c.row_count.ensures.short
+    let good = good_on dims c.keys-keys.ensures.storable
     axis in
     elim (c.mark.ensures k e) [
       | inl here ↦

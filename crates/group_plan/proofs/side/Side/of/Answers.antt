@@ -2,7 +2,6 @@ use Rattle.std.proofs.Common.{◌∙◌, ap, map, sym}
 use Rattle.group_plan.specs.Parts.{given_at}
 use Rattle.group_plan.proofs.OneKind.{kinds_give}
 use Rattle.group_plan.proofs.Outcomes.{given_unused}
-use Rattle.cube_model.proofs.LawsLemmas.{valid_rows_keep_the_rules}
 use Rattle.group_plan.proofs.side.Side.of.Goals as goal
 
 pub returns-then-not-is_used-clause-side : goal.returns-then-not-is_used-clause-side
@@ -12,16 +11,16 @@ returns-then-not-is_used-clause-side c =
 
 pub returns-then-count-le-NARROW-clause-side : goal.returns-then-count-le-NARROW-clause-side
 returns-then-count-le-NARROW-clause-side c =
-    kinds_give c.args.dims.now valid_rows_keep_the_rules c.row_count.ensures.valid c.row_count.ensures.short
+    kinds_give c.args.dims.now c.in_ok-places.ensures.storable
     c.args.query.now c.args.axis
-    c.in_ok-places.places.items c.in_ok-narrow_parts.field-0.items c.in_ok-places.ensures
+    c.in_ok-places.places.items c.in_ok-narrow_parts.field-0.items c.in_ok-places.ensures.places
     (c.in_ok-narrow_parts.ensures
     ∙ ap (map (given_at c.args.dims.now c.args.query.now c.args.axis)) c.deref.ensures.value)
 
 pub returns-clause-side : goal.returns-clause-side
 returns-clause-side c =
-    kinds_give c.args.dims.now valid_rows_keep_the_rules c.row_count.ensures.valid c.row_count.ensures.short
+    kinds_give c.args.dims.now c.in_ok-places.ensures.storable
     c.args.query.now c.args.axis
-    c.in_ok-places.places.items c.in_ok-wide_parts.field-0.items c.in_ok-places.ensures
+    c.in_ok-places.places.items c.in_ok-wide_parts.field-0.items c.in_ok-places.ensures.places
     (c.in_ok-wide_parts.ensures
     ∙ ap (map (given_at c.args.dims.now c.args.query.now c.args.axis)) c.deref-else-count-le-NARROW.ensures.value)

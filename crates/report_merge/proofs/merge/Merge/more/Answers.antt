@@ -36,7 +36,7 @@ returns-in_err-check_alike-clause-refused c =
       };
     } in
     let digest : IsDigest read.digest =
-    record { size = c.check_digest.ensures.size; bytes = c.check_digest.ensures.bytes } in
+    c.in_ok-read.ensures.digest in
     let begins : BeginsWith c.args.text.now read.head read.digest =
     record {
       proper = c.in_ok-read.ensures.proper;
@@ -64,7 +64,7 @@ returns-in_err-numbers-clause-refused c =
       };
     } in
     let digest : IsDigest read.digest =
-    record { size = c.check_digest.ensures.size; bytes = c.check_digest.ensures.bytes } in
+    c.in_ok-read.ensures.digest in
     let begins : BeginsWith c.args.text.now read.head read.digest =
     record {
       proper = c.in_ok-read.ensures.proper;

@@ -8,7 +8,8 @@ use Rattle.ssb_reports.specs.Report.{report_of}
 use Rattle.report_merge.specs.Merging.{SpellsWords}
 use Rattle.report_merge.specs.Refusals.{WordsRefuse, refused_of}
 use Rattle.report_merge.proofs.Grown.{first_kept, first_report}
-use Rattle.report_merge.proofs.Refusing.{answer_read, new_unread, new_words, words_memory, partial_reports_are_of_one_part}
+use Rattle.report_merge.proofs.Refusing.{answer_read, new_unread, new_words, words_memory}
+use Rattle.report_merge.proofs.Refusing.{partial_reports_are_of_one_part}
 use Rattle.report_merge.proofs.merge.Merge.new.Goals as goal
 
 pub returns-in_err-head-clause-complete : goal.returns-in_err-head-clause-complete
@@ -80,7 +81,7 @@ pub invariant_of-result : goal.invariant_of-result
 invariant_of-result c =
     let read = c.in_ok-head.field-0 in
     let digest : IsDigest read.digest =
-    record { size = c.check_digest.ensures.size; bytes = c.check_digest.ensures.bytes } in
+    c.in_ok-head.ensures.digest in
     first_kept read.head read.digest c.in_ok-query.query c.in_ok-query.partial read.report.now c.in_ok-answer.answer
     c.in_ok-lines.lines.items
     c.in_ok-head.ensures.proper digest
@@ -96,7 +97,7 @@ pub returns-clause-ok : goal.returns-clause-ok
 returns-clause-ok c =
     let read = c.in_ok-head.field-0 in
     let digest : IsDigest read.digest =
-    record { size = c.check_digest.ensures.size; bytes = c.check_digest.ensures.bytes } in
+    c.in_ok-head.ensures.digest in
     first_report c.args.text.now read.head read.digest c.in_ok-query.query c.in_ok-query.partial read.report.now
     c.in_ok-answer.answer c.in_ok-lines.lines.items
     c.in_ok-head.ensures.text c.in_ok-head.ensures.proper digest
@@ -112,7 +113,7 @@ pub returns-clause-complete : goal.returns-clause-complete
 returns-clause-complete c = λ part is.
     let read = c.in_ok-head.field-0 in
     let digest : IsDigest read.digest =
-    record { size = c.check_digest.ensures.size; bytes = c.check_digest.ensures.bytes } in
+    c.in_ok-head.ensures.digest in
     partial_reports_are_of_one_part c.args.text.now _ part
     (first_report c.args.text.now read.head read.digest c.in_ok-query.query c.in_ok-query.partial read.report.now
     c.in_ok-answer.answer c.in_ok-lines.lines.items

@@ -1,5 +1,4 @@
-use Rattle.std.proofs.Common.{◌≡◌, ◌≤◌, ⊎_elim, inl, inr, Some, None, length, is_some, sym, ◌∙◌, ap, arith}
-use Rattle.cube_model.specs.Limits.{most_batch_rows}
+use Rattle.std.proofs.Common.{◌≡◌, ⊎_elim, inl, inr, Some, None, length, is_some, sym, ◌∙◌, ap, arith}
 use Rattle.cube_model.specs.ShipModes.{modes_in}
 use Rattle.batch_admission.specs.Found.{Found}
 use Rattle.warehouse.specs.Refusing.{is_of_device}
@@ -13,17 +12,15 @@ with_batch-requires-clause-few c =
     let many = ap (λ (f : Found). f.row_count) grown.found in
     few_codes c.requires.grown.2 c.ship_modes.result.0.now.texts c.ship_modes.result.1.now
     (c.ship_modes.ensures c.requires.grown.2 (grown.columns c.requires.short))
-    (omega (arith, many, c.row_count-rows.ensures.count, c.row_count-rows.ensures.few))
+    (omega (arith, many, c.requires.few))
 
 pub with_batch-requires-clause-short : goal.with_batch-requires-clause-short
 with_batch-requires-clause-short c =
     let grown = c.requires.grown.3 in
-    let few : c.args.self.now.found.row_count ≤ most_batch_rows =
-    omega (arith, c.row_count-rows.ensures.count, c.row_count-rows.ensures.few) in
     short_codes c.requires.grown.2 c.ship_modes.result.0.now.texts c.ship_modes.result.1.now
     (c.ship_modes.ensures c.requires.grown.2 (grown.columns c.requires.short))
     (grown-batch c.requires.grown.0 c.requires.grown.1 c.requires.grown.2 c.args.self.now grown
-    (ap is_some c.requires.short) few)
+    (ap is_some c.requires.short) c.requires.few)
 
 pub returns-in-Err-clause-model : goal.returns-in-Err-clause-model
 returns-in-Err-clause-model c = λ dimensions root earlier rows grown modes_are.

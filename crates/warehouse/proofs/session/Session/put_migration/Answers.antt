@@ -9,7 +9,8 @@ use Rattle.warehouse_objects.specs.Loaded.{IsLoaded}
 use Rattle.warehouse_objects.specs.Represents.{Represents}
 use Rattle.warehouse_objects.specs.Warehouse.{migrated}
 use Rattle.warehouse.specs.Session.{is_at}
-use Rattle.warehouse.proofs.SessionLemmas.{can_migrate, few_moved, loaded_moved, migration_is_put, moved_leaves, moved_causes}
+use Rattle.warehouse.proofs.SessionLemmas.{can_migrate, few_moved, loaded_moved, migration_is_put, moved_leaves}
+use Rattle.warehouse.proofs.SessionLemmas.{moved_causes}
 use Rattle.warehouse.proofs.SessionLemmas.{leaves_at}
 use Rattle.warehouse.proofs.SessionLemmas.{represents_moved}
 use Rattle.warehouse.proofs.Represented.{as_before_at, as_before_leaves, session_at, store_at}

@@ -11,7 +11,8 @@ invariant_of-result c =
     let are = c.self.invariant.0 in
     let limit : c.add_modes.new.known.limit ≡ most_members =
     c.add_modes.ensures.limit ∙ ap (λ (t : Texts). t.limit) c.in_ok-texts.ensures.ok ∙ c.self.invariant.1 in
-    let few : length c.add_modes.new.known.texts ≤ most_members = omega (arith, c.len-few.ensures.within, limit) in
+    let few : length c.add_modes.new.known.texts ≤ most_members = c.add_modes.ensures.few
+    (omega (arith, are.proper.most, ap (λ (t : Texts). length t.texts) c.in_ok-texts.ensures.ok)) in
     let same = ap (λ (t : Texts). t.texts) c.in_ok-texts.ensures.ok ∙ sym (firsts-once known are.proper.each_once) in (
       modes_after known (texts_by c.args.modes.now.texts c.args.codes.now) c.add_modes.new.known.texts are
           c.requires.short (sym c.in_default.is ∙ c.reserved_row.ensures)
