@@ -23,7 +23,6 @@ use Rattle.report_merge.specs.Merging.{AddsPart, IsMerged, IsPartialReport, Merg
 use Rattle.report_merge.specs.Merging.{IsMergedPart}
 use Rattle.report_merge.proofs.Given.{one_query}
 use Rattle.std.specs.List.{Contains}
-use Rattle.std.specs.List.Sorted.{IsPermutation}
 use Rattle.std.proofs.lemmas.List.Elements.{Contains-append_cases, Contains-append_left, Contains-append_right}
 use Rattle.std.proofs.lemmas.List.Sorted.{Contains-permutation, IsPermutation-sym}
 use Rattle.cube_model.specs.declared.answer.Answer.{Answer}

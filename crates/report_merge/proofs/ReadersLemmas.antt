@@ -3,7 +3,7 @@ use Rattle.std.proofs.Common.{◌≡◌, ◌∙◌, sym, ap, refl, subst, ℕ, �
 use Rattle.std.proofs.Common.{arith}
 use Rattle.std.specs.List.{remove}
 use Rattle.report_merge.specs.declared.refused.Refused.{Refused}
-use Rattle.report_merge.specs.declared.refused.Refused.TheVariants.{Memory, Input}
+use Rattle.report_merge.specs.declared.refused.Refused.TheVariants.{Memory}
 use Rattle.report_merge.specs.Lawful.{PartialReportsAreOfOnePart}
 use Rattle.report_merge.specs.Mergeable.{CanAdd, CanMerge, IsOutside}
 use Rattle.report_merge.proofs.Refusing.{add_whole}
@@ -99,6 +99,3 @@ can_next one text others texts start next are can adds =
 -- what is refused for memory is from outside
 pub outside : (refused : Refused) → refused ≡ Memory → IsOutside refused
 outside refused e = subst IsOutside (sym e) tt
-
-pub outside_input : (refused : Refused) → refused ≡ Input → IsOutside refused
-outside_input refused e = subst IsOutside (sym e) tt

@@ -1,6 +1,5 @@
 //! Partial reports from readers.
 ghost use Rattle.std.specs.Prelude.{◌≡◌, ℕ, List, Some, map, IfErr, IfOk};
-ghost use Rattle.report_merge.specs.declared.refused.Refused.TheVariants.{Input};
 ghost use Rattle.report_merge.specs.Mergeable.{CanAdd, CanMerge, IsOutside};
 ghost use Rattle.report_merge.specs.Merging.{AddsPart, AreOfOne, IsMerged, IsPartialReport, MergesTexts, Part};
 ghost use Rattle.report_merge.specs.Refusals.{AreDisjoint};
@@ -8,7 +7,7 @@ ghost use Rattle.report_merge.specs.Refusals.{AreDisjoint};
 use crate::merge::Merge;
 use crate::refused::{Refused, Unmerged};
 use std::alloc::Global;
-use std::io::Read;
+use std::io::{ErrorKind, Read};
 
 /// Reads partial reports, one after the other, each to its end, and merges them.
 ///
@@ -76,12 +75,13 @@ fn add_one<R: Read + Drop>(alloc: Global, merge: Merge, reader: R) -> Result<Mer
 // What a reader has left.
 fn text_of<R: Read + Drop>(alloc: Global, reader: R) -> Result<Vec<u8>, Refused>
     ensures ok { IfOk result (λ text. (bytes : List ℕ) → R.remaining reader ≡ Some bytes → text.items ≡ bytes) }
-    ensures only { IfErr result (λ refused. refused ≡ Input) }
+    ensures only { IfErr result IsOutside }
 {
     let mut reader = reader;
     let mut text = Vec::new(alloc);
     match reader.read_to_end(&mut text) {
         Ok(_) => Ok(text),
+        Err(error) if error.kind() == ErrorKind::OutOfMemory => Err(Refused::Memory),
         Err(_) => Err(Refused::Input),
     }
 }
