@@ -7,8 +7,9 @@ LIBRARY is refuse.c as a shared library. A command is run once to count its allo
 them: with that one refused, and with that one and all later ones refused. EVERY 10 tries each tenth one.
 
 Each time the command has to end as without a refusal, or with status 1 and `fault 1 Memory` or `fault 2 Device`, having printed
-a beginning of what it prints otherwise. Then the same command with memory has to succeed (a `create` that was refused after its commit
-says that there is a warehouse), and lead to the same warehouse: the same status, the same thirteen reports, and audit says yes.
+a beginning of what it prints otherwise. A command that reads no warehouse says nothing after that line. Then the same command with
+memory has to succeed (a `create` that was refused after its commit says that there is a warehouse), and lead to the same warehouse: the
+same status, the same thirteen reports, and audit says yes.
 """
 import os
 import shutil
@@ -100,9 +101,9 @@ class Campaign:
                 self.refusals += 1
                 done = self.refusing(words, **{which: number})
                 self.refused += done.status != 0
-                said = done.status == 1 and done.first_note in FAULTS and plain.out.startswith(done.out)
+                said = done.status == 1 and done.notes.rstrip("\n") in FAULTS and plain.out.startswith(done.out)
                 if not said and (done.status, done.out) != (0, plain.out):
-                    self.complain(f"{words[0]}, {which}={number}: status {done.status}, {done.first_note!r}, {done.out[:80]!r} printed")
+                    self.complain(f"{words[0]}, {which}={number}: status {done.status}, {done.notes!r}, {done.out[:80]!r} printed")
         if Run(words).out != plain.out:
             self.complain(f"{words[0]}: with memory it prints another report")
         print(f"{words[0]} of files: {allocations} allocations, {self.refused - refused} refusals were said", flush=True)

@@ -13,23 +13,33 @@ pub fn unmerged_hint(
 ) -> Option<String> {
     let path = shown(paths.get(place)?);
     let first = shown(paths.first()?);
-    hint_of(alloc, path, first, refused).ok()
+    hint_of(alloc, path, first, refused).ok()?
 }
 
-fn hint_of(alloc: Global, path: &str, first: &str, refused: Refused) -> Result<String, AllocError> {
-    match refused {
+fn hint_of(
+    alloc: Global,
+    path: &str,
+    first: &str,
+    refused: Refused,
+) -> Result<Option<String>, AllocError> {
+    let said = match refused {
+        Refused::Memory | Refused::Input => return Ok(None),
         Refused::At { line, wrong } => {
             let said = wrong_text(wrong);
-            format!(in alloc; "{path}, line {line}: {said}")
+            format!(in alloc; "{path}, line {line}: {said}")?
         }
+        Refused::OtherWords => differs(alloc, path, "of a query in other words", first)?,
+        Refused::OtherParts => differs(alloc, path, "of another number of parts", first)?,
+        Refused::OtherDimensions => differs(alloc, path, "over other dimension rows", first)?,
         Refused::Twice { number } => {
-            format!(in alloc; "{path}: part {number} is in a file before it too")
+            format!(in alloc; "{path}: part {number} is in a file before it too")?
         }
-        refused => {
-            let other = difference_text(refused);
-            format!(in alloc; "{path}: {other} than {first}")
-        }
-    }
+    };
+    Ok(Some(said))
+}
+
+fn differs(alloc: Global, path: &str, what: &str, first: &str) -> Result<String, AllocError> {
+    format!(in alloc; "{path}: {what} than {first}")
 }
 
 // What is wrong in a line.
@@ -47,14 +57,5 @@ fn wrong_text(wrong: Wrong) -> &'static str {
         Wrong::KeyOrder => "its members are not after those of the line before it",
         Wrong::Cut => "the file is cut off here",
         Wrong::Count => "'rows', the number of lines, and nothing after it are wanted",
-    }
-}
-
-// In what a file differs from the first.
-fn difference_text(refused: Refused) -> &'static str {
-    match refused {
-        Refused::OtherParts => "of another number of parts",
-        Refused::OtherDimensions => "over other dimension rows",
-        _ => "of a query in other words",
     }
 }
