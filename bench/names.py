@@ -20,9 +20,6 @@ ALIKE = {
     "disk_of": "what a store, and a session over it, has on its device",
     "content_of": "the content of a store, and of a session over it",
     "room_of": "the free sectors of a store, and of a session over it",
-    "agg_word": "an aggregate as words spell it",
-    "most_cells": "how many cells a cuboid may have",
-    "sectors_in": "the whole sectors that bytes are",
     "UnlessMemory": "something holds of a result, unless memory ran out",
 }
 DEFINITION = re.compile(r"(?:(?:abbrev|unfoldable|private) )*pub (?:(?:abbrev|record|data|unfoldable) )*([A-Za-z_][\w'-]*)")

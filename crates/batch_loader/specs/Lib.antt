@@ -11,6 +11,7 @@ pub mod Parsing
 pub mod Parts
 pub mod Reading
 pub mod Rows
+pub mod Schema
 pub mod ShortNumbers
 pub mod Tables
 pub mod Unread

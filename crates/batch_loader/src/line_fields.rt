@@ -7,8 +7,8 @@ mod bars;
 mod split;
 
 use crate::numbers::{few_digits_between, number_between};
-pub use split::fields;
 pub(crate) use split::split;
+pub use split::{fields, without_cr};
 
 /// The N fields of a line: the line, and where each field ends.
 #[derive(Clone, Copy, Drop)]

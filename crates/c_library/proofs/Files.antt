@@ -3,7 +3,7 @@ use Rattle.std.proofs.Common.{◌≡◌, ℕ, List, [], length, sym, subst}
 use Rattle.sector_device.specs.Device.{Image, LeavesOnly}
 use Rattle.sector_device.specs.MemoryLaws.{read_may_stay}
 use Rattle.sector_device.specs.Memory.{MayHold}
-use Rattle.journal_device.specs.ImageDisk.{sectors_in}
+use Rattle.file_device.specs.Runs.{sectors_in}
 use Rattle.c_library.specs.Images.{device_over}
 use Rattle.c_library.specs.Journals.{LeavesAtEach, device_after}
 use Rattle.journal_device.specs.After.{state_after}

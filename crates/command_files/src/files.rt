@@ -2,6 +2,7 @@
 use crate::refusal::Refusal;
 use crate::system::System;
 use crate::table_paths::{shown, table_path};
+use batch_loader::Table;
 use clap::ArgMatches;
 use cube_model::Fault;
 use std::alloc::Global;
@@ -9,7 +10,6 @@ use std::cell::Cell;
 use std::fs;
 use std::fs::File;
 use std::io::{self, Read};
-use table_hints::Table;
 
 /// The files of the dimensions.
 #[derive(Drop)]

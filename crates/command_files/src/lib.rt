@@ -1,6 +1,8 @@
 //! What commands take and give: the words of queries, files and streams, and refusals.
 #![tactic(auto)]
 
+pub mod batch_hints;
+pub mod broken_rows;
 pub mod exit;
 pub mod files;
 pub mod joined;
@@ -12,7 +14,6 @@ pub mod progress;
 pub mod query;
 pub mod records;
 pub mod refusal;
-pub mod repeated;
 pub mod report;
 pub mod saving;
 pub mod screens;

@@ -1,10 +1,10 @@
 //! The file of a load that has a line, and the number of the line in it.
 use crate::table_paths::{loaded_paths, shown, table_name};
+use batch_loader::Table;
 use clap::ArgMatches;
 use cube_model::{Fault, Place};
 use std::alloc::{AllocError, Global};
 use std::cell::Cell;
-use table_hints::Table;
 
 /// A line of a file. Lines count from 1.
 #[derive(Drop)]

@@ -6,12 +6,12 @@ use crate::saving::{cut_off, unsaved};
 use crate::system::System;
 use crate::table_paths::path_in;
 use crate::watched::Watched;
+use batch_loader::Table;
 use clap::ArgMatches;
 use cube_model::Fault;
 use std::fs;
 use std::fs::File;
 use std::io::{BufWriter, Write};
-use table_hints::Table;
 
 /// What writes the lines of tables.
 pub trait TableLines {

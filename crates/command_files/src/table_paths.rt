@@ -1,7 +1,7 @@
 //! The names of the files of the tables.
+use batch_loader::Table;
 use clap::ArgMatches;
 use std::alloc::{AllocError, Global};
-use table_hints::Table;
 
 // What names standard input in place of a file.
 const STANDARD_INPUT: &str = "-";

@@ -1,19 +1,23 @@
 //! What is said of a refusal of tables, from what they kept of it.
-ghost use Rattle.std.specs.Prelude.{IfOk};
+ghost use Rattle.std.specs.Prelude.{◌≡◌, IfOk};
 ghost use Rattle.cube_model.specs.Validity.{HaveShortTexts};
+ghost use Rattle.command_files.specs.Batches.{batch_of};
 
+use crate::batch_hints::refused_mode;
+use crate::broken_rows::rows_hint;
 use crate::files::{DimensionFiles, Reads, unread_table};
 use crate::refusal::Refusal;
 use crate::table_paths::table_name;
+use batch_loader::Table;
 use clap::ArgMatches;
 use cube_model::limits::MOST_BATCH_ROWS;
-use cube_model::{Axis, DimRows, Fault, MemberPlace};
+use cube_model::{Axis, DimRows, Fault, Measure, MemberPlace};
 use dimension_tables::{DimensionTables, RefusedLine};
 use dimensions::Dims;
 use ssb_eval::{Tables, UnknownKey};
 use std::alloc::Global;
 use std::io::Read;
-use table_hints::{KeyAt, Table, key_hint, limit_hint, line_hint, refused_mode, rows_hint};
+use table_hints::line_hint;
 
 /// The tables of a star whose dimensions are files of one kind.
 pub type Star<F, L> = Tables<F, F, F, F, L>;
@@ -147,13 +151,18 @@ fn unknown_hint(
     let UnknownKey { axis, key, line } = unknown;
     let path = table_name(alloc, given, Table::Lineorder)?;
     let table = table_name(alloc, given, Table::of(axis))?;
-    let at = KeyAt {
-        axis,
-        key,
-        path: path.as_str(),
-        line,
-    };
-    Ok(Some(key_hint(alloc, at, table.as_str())?))
+    let batch = batch_of(line);
+    let said = format!(in alloc;
+        "batch {batch}, line {line} of {path}: {axis} {key} is in no row of {table}"
+    )?;
+    Ok(Some(said))
+}
+
+// The batch of a line.
+fn batch_of(line: u64) -> u64
+    ensures { result ≡ batch_of line }
+{
+    line.saturating_sub(1) / MOST_BATCH_ROWS as u64 + 1
 }
 
 // The row for whose ship mode a batch is refused, and what is said of it. The batch is that of the line that was read
@@ -186,4 +195,26 @@ fn facts_hint(
         return Ok(said);
     }
     limit_hint(alloc, path.as_str(), fault)
+}
+
+/// The limit that the rows of a fact table exceed, as one line without its end, where the table has a name. Nothing
+/// where the fault is none of these. It fails only when out of memory.
+pub fn limit_hint(alloc: Global, path: &str, fault: Fault) -> Result<Option<String>, Fault> {
+    match fault {
+        Fault::SumRange { measure } => sum_limit(alloc, path, measure),
+        Fault::TooManyBatches => line_limit(alloc, path),
+        _ => Ok(None),
+    }
+}
+
+fn sum_limit(alloc: Global, path: &str, measure: Measure) -> Result<Option<String>, Fault> {
+    let said = format!(in alloc;
+        "{path}: the absolute values of {measure} add up to more than 9223372036854775807"
+    )?;
+    Ok(Some(said))
+}
+
+fn line_limit(alloc: Global, path: &str) -> Result<Option<String>, Fault> {
+    let said = format!(in alloc; "{path}: more than 268435456 lines")?;
+    Ok(Some(said))
 }

@@ -1,4 +1,5 @@
 //! The command `dump`.
+use batch_loader::Table;
 use clap::ArgMatches;
 use command_files::exit::DONE;
 use command_files::output::{cut_short, output};
@@ -13,7 +14,6 @@ use sector_device::Sectors;
 use ssb_reports::flush;
 use std::alloc::Global;
 use std::io::Write;
-use table_hints::Table;
 use table_texts::write_dimension;
 use warehouse::Session;
 use warehouse_jobs::{write_batch, write_batches};

@@ -1,4 +1,5 @@
 //! The command `eval`.
+use batch_loader::Table;
 use clap::ArgMatches;
 use command_files::exit::DONE;
 use command_files::files::{DimensionFiles, GivenFile, Reads, open, open_dimensions};
@@ -19,7 +20,6 @@ use std::alloc::Global;
 use std::cell::Cell;
 use std::fs::{File, OpenFile};
 use std::io::{self, Read};
-use table_hints::Table;
 
 /// Reads the query's words, opens the files in the order of the command, and writes the report.
 pub fn eval(rt: &System, given: &ArgMatches<'_>, screens: Screens) -> Result<u8, Refusal> {

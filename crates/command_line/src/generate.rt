@@ -1,4 +1,5 @@
 //! The command `generate`.
+use batch_loader::Table;
 use clap::ArgMatches;
 use command_files::exit::NO_COMMAND;
 use command_files::refusal::Refusal;
@@ -9,7 +10,6 @@ use std::io::Write;
 use table_generator::{
     Random, Scale, write_customers, write_dates, write_lineorders, write_parts, write_suppliers,
 };
-use table_hints::Table;
 
 /// The seed of the random numbers, if the command does not say.
 const SEED: u64 = 1;

@@ -13,6 +13,7 @@ use command_files::table_paths::{count_inputs, is_standard_input, loaded_paths};
 use command_files::timing::say_summary;
 use command_sessions::device::{self, Access, InFile};
 use command_sessions::explaining::{Met, explained};
+use command_sessions::needs::Cut;
 use command_sessions::space::{note_room, rows_in_all};
 use command_sessions::unfinished::note_unfinished;
 use cube_model::Fault;
@@ -22,7 +23,6 @@ use std::alloc::{AllocError, Global};
 use std::cell::Cell;
 use std::fs::File;
 use std::io::{self, Read};
-use table_hints::Cut;
 use warehouse::Session;
 use warehouse_jobs::{BatchNumber, BatchRows, LoadText};
 

@@ -1,23 +1,23 @@
 //! What is said of a refusal of a load.
 use crate::load::LoadPlan;
+use batch_loader::Table;
 use clap::ArgMatches;
+use command_files::batch_hints::{StoredBatch, number_hint, refused_mode, repeated_hint};
 use command_files::locating::{LineAt, in_line, line_of, located};
 use command_files::refusal::Refusal;
-use command_files::repeated::{StoredBatch, repeated_hint};
 use command_files::system::System;
 use command_files::table_paths::table_name;
-use command_files::table_refusals::key_for;
+use command_files::table_refusals::{key_for, limit_hint};
 use command_sessions::device::InFile;
 use command_sessions::explaining::{Met, explained};
 use command_sessions::job::met_in;
+use command_sessions::needs::Needs;
 use cube_model::Fault;
 use sector_device::Sectors;
 use ssb_eval::UnknownKey;
 use std::alloc::Global;
 use std::io::Read;
-use table_hints::{
-    KeyAt, Needs, Table, limit_hint, line_hint, loaded_key_hint, number_hint, refused_mode,
-};
+use table_hints::line_hint;
 use warehouse::Session;
 use warehouse_jobs::LoadText;
 
@@ -92,14 +92,11 @@ fn unknown_hint<D: Sectors>(
 ) -> Result<Option<String>, Fault> {
     let UnknownKey { axis, key, line } = unknown;
     let batch = session.status()?.batches.saturating_add(1);
-    let at = located(alloc, given, plan.counts.as_slice(), line)?;
-    let at = KeyAt {
-        axis,
-        key,
-        path: at.path.as_str(),
-        line: at.line,
-    };
-    Ok(Some(loaded_key_hint(alloc, at, batch)?))
+    let LineAt { path, line } = located(alloc, given, plan.counts.as_slice(), line)?;
+    let said = format!(in alloc;
+        "batch {batch}, line {line} of {path}: {axis} {key} is in no {axis} row of the warehouse; ssbcube add adds one"
+    )?;
+    Ok(Some(said))
 }
 
 // The row of a batch that is refused for its ship mode, after so many batches that were done, and what is said of it.
@@ -146,7 +143,7 @@ fn batch_hint<D: Sectors>(
     session: &Session<D>,
     fault: Fault,
 ) -> Result<Option<String>, Fault> {
-    let said = number_hint(alloc, fault, plan.cut, session.status()?.batches)?;
+    let said = number_hint(alloc, fault, plan.cut.first, session.status()?.batches)?;
     if said.is_some() {
         return Ok(said);
     }

@@ -1,4 +1,5 @@
 //! How far a command has read the file of its warehouse.
+use crate::needs::{CELL_BYTES, Cut, Needs, SECTOR_BYTES};
 use clap::ArgMatches;
 use command_files::progress::{MEGABYTE, rate};
 use command_files::screens::Screens;
@@ -8,15 +9,8 @@ use std::cell::Cell;
 use std::io::{self, Write};
 use std::rt::Clock;
 use std::time::Duration;
-use table_hints::{Cut, Needs};
 use warehouse::{Session, Status};
 use watched_device::Observer;
-
-/// The bytes of a sector.
-const SECTOR_BYTES: u64 = 512;
-
-/// The bytes of a stored cell, about.
-const CELL_BYTES: u64 = 160;
 
 /// The milliseconds after which more is said.
 const STEP: u64 = 200;

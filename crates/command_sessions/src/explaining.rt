@@ -1,5 +1,6 @@
 //! What the program knows of a refusal by a warehouse.
 use crate::device_hints::{device_hint, failure_hint};
+use crate::needs::Needs;
 use crate::space::{Room, room_hint};
 use clap::ArgMatches;
 use command_files::refusal::Refusal;
@@ -7,7 +8,6 @@ use command_files::system::System;
 use cube_model::{Fault, MemberPlace};
 use std::alloc::Global;
 use std::io;
-use table_hints::Needs;
 
 /// A fault, and what is known where it comes.
 #[derive(Clone, Copy)]

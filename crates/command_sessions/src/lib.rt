@@ -7,6 +7,7 @@ pub mod device;
 pub mod device_hints;
 pub mod explaining;
 pub mod job;
+pub mod needs;
 pub mod notes;
 pub mod plans;
 mod reads;

@@ -1,4 +1,5 @@
 //! What a query reads, and how many groups it has at most.
+use crate::needs::CELL_BYTES;
 use column_segment::{AmountColumn, ByteColumn, FactColumn, NumberColumn, TextColumn};
 use cube_model::{Fault, Kind};
 use cube_query::Fold;
@@ -6,9 +7,6 @@ use dimensions::Dims;
 use mode_queries::QueryRef;
 use std::alloc::{AllocError, Global};
 use warehouse::{Plan, Priced};
-
-/// The bytes of a stored cell, without those of its ship mode.
-const CELL_BYTES: u64 = 160;
 
 /// The bytes of the ship mode of a cell, where the view groups by it.
 const MODE_BYTES: u64 = 2;

@@ -1,5 +1,7 @@
 //! Whether a warehouse has room for what is to be stored.
 use crate::device::{InFile, path_of};
+use crate::needs::{CELL_BYTES, Cut, Needs, SECTOR_BYTES, row_count};
+use batch_loader::Table;
 use clap::ArgMatches;
 use command_files::files::{byte_count, open_again};
 use command_files::system::System;
@@ -10,7 +12,6 @@ use dimensions::Dims;
 use sector_device::Sectors;
 use std::alloc::Global;
 use std::io::Read;
-use table_hints::{Cut, Needs, Table, row_count};
 use warehouse::Session;
 use warehouse_root::limits::MOST_CELLS;
 
@@ -22,12 +23,6 @@ const DIMENSION_ROW_BYTES: u64 = 8;
 
 /// The bytes of a text of a dimension table, about, and the code of its upper member.
 const TEXT_BYTES: u64 = 32;
-
-/// The bytes of a sector.
-const SECTOR_BYTES: u64 = 512;
-
-/// The bytes of a cell of a cuboid, about.
-const CELL_BYTES: u64 = 160;
 
 /// How many cuboids a new warehouse has room for: eight, and one more while it is written anew.
 const CUBOIDS: u64 = 9;

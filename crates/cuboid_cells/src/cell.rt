@@ -1,6 +1,6 @@
 //! A cell.
-ghost use Rattle.std.specs.Prelude.{◌≡◌, ◌↔◌, false, IsTrue};
-ghost use Rattle.cuboid_cells.specs.Cells.{CellFits, IsCellOf, KeyFits};
+ghost use Rattle.std.specs.Prelude.{◌≡◌, ◌↔◌, None, IfSome, IsTrue};
+ghost use Rattle.cuboid_cells.specs.Cells.{CellFits, IsCellOf};
 ghost use Rattle.cuboid_cells.specs.Merges.{merged};
 
 use crate::key::Key;
@@ -17,19 +17,23 @@ pub struct Cell {
 }
 
 impl Cell {
-    /// Takes in the cell of other rows, of its own key. False where a number would pass its type; what it is then is
-    /// not said.
+    /// The cell of its rows and of other rows, whose cell has its key. Nothing where a number would pass its type.
     #[inline(always)]
-    pub fn merge_in(&mut self, other: &Cell) -> bool
-        ensures ok { IsTrue result → self.new ≡ merged self.old other.now }
-        ensures fits { IsTrue result → KeyFits self.old.key → CellFits self.new }
-        ensures refused { result ≡ false → CellFits (merged self.old other.now) → ⊥ }
+    pub fn merged(self, other: &Cell) -> Option<Cell>
+        ensures some { IfSome result (λ both. both ≡ merged self other.now) }
+        ensures fits { IfSome result CellFits }
+        ensures refused { result ≡ None → CellFits (merged self other.now) → ⊥ }
     {
-        let Some(count) = self.count.checked_add(other.count) else {
-            return false;
-        };
-        self.count = count;
-        self.measures.merge_in(&other.measures)
+        let count = self.count.checked_add(other.count)?;
+        let mut measures = self.measures;
+        if !measures.merge_in(&other.measures) {
+            return None;
+        }
+        Some(Cell {
+            key: self.key,
+            count,
+            measures,
+        })
     }
 
     // Whether it keeps the rules of a cell of a view.

@@ -80,12 +80,8 @@ fn next_step<'a>(one: &'a [Cell], other: &'a [Cell]) -> Result<Option<Step<'a>>,
             other: other_left,
         }));
     }
-    let mut cell = *left;
-    if !cell.merge_in(right) {
-        return Err(Fault::BadLayout);
-    }
     Ok(Some(Step {
-        cell,
+        cell: left.merged(right).ok_or(Fault::BadLayout)?,
         one: one_left,
         other: other_left,
     }))

@@ -178,15 +178,15 @@ module _ (cells : List Cell) (cell : Cell) (place : ℕ)
             → IsDistinct nat_eq new → AreKeyed new (slice_set cells place both)
         keyed_still keys new keys_are new_is once = record { keys_are = new_is ∙ keys_are ∙ sym same_keys; once = once }
 
-        good_both : (view : View) → All (IsGood view) cells → (KeyFits before.key → CellFits both) → IsGood view both
+        good_both : (view : View) → All (IsGood view) cells → CellFits both → IsGood view both
         good_both view good fits =
             let here : IsGood view before = subst (IsGood view) (sym before_is) (good place before within) in
             subst (IsGood view) (sym both_is) (record {
               is_cell = record { key = here.is_cell.key; count = omega (arith, here.is_cell.count) };
-              fits = subst CellFits both_is (fits here.fits.key);
+              fits = subst CellFits both_is fits;
             })
 
-        pub taken_over : (KeyFits before.key → CellFits both) → TakesIn cells cell (slice_set cells place both)
+        pub taken_over : CellFits both → TakesIn cells cell (slice_set cells place both)
         taken_over fits = record {
           longer = omega (arith, length-set cells place both);
           good = λ view good own. All-set (IsGood view) cells place both (good_both view good fits) good;

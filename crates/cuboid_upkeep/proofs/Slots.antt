@@ -6,7 +6,7 @@ use Rattle.std.proofs.lemmas.Bool.Decides.{nat_tests}
 use Rattle.std.proofs.lemmas.List.Elements.{All-cons, All-nil}
 use Rattle.lattice.specs.declared.view.View.{View}
 use Rattle.cuboid_cells.specs.declared.cell.Cell.{Cell}
-use Rattle.cuboid_cells.specs.Cells.{AreAscending, CellFits, cell_at, key_as_number, KeyFits}
+use Rattle.cuboid_cells.specs.Cells.{AreAscending, CellFits, cell_at, key_as_number}
 use Rattle.cuboid_cells.specs.Merges.{IsMergeOf, merged, merged_if_any}
 use Rattle.cuboid_upkeep.specs.Steps.{IsGood}
 use Rattle.cuboid_upkeep.specs.declared.member_codes.ViewMembers.{ViewMembers}
@@ -199,8 +199,7 @@ module _ (view : View) (members : ViewMembers) (no_modes : view.ship_mode ≡ fa
 
   taken_at : HasNumber view members place (taken slot cell)
   taken_at =
-      (elim (slot_is_used slot) as (λ b. slot_is_used slot ≡ b
-      → (KeyFits slot.key → CellFits (cond b (merged slot cell) cell))
+      (elim (slot_is_used slot) as (λ b. slot_is_used slot ≡ b → CellFits (cond b (merged slot cell) cell)
       → HasNumber view members place (cond b (merged slot cell) cell)) [
         | true ↦ λ e fits.
             (let own = slot_own e in record {
@@ -208,11 +207,11 @@ module _ (view : View) (members : ViewMembers) (no_modes : view.ship_mode ≡ fa
               place_is = own.place_is;
               good = record {
                 is_cell = record { key = own.good.is_cell.key; count = omega (arith, own.good.is_cell.count) };
-                fits = fits own.good.fits.key;
+                fits = fits;
               };
             })
         | false ↦ λ e fits. at
-      ]) refl (λ key. takes.fits key at.good.fits)
+      ]) refl (takes.fits at.good.fits)
 
   set_slots : SlotsHaveCells view members 0 (set old place (taken slot cell))
   set_slots =

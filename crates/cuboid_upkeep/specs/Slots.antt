@@ -6,7 +6,7 @@ use Rattle.cube_model.specs.declared.rows.DimRows.{DimRows}
 use Rattle.cube_model.specs.declared.rows.LineOrder.{LineOrder}
 use Rattle.lattice.specs.declared.view.View.{View}
 use Rattle.cuboid_cells.specs.declared.cell.Cell.{Cell}
-use Rattle.cuboid_cells.specs.Cells.{CellFits, KeyFits, PlainCells}
+use Rattle.cuboid_cells.specs.Cells.{CellFits, PlainCells}
 use Rattle.cuboid_cells.specs.Merges.{merged}
 use Rattle.cuboid_upkeep.specs.Grouping.{RepresentRows}
 use Rattle.cuboid_upkeep.specs.Steps.{IsGood}
@@ -45,7 +45,7 @@ taken slot cell = cond (slot_is_used slot) (merged slot cell) cell
 pub record TakesAt (old : List Cell) (place : ℕ) (cell : Cell) (new : List Cell) : Type 0 where
   pub slot : Cell
   pub slot_is : slot ≡ slice_index_or old place slot
-  pub fits : KeyFits slot.key → CellFits cell → CellFits (taken slot cell)
+  pub fits : CellFits cell → CellFits (taken slot cell)
   pub is : new ≡ slice_set old place (taken slot cell)
 
 -- the slot at a place is in use, and its merge with a cell passes a number's type

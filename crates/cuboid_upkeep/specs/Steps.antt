@@ -62,7 +62,7 @@ pub record Overflows (old : List Cell) (cell : Cell) : Type 0 where
 pub record MergesAt (old : List Cell) (place : ℕ) (cell : Cell) (new : List Cell) : Type 0 where
   pub before : Cell
   pub before_is : before ≡ slice_index_or old place before
-  pub fits : KeyFits before.key → CellFits (merged before cell)
+  pub fits : CellFits (merged before cell)
   pub is : new ≡ slice_set old place (merged before cell)
 
 -- that merge passes a number's type

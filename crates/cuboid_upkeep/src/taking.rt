@@ -29,8 +29,6 @@ pub(crate) fn merge_at(slots: &mut Vec<Cell>, place: usize, cell: &Cell) -> Resu
     ensures ok { OnOk result (MergesAt slots.old.items place cell.now slots.new.items) }
     ensures refused { IfErr result (λ fault. (fault ≡ Fault.BadLayout) × OverflowsAt slots.old.items place cell.now) }
 {
-    if !slots[place].merge_in(cell) {
-        return Err(Fault::BadLayout);
-    }
+    slots[place] = slots[place].merged(cell).ok_or(Fault::BadLayout)?;
     Ok(())
 }

@@ -13,7 +13,7 @@ use Rattle.file_device.proofs.SyncStep.{passes}
 use Rattle.file_device.specs.Laws.{file_read_may_stay}
 use Rattle.file_device.specs.declared.event.Event.{Event}
 use Rattle.file_device.specs.declared.event.Event.TheVariants.{Written, Synced}
-use Rattle.journal_device.specs.ImageDisk.{sectors_in}
+use Rattle.file_device.specs.Runs.{sectors_in}
 use Rattle.journal_device.specs.Calls.{event_of, record_of, IsWithin}
 use Rattle.journal_device.specs.After.{state_after, CallsAreWhole}
 use Rattle.journal_device.specs.Latest.{ShowsLatest, last_at}

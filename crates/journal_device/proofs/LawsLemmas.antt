@@ -7,7 +7,7 @@ use Rattle.sector_device.specs.Device.{Image}
 use Rattle.sector_device.specs.Memory.{content}
 use Rattle.file_device.specs.History.{FileMayHold, FileLeftWithin}
 use Rattle.file_device.specs.declared.event.Event.{Event}
-use Rattle.journal_device.specs.ImageDisk.{sectors_in}
+use Rattle.file_device.specs.Runs.{sectors_in}
 use Rattle.journal_device.specs.Calls.{event_of, record_of, IsWithin, journal_of, spelled_call}
 use Rattle.journal_device.specs.Lawful.{PrefixIsLeft, SpellsOneList}
 use Rattle.journal_device.specs.declared.call.Call.{Call}

@@ -1,15 +1,10 @@
 -- What a device over an image shows. Our own.
-use Rattle.std.specs.Prelude.{ℕ, ◌/◌, List, [], length}
-use Rattle.std.specs.Simd.{first_chunks}
+use Rattle.std.specs.Prelude.{ℕ, List, []}
 use Rattle.sector_device.specs.Device.{DeviceState}
 use Rattle.sector_device.specs.Memory.{memory_state}
 use Rattle.journal_device.specs.declared.image_disk.ImageDisk.{ImageDisk}
 
--- the whole sectors of an image
-abbrev pub sectors_in : List ℕ → List (List ℕ)
-sectors_in image = first_chunks 512 (length image / 512) image
-
--- those that a device shows
+-- the sectors that a device shows
 abbrev pub shown_sectors : ImageDisk → List (List ℕ)
 shown_sectors d = d.sectors.now
 

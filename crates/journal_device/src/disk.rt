@@ -3,7 +3,8 @@ ghost use Rattle.std.specs.Prelude.{◌≡◌, ◌≢◌, ◌++◌, ◌∷◌, �
 ghost use Rattle.std.specs.Prelude.{length, is_ok, nat_eq, if◌then◌else◌, Some, refl, All};
 ghost use Rattle.sector_device.specs.Device.{CountsFailure, IsSettled, CandidatesStay, Syncs, WritesSector};
 ghost use Rattle.sector_device.specs.Memory.{content};
-ghost use Rattle.journal_device.specs.ImageDisk.{sectors_in, shown_sectors};
+ghost use Rattle.journal_device.specs.ImageDisk.{shown_sectors};
+ghost use Rattle.file_device.specs.Runs.{sectors_in};
 ghost use Rattle.journal_device.specs.After.{state_after, CallsAreWhole};
 ghost use Rattle.journal_device.specs.Calls.{IsWithin};
 ghost use Rattle.journal_device.specs.Latest.{ShowsLatest, last_at};

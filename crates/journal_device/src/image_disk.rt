@@ -19,7 +19,8 @@ pub struct ImageDisk<'a> {
 }
 
 impl<'a> ImageDisk<'a> {
-    ghost use Rattle.journal_device.specs.ImageDisk.{state_of, failures_of, sectors_in, shown_sectors};
+    ghost use Rattle.journal_device.specs.ImageDisk.{state_of, failures_of, shown_sectors};
+    ghost use Rattle.file_device.specs.Runs.{sectors_in};
 
     /// A device over the bytes of a whole number of sectors, of fewer than 2^32 sectors. None over other bytes.
     pub fn over(image: &'a [u8]) -> Option<ImageDisk<'a>>

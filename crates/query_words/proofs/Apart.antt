@@ -23,7 +23,8 @@ use Rattle.ssb_reports.specs.Benchmark.{query_number_text}
 use Rattle.query_words.specs.declared.known.Column.{Column}
 use Rattle.query_words.specs.declared.known.Column.TheVariants.{Attribute, ShipMode}
 use Rattle.query_words.specs.Known.{column_name}
-use Rattle.query_words.specs.Words.{SpellsAggregate, agg_word, kind_name}
+use Rattle.mode_queries.specs.Names.{agg_word}
+use Rattle.query_words.specs.Words.{SpellsAggregate, kind_name}
 
 attr_of : List ℕ → Attr
 attr_of text =

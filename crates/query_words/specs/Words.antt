@@ -5,18 +5,17 @@ use Rattle.std.specs.List.{AllZip, flat_map, slice_split}
 use Rattle.std.specs.Str.Parse.{IsNumeral, digits_value}
 use Rattle.cube_model.specs.declared.attr.Attr.{Attr}
 use Rattle.cube_model.specs.declared.measure.Agg.{Agg}
-use Rattle.cube_model.specs.declared.measure.Agg.TheVariants.{Count, Sum, Min, Max, Avg}
 use Rattle.cube_model.specs.declared.query.Cond.{Cond}
 use Rattle.cube_model.specs.declared.query.Cond.TheVariants.{OneOf, Between, Quantity, Discount}
 use Rattle.cube_model.specs.declared.query.Kind.{Kind}
 use Rattle.cube_model.specs.declared.query.Kind.TheVariants.{Plain, Rollup, Cube}
 use Rattle.cube_model.specs.Limits.{most_asked_aggregates}
-use Rattle.cube_model.specs.Names.{attr_name, measure_name, agg_name}
+use Rattle.cube_model.specs.Names.{attr_name, agg_name}
 use Rattle.mode_queries.specs.declared.query.ModeCond.{ModeCond}
 use Rattle.mode_queries.specs.declared.query.ModeCond.TheVariants as modes
 use Rattle.mode_queries.specs.declared.query.ModeQuery.{ModeQuery}
 use Rattle.mode_queries.specs.Lawful.{without_modes}
-use Rattle.mode_queries.specs.Names.{names_with, ship_mode_name}
+use Rattle.mode_queries.specs.Names.{agg_word, names_with, ship_mode_name}
 use Rattle.mode_queries.specs.Proper.{IsProperByModes}
 use Rattle.ssb_reports.specs.declared.number.QNumber.{QNumber}
 use Rattle.ssb_reports.specs.Benchmark.{benchmark_query, query_number_text}
@@ -53,15 +52,7 @@ SpellsColumns None columns place = (columns ≡ []) × (place ≡ None)
 SpellsColumns (Some text) columns place =
     (names_with columns place ≡ parts_by 44 text) × IfSome place (λ place. place ≤ length columns)
 
--- an aggregate: count, or what is taken of a measure, a colon and the measure's name
-abbrev pub agg_word : Agg → List ℕ
-agg_word Count = codes "count"
-agg_word (Sum measure) = codes "sum:" ++ measure_name measure
-agg_word (Min measure) = codes "min:" ++ measure_name measure
-agg_word (Max measure) = codes "max:" ++ measure_name measure
-agg_word (Avg measure) = codes "avg:" ++ measure_name measure
-
--- or as the header of a report names it, such as sum(revenue)
+-- an aggregate: as words spell it, or as the header of a report names it, such as sum(revenue)
 abbrev pub SpellsAggregate : List ℕ → Agg → Type 0
 SpellsAggregate word agg = (word ≡ agg_word agg) ⊎ (word ≡ agg_name agg)
 

@@ -1,22 +1,13 @@
 -- The names of what lines are sorted by. Our own.
-use Rattle.std.specs.Prelude.{◌||◌, ℕ, Bool, List, ◌++◌, Option, None, Some, codes}
+use Rattle.std.specs.Prelude.{◌||◌, ℕ, Bool, List, Option, None, Some}
 use Rattle.std.specs.List.{position}
 use Rattle.std.specs.Str.{bytes_eq}
 use Rattle.cube_model.specs.declared.measure.Agg.{Agg}
-use Rattle.cube_model.specs.declared.measure.Agg.TheVariants.{Count, Sum, Min, Max, Avg}
-use Rattle.cube_model.specs.Names.{agg_name, measure_name}
+use Rattle.cube_model.specs.Names.{agg_name}
 use Rattle.report_formats.specs.declared.arrangement.SortKey.{SortKey}
 use Rattle.report_formats.specs.declared.arrangement.SortKey.TheVariants.{Column, Aggregate}
-use Rattle.mode_queries.specs.Names.{column_names}
+use Rattle.mode_queries.specs.Names.{agg_word, column_names}
 use Rattle.mode_queries.specs.declared.query.ModeQuery.{ModeQuery}
-
--- an aggregate as words spell it, such as sum:revenue
-abbrev pub agg_word : Agg → List ℕ
-agg_word Count = codes "count"
-agg_word (Sum measure) = codes "sum:" ++ measure_name measure
-agg_word (Min measure) = codes "min:" ++ measure_name measure
-agg_word (Max measure) = codes "max:" ++ measure_name measure
-agg_word (Avg measure) = codes "avg:" ++ measure_name measure
 
 -- a name is that of an aggregate: as the header of a report has it, such as sum(revenue), or as words spell it
 abbrev pub is_named : List ℕ → Agg → Bool

@@ -3,7 +3,8 @@ ghost use Rattle.std.specs.Prelude.{◌≡◌};
 ghost use Rattle.std.specs.List.{position};
 ghost use Rattle.std.specs.Str.{bytes_eq};
 ghost use Rattle.cube_model.specs.Names.{agg_name};
-ghost use Rattle.report_formats.specs.Named.{agg_word, is_named, sort_key_named};
+ghost use Rattle.mode_queries.specs.Names.{agg_word};
+ghost use Rattle.report_formats.specs.Named.{is_named, sort_key_named};
 ghost use Rattle.mode_queries.specs.Names.{column_names};
 
 use crate::arrangement::SortKey;

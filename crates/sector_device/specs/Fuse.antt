@@ -3,9 +3,9 @@ use Rattle.std.specs.Prelude.{◌≡◌, ℕ, ◌+◌, ◌-◌, ◌^◌, min, Bo
 use Rattle.sector_device.specs.Device.{DeviceState, CountsFailure}
 use Rattle.sector_device.specs.declared.device.DeviceError.{DeviceError}
 use Rattle.sector_device.specs.declared.device.Sectors as sectors
-use Rattle.sector_device.specs.declared.fuse.Plan.{Plan}
+use Rattle.sector_device.specs.declared.fuse.FailurePlan.{FailurePlan}
 use Rattle.sector_device.specs.declared.fuse.Fuse.{Fuse}
-use Rattle.sector_device.specs.Plan.{fails_at}
+use Rattle.sector_device.specs.FailurePlan.{fails_at}
 
 abbrev pub inner_of : {D : Type 0} → Fuse D → D
 inner_of f = f.inner
@@ -21,7 +21,7 @@ KeepsWord D f = D.keeps_word f.inner
 abbrev pub inner_failures : {D : Type 0} → sectors.Ghosts D → Fuse D → ℕ
 inner_failures D f = D.failed f.inner
 
-abbrev pub plan_of : {D : Type 0} → Fuse D → Plan
+abbrev pub plan_of : {D : Type 0} → Fuse D → FailurePlan
 plan_of f = f.plan
 
 -- how many reads, writes and syncs there were

@@ -1,8 +1,8 @@
 pub mod Device
-pub mod Moments
+pub mod FailurePlan
+pub mod Fuse
+pub mod MemDisk
 pub mod Memory
 pub mod MemoryLaws
-pub mod MemDisk
+pub mod Moments
 pub mod Picks
-pub mod Plan
-pub mod Fuse

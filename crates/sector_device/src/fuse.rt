@@ -1,14 +1,14 @@
 // A device of which chosen calls fail.
 ghost use Rattle.std.specs.Prelude.{◌≡◌, ◌+◌, ◌-◌, ◌^◌, ◌<◌, ◌&&◌, ◌||◌, min, not, ℕ, false, nat_eq, nat_lt, IsTrue};
 ghost use Rattle.std.specs.Prelude.{IsErr, OnOk, OnErr};
-ghost use Rattle.sector_device.specs.Plan.{fails_at};
+ghost use Rattle.sector_device.specs.FailurePlan.{fails_at};
 ghost use Rattle.sector_device.specs.Device.{CountsFailure, IsSettled, CandidatesStay, WritesSector, Syncs};
 
 use crate::{DeviceError, Sectors};
 
 /// Which calls fail.
 #[derive(Clone, Copy)]
-pub struct Plan {
+pub struct FailurePlan {
     at: u64,
     all: bool,
     reaches: bool,
@@ -18,7 +18,7 @@ pub struct Plan {
 #[derive(Drop)]
 pub struct Fuse<D: Sectors> {
     inner: D,
-    plan: Plan,
+    plan: FailurePlan,
     calls: u64,
     failures: u64,
 }
@@ -34,7 +34,7 @@ impl<D: Sectors> Fuse<D> {
         ensures calls { call_count_of result ≡ 0 }
         ensures failures { failures_of result ≡ 0 }
     {
-        let plan = Plan {
+        let plan = FailurePlan {
             at: n,
             all,
             reaches,
@@ -64,7 +64,7 @@ impl<D: Sectors> Fuse<D> {
 }
 
 // Counts a call, and says whether it fails.
-fn burn(calls: &mut u64, plan: Plan) -> bool
+fn burn(calls: &mut u64, plan: FailurePlan) -> bool
     ensures calls { calls.new ≡ min (calls.old + 1) (2 ^ 64 - 1) }
     ensures fails { result ≡ fails_at plan calls.new }
 {

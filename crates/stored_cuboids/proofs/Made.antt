@@ -20,7 +20,8 @@ use Rattle.cuboid_upkeep.specs.Grouping.{RepresentRows}
 use Rattle.object_store.specs.Commit.{ArePuts}
 use Rattle.object_store.proofs.CallerLemmas.{one_put}
 use Rattle.warehouse_root.specs.declared.cuboid.StoredCuboid.{StoredCuboid}
-use Rattle.warehouse_root.specs.Limits.{most_cells, most_runs}
+use Rattle.cuboid_cells.specs.Limits.{most_cells}
+use Rattle.warehouse_root.specs.Limits.{most_runs}
 use Rattle.warehouse_root.specs.Objects.{run_id}
 use Rattle.warehouse_root.specs.Root.{PlainRoot}
 use Rattle.warehouse_objects.specs.Warehouse.{Cuboid, StoredRun, Warehouse, cell_count, cuboid_at, ship_modes_of}

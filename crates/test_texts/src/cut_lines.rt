@@ -1,10 +1,11 @@
 //! Lines that are one edit apart from good ones, cut at each place.
 use crate::edited_lines::{
-    BARS, Edit, GOOD_LINES, GoodLine, LONG, Table, edited, fields_of, fields_of_each_byte,
-    first_cut,
+    BARS, Edit, GOOD_LINES, GoodLine, LONG, edited, fields_of, fields_of_each_byte, first_cut,
 };
 use crate::plain_rules::{Column, KeptRow, are_of, first_fault};
-use batch_loader::{Lines, read_batch, read_customers, read_dates, read_parts, read_suppliers};
+use batch_loader::{
+    Lines, Table, read_batch, read_customers, read_dates, read_parts, read_suppliers,
+};
 use cube_model::{Fault, Items};
 use sample_star::in_pieces;
 use std::alloc::Global;
@@ -46,7 +47,7 @@ fn is_read(alloc: Global, line: &GoodLine, text: &[u8], piece: usize) -> Result<
         Table::Supplier => is_right(columns, text, read_suppliers(alloc, &mut lines)),
         Table::Part => is_right(columns, text, read_parts(alloc, &mut lines)),
         Table::Date => is_right(columns, text, read_dates(alloc, &mut lines)),
-        Table::LineOrder => is_right(columns, text, read_batch(alloc, &mut lines, 9)),
+        Table::Lineorder => is_right(columns, text, read_batch(alloc, &mut lines, 9)),
     })
 }
 

@@ -1,18 +1,9 @@
 //! Good lines of the five tables, and patterns of lines that are one edit apart from them.
 use crate::plain_rules::Column;
 use crate::plain_rules::Column::{Kept, Number, Skipped};
+use batch_loader::Table;
 use cube_model::Fault;
 use std::alloc::Global;
-
-/// A table.
-#[derive(Clone, Copy)]
-pub enum Table {
-    Customer,
-    Supplier,
-    Part,
-    Date,
-    LineOrder,
-}
 
 /// A good line of a table, with a bar after each field, and the columns of the table.
 #[derive(Clone, Copy)]
@@ -55,7 +46,7 @@ pub static GOOD_LINES: [GoodLine; 5] = [
         text: b"19930105|January 5, 1993|Tuesday|January|1993|199301|Jan1993|3|5|5|1|1|Winter|0|0|0|1|",
     },
     GoodLine {
-        table: Table::LineOrder,
+        table: Table::Lineorder,
         columns: &[
             MONEY, KEY, KEY, KEY, KEY, KEY, Kept, Kept, SMALL, MONEY, MONEY, SMALL, MONEY, MONEY,
             SMALL, Kept, Kept,

@@ -1,10 +1,12 @@
 //! What is said after a refusal that no page shows.
+use command_files::batch_hints::number_hint;
+use command_files::broken_rows::rows_hint;
+use command_files::table_refusals::limit_hint;
 use cube_model::{Axis, Fault, MemberPlace};
 use dimensions::Dims;
 use sample_star::{STAR, dim_rows};
 use std::alloc::Global;
 use std::test::Fail;
-use table_hints::{Cut, limit_hint, number_hint, rows_hint};
 
 /// What is refused.
 #[derive(Clone, Copy, Debug)]
@@ -102,7 +104,7 @@ fn said(alloc: Global, refused: Refused, fault: Fault) -> Result<Option<String>,
         Refused::Rows(path) => rows_said(alloc, path, false, fault),
         Refused::AddedRows(path) => rows_said(alloc, path, true, fault),
         Refused::Facts => limit_hint(alloc, "lineorder.tbl", fault),
-        Refused::Number => number_hint(alloc, fault, Cut { first: 4, rows: 1 }, 4096),
+        Refused::Number => number_hint(alloc, fault, 4, 4096),
     }
 }
 

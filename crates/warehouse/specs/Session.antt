@@ -1,5 +1,5 @@
 -- What a session shows of itself, and when it represents a warehouse.
-use Rattle.std.specs.Prelude.{◌≡◌, ◌↔◌, ◌⊎◌, ℕ, ◌+◌, ◌-◌, ◌^◌, ◌<◌, ◌≤◌, min, Bool, true, false, None, Some, length}
+use Rattle.std.specs.Prelude.{◌≡◌, ◌↔◌, ◌⊎◌, ℕ, ◌+◌, ◌<◌, ◌≤◌, Bool, true, false, None, Some, length}
 use Rattle.std.specs.Prelude.{List}
 use Rattle.std.specs.Prelude.{[]}
 use Rattle.std.proofs.Common.{sym, subst}
@@ -42,17 +42,15 @@ module _ {D : Type 0} where
   abbrev pub room_of : {g : Ghosts D} → Session D g → Room
   room_of session = stores.room_of session.store
 
+  -- the device failed in this call, and the session answers Failed from now on
+  abbrev pub Breaks : (g : Ghosts D) → Session D g → Session D g → Type 0
+  Breaks g old new = stores.Breaks g old.store new.store
+
 -- the session has not failed, and represents a warehouse: every image does
 pub record IsAt {D : Type 0} (g : Ghosts D) (session : Session D g) (w : Warehouse) : Type 0 where
   pub fine : has_failed session ≡ false
   pub represents : (disk_of g session).keeps_word → Represents (content_of g session) w
   pub all : AllShow (disk_of g session) (λ c. Represents c w)
-
--- the device failed in this call, and the session answers Failed from now on
-pub record Breaks {D : Type 0} (g : Ghosts D) (old new : Session D g) : Type 0 where
-  pub before : has_failed old ≡ false
-  pub failed : has_failed new ≡ true
-  pub failures : (disk_of g new).failures ≡ min ((disk_of g old).failures + 1) (2 ^ 64 - 1)
 
 -- What a call of the device leaves of a session. `refuses` says with which faults the call was refused.
 pub record CallsDevice {D : Type 0} (g : Ghosts D) (refuses : Fault → Type 0) (old new : Session D g) : Type 0 where

@@ -11,7 +11,8 @@ use Rattle.warehouse_root.specs.declared.layout.Layout.{Layout}
 use Rattle.warehouse_root.specs.declared.layout.Layout.TheVariants.{First, Second}
 use Rattle.lattice.specs.declared.view.View.{View}
 use Rattle.lattice.specs.Views.{index_of}
-use Rattle.warehouse_root.specs.Limits.{most_cells, most_cuboids, most_runs}
+use Rattle.cuboid_cells.specs.Limits.{most_cells}
+use Rattle.warehouse_root.specs.Limits.{most_cuboids, most_runs}
 use Rattle.warehouse_root.specs.Layouts.{layout_number}
 use Rattle.warehouse_root.specs.Modes.{AreModes, modes_id, modes_spelling}
 use Rattle.warehouse_root.specs.Objects.{run_id, segment_id}

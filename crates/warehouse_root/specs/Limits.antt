@@ -16,7 +16,3 @@ most_cuboids = 16
 -- runs of a cuboid
 abbrev pub most_runs : ℕ
 most_runs = 8
-
--- cells of a cuboid
-abbrev pub most_cells : ℕ
-most_cells = 262144

@@ -8,7 +8,8 @@ use Rattle.warehouse_root.specs.declared.layout.Layout.{Layout}
 use Rattle.cube_model.specs.declared.totals.Totals.{Totals}
 use Rattle.warehouse_root.specs.Layouts.{view_count}
 use Rattle.warehouse_root.specs.declared.layout.Layout.TheVariants.{Second}
-use Rattle.warehouse_root.specs.Limits.{greatest_total, most_additions, most_cells, most_cuboids, most_runs}
+use Rattle.cuboid_cells.specs.Limits.{most_cells}
+use Rattle.warehouse_root.specs.Limits.{greatest_total, most_additions, most_cuboids, most_runs}
 
 -- what a root says, wherever it lies in memory
 pub record PlainRoot : Type 0 where

@@ -45,8 +45,8 @@ pub fn split<'a, const N: usize>(line: &'a [u8], ends: &mut [usize; N]) -> Optio
     Some(text)
 }
 
-/// A line without its CR.
-fn without_cr(line: &[u8]) -> &[u8]
+/// A line without its carriage return, if it ends with one.
+pub fn without_cr(line: &[u8]) -> &[u8]
     ensures { result.now ≡ without_cr line.now }
 {
     let len = line.len();

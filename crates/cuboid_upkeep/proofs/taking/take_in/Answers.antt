@@ -4,7 +4,7 @@ use Rattle.std.proofs.lemmas.Bool.Decides.{nat_tests}
 use Rattle.std.proofs.lemmas.List.{get_or_default}
 use Rattle.std.proofs.lemmas.Result.{on_ok_weaker}
 use Rattle.cuboid_cells.specs.declared.cell.Cell.{Cell}
-use Rattle.cuboid_cells.specs.Cells.{CellFits, KeyFits}
+use Rattle.cuboid_cells.specs.Cells.{CellFits}
 use Rattle.cuboid_cells.specs.Merges.{merged}
 use Rattle.cuboid_upkeep.proofs.taking.take_in.Goals as goal
 
@@ -19,9 +19,8 @@ returns-clause-ok c =
     record {
       slot = slot;
       slot_is = c.index.ensures;
-      fits = λ key own. subst (λ used. CellFits (cond used (merged slot cell) cell)) (sym used)
-          (subst (λ (one : Cell). CellFits (merged one cell)) same
-          (merges.fits (subst (λ (one : Cell). KeyFits one.key) (sym same) key)));
+      fits = λ own. subst (λ used. CellFits (cond used (merged slot cell) cell)) (sym used)
+          (subst (λ (one : Cell). CellFits (merged one cell)) same merges.fits);
       is = merges.is
           ∙ ap (λ (one : Cell). slice_set c.args.slots.now.items c.args.place (merged one cell)) same
           ∙ ap (λ used. slice_set c.args.slots.now.items c.args.place (cond used (merged slot cell) cell)) (sym used);

@@ -1,4 +1,4 @@
--- Where a fact row is. Lines of a file and batches count from 1; a batch has 65,536 lines. Our own.
+-- Where the fact rows of a batch are. Lines of a file and batches count from 1; a batch has 65,536 lines. Our own.
 use Rattle.std.specs.Prelude.{ℕ, ◌+◌, ◌-◌, ◌/◌, Option, Some, None}
 use Rattle.cube_model.specs.declared.fault.Fault.{Fault}
 use Rattle.cube_model.specs.declared.fault.Fault.TheVariants.{ReservedMember, TooManyMembers}

@@ -1,10 +1,10 @@
 //! A dimension row that breaks a rule of its table.
-use crate::quoted::Quoted;
-use crate::refusals::row_limits;
+use cube_model::limits::{MOST_DAYS, MOST_DIMENSION_ROWS};
 use cube_model::{Attr, Axis, DimRows, Fault, MemberPlace};
 use dimensions::Dims;
 use std::alloc::Global;
 use std::fmt;
+use table_hints::Quoted;
 
 /// The rule that dimension rows break, as one line without its end: of which line, and what is wrong there. The rows
 /// are those of the file of the fault's dimension, of which the name is given, and come after those of a warehouse, if
@@ -31,6 +31,14 @@ pub fn rows_hint(
         Fault::TooManyRows => row_limits(alloc, ""),
         _ => Ok(None),
     }
+}
+
+// How many rows the dimension tables have at most, after some words.
+fn row_limits(alloc: Global, words: &str) -> Result<Option<String>, Fault> {
+    let said = format!(in alloc;
+        "{words}a customer, supplier or part table has at most {MOST_DIMENSION_ROWS} rows, and a date table {MOST_DAYS}"
+    )?;
+    Ok(Some(said))
 }
 
 fn reserved(alloc: Global, path: &str, row: u32) -> Result<Option<String>, Fault> {
@@ -82,63 +90,25 @@ fn key_at(rows: &DimRows, axis: Axis, place: usize) -> Option<u32> {
     }
 }
 
-/// Two levels of a dimension, the lower and the upper one.
-#[derive(Clone, Copy)]
-struct Step {
-    lower: Attr,
-    upper: Attr,
-}
-
-static CUSTOMERS: [Step; 2] = [
-    Step {
-        lower: Attr::CustomerCity,
-        upper: Attr::CustomerNation,
-    },
-    Step {
-        lower: Attr::CustomerNation,
-        upper: Attr::CustomerRegion,
-    },
-];
-
-static SUPPLIERS: [Step; 2] = [
-    Step {
-        lower: Attr::SupplierCity,
-        upper: Attr::SupplierNation,
-    },
-    Step {
-        lower: Attr::SupplierNation,
-        upper: Attr::SupplierRegion,
-    },
-];
-
-static PRODUCTS: [Step; 2] = [
-    Step {
-        lower: Attr::PartBrand1,
-        upper: Attr::PartCategory,
-    },
-    Step {
-        lower: Attr::PartCategory,
-        upper: Attr::PartMfgr,
-    },
-];
-
-static DAYS: [Step; 2] = [
-    Step {
-        lower: Attr::DateYearmonthnum,
-        upper: Attr::DateYear,
-    },
-    Step {
-        lower: Attr::DateYearmonthnum,
-        upper: Attr::DateYearmonth,
-    },
-];
-
-fn steps(axis: Axis) -> &'static [Step; 2] {
+// The lower and the upper attribute of each two levels of a dimension of which one determines the other.
+fn steps(axis: Axis) -> [(Attr, Attr); 2] {
     match axis {
-        Axis::Customer => &CUSTOMERS,
-        Axis::Supplier => &SUPPLIERS,
-        Axis::Part => &PRODUCTS,
-        Axis::Date => &DAYS,
+        Axis::Customer => [
+            (Attr::CustomerCity, Attr::CustomerNation),
+            (Attr::CustomerNation, Attr::CustomerRegion),
+        ],
+        Axis::Supplier => [
+            (Attr::SupplierCity, Attr::SupplierNation),
+            (Attr::SupplierNation, Attr::SupplierRegion),
+        ],
+        Axis::Part => [
+            (Attr::PartBrand1, Attr::PartCategory),
+            (Attr::PartCategory, Attr::PartMfgr),
+        ],
+        Axis::Date => [
+            (Attr::DateYearmonthnum, Attr::DateYear),
+            (Attr::DateYearmonthnum, Attr::DateYearmonth),
+        ],
     }
 }
 
@@ -195,17 +165,17 @@ struct Link<'a> {
 }
 
 // The members of a row of the two levels of a step.
-fn link_at<'a>(rows: &'a DimRows, step: &Step, place: usize) -> Option<Link<'a>> {
+fn link_at<'a>(rows: &'a DimRows, step: (Attr, Attr), place: usize) -> Option<Link<'a>> {
     Some(Link {
-        lower: member_at(rows, step.lower, place)?,
-        upper: member_at(rows, step.upper, place)?,
+        lower: member_at(rows, step.0, place)?,
+        upper: member_at(rows, step.1, place)?,
     })
 }
 
 // The upper member in another row of a lower member, where that is another one.
 fn other_upper<'a>(
     rows: &'a DimRows,
-    step: &Step,
+    step: (Attr, Attr),
     place: usize,
     link: &Link<'_>,
 ) -> Option<&'a [u8]> {
@@ -215,10 +185,15 @@ fn other_upper<'a>(
 }
 
 // The upper member in the warehouse of a lower member, where that is another one.
-fn stored_upper<'d>(dims: &'d Dims, axis: Axis, step: &Step, link: &Link<'_>) -> Option<&'d [u8]> {
+fn stored_upper<'d>(
+    dims: &'d Dims,
+    axis: Axis,
+    step: (Attr, Attr),
+    link: &Link<'_>,
+) -> Option<&'d [u8]> {
     for key in dims.keys(axis) {
-        let own = dims.attribute(axis, *key, step.lower)?;
-        let other = dims.attribute(axis, *key, step.upper)?;
+        let own = dims.attribute(axis, *key, step.0)?;
+        let other = dims.attribute(axis, *key, step.1)?;
         if *own == *link.lower.text && *other != *link.upper.text {
             return Some(other);
         }

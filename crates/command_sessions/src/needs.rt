@@ -1,5 +1,4 @@
 //! How much room a load needs, about.
-use crate::loads::Cut;
 
 /// The bytes of a segment apart from its rows, about.
 const SEGMENT_BYTES: u64 = 200;
@@ -20,7 +19,17 @@ const CATALOGUE_BYTES: u64 = 140;
 const BATCH_BYTES: u64 = 20;
 
 /// The bytes of a sector.
-const SECTOR_BYTES: u64 = 512;
+pub(crate) const SECTOR_BYTES: u64 = 512;
+
+/// The bytes of a cell of a cuboid without its ship mode, about.
+pub(crate) const CELL_BYTES: u64 = 160;
+
+/// How a load cuts a file into batches: the number of the first, and the rows of each.
+#[derive(Clone, Copy, PartialEq, Eq)]
+pub struct Cut {
+    pub first: u32,
+    pub rows: u32,
+}
 
 /// The sectors that a load needs, about.
 #[derive(Clone, Copy, PartialEq, Eq)]
