@@ -1,9 +1,11 @@
 //! Tests of `cube_model`: the definitions at outside examples, as theorems that compute, the limits of queries, and
 //! printed faults. And of `wire`, `batch_loader` and `table_generator`: numbers as bytes, and the texts of the tables:
-//! what is read, lines cut at each place, readers that fail, and tables that are generated. And of
-//! `command_files`: what is said after a refusal that no page shows.
+//! what is read, the names of columns, lines cut at each place, readers that fail, and tables that are generated. And
+//! of `command_files`: what is said after a refusal that no page shows.
 #![tactic(auto)]
 
+#[cfg(test)]
+mod column_names;
 #[cfg(test)]
 mod cut_lines;
 #[cfg(test)]
