@@ -9,7 +9,6 @@ mod ProjectingLemmas
 mod ReadingLemmas
 mod Parts
 mod Passes
-mod OneColumn
 mod Shared
 mod BatchLemmas
 mod Totals

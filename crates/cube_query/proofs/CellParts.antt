@@ -23,7 +23,7 @@ use Rattle.group_tallies.specs.Slots.{slot_of}
 use Rattle.group_tallies.specs.Tallies.{merged_tally}
 use Rattle.group_tallies.specs.declared.tally.Tally.{Tally}
 use Rattle.cube_query.proofs.CellMerges.{after-count, after-size}
-use Rattle.cube_query.proofs.CellSlots.{cell_slots-length}
+use Rattle.cube_query.proofs.CellSlotsLemmas.{cell_slots-length}
 use Rattle.group_tallies.proofs.Marking.{AreGroupSlots-keep}
 
 -- ---- one part after another

@@ -3,7 +3,7 @@ pub mod Choosing
 pub mod RunningLemmas
 pub mod Known
 mod CellMerges
-mod CellSlots
+mod CellSlotsLemmas
 mod CellParts
 mod CellRunsLemmas
 mod WholeBatchLemmas

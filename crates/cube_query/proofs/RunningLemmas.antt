@@ -86,7 +86,7 @@ use Rattle.cube_query.specs.CellTallies.{SlotsAreBelow, GroupsHaveRoomFor, HasRo
 use Rattle.cube_query.proofs.CellGroups.{AreApart, cells_are_rows, counts-rows, sizes-rows, slot_by, slotted-filter}
 use Rattle.cube_query.proofs.CellGroups.{tally_over}
 use Rattle.cube_query.proofs.CellMerges.{all_untouched}
-use Rattle.cube_query.proofs.CellSlots.{cell_slots-length}
+use Rattle.cube_query.proofs.CellSlotsLemmas.{cell_slots-length}
 use Rattle.cube_query.proofs.RowSlots.{HasSlot}
 use Rattle.cube_query.proofs.Wanted.{leaves_none, slots_for, slots_for-length, wanted_slot, with_wanted}
 use Rattle.cube_model.specs.declared.measure.Measure.TheVariants as measures

@@ -15,7 +15,7 @@ use group_plan::{Bounds, FactRows, GroupPlanOver};
 use std::alloc::{AllocError, Global};
 use std::marker::Model;
 
-/// Some rows of a batch, of which no row is made, by their places there. Contracts see the list of the rows.
+/// Some rows of a batch by a selection vector: their places there. No row is made. Contracts see the list of the rows.
 #[derive(Drop)]
 pub struct ChosenRows<'a> {
     rows: ColumnRows<'a>,

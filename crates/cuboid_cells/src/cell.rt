@@ -17,7 +17,7 @@ pub struct Cell {
 }
 
 impl Cell {
-    /// The cell of its rows and of other rows, whose cell has its key. Nothing where a number would pass its type.
+    /// The cell of its rows and of other rows, whose cell has its key. Nothing where a number would exceed its type.
     #[inline(always)]
     pub fn merged(self, other: &Cell) -> Option<Cell>
         ensures some { IfSome result (λ both. both ≡ merged self other.now) }

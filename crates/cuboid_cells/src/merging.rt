@@ -48,7 +48,7 @@ pub(crate) fn merge_cells(
     Ok(cells)
 }
 
-// The next cell of the merge of two lists, if either has one. `BadLayout` where a number would pass its type.
+// The next cell of the merge of two lists, if either has one. `BadLayout` where a number would exceed its type.
 #[inline(always)]
 fn next_step<'a>(one: &'a [Cell], other: &'a [Cell]) -> Result<Option<Step<'a>>, Fault>
     ensures step { IfOk result

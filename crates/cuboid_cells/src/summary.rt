@@ -12,7 +12,7 @@ pub struct Summary {
 }
 
 impl Summary {
-    /// Takes in what is kept of other rows. False where the sum would pass its type; what it is then is not said.
+    /// Takes in what is kept of other rows. False where the sum would exceed its type; what it is then is not said.
     #[inline(always)]
     pub fn merge_in(&mut self, other: &Summary) -> bool
         ensures ok { IsTrue result → self.new ≡ merged_summary self.old other.now }
@@ -43,7 +43,7 @@ pub struct Summaries {
 }
 
 impl Summaries {
-    /// Takes in those of other rows. False where a sum would pass its type; what they are then is not said.
+    /// Takes in those of other rows. False where a sum would exceed its type; what they are then is not said.
     #[inline(always)]
     pub fn merge_in(&mut self, other: &Summaries) -> bool
         ensures ok { IsTrue result → self.new ≡ merged_summaries self.old other.now }

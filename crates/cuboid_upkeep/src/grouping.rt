@@ -68,7 +68,7 @@ fn take_in_rows<F: FactRows>(
 }
 
 // Takes a cell in: that of its key becomes the merge of both, and a new key comes after all others. `BadLayout` where a
-// number would pass its type.
+// number would exceed its type.
 fn take_in(numbers: &mut IndexSet<u128>, cells: &mut Vec<Cell>, cell: Cell) -> Result<(), Fault>
     requires { AreKeyed numbers.old.keys cells.old.items }
     ensures keyed { OnOk result (AreKeyed numbers.new.keys cells.new.items) }

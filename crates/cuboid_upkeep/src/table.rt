@@ -101,7 +101,7 @@ impl CellTable {
         })
     }
 
-    // Takes fact rows in. `BadLayout` where a row has not its members, or a number would pass its type. Whatever the
+    // Takes fact rows in. `BadLayout` where a row has not its members, or a number would exceed its type. Whatever the
     // ship modes are, since the view does not group by them.
     pub(crate) fn add_rows<F: FactRows>(
         &mut self,

@@ -8,7 +8,7 @@ use cube_model::Fault;
 use cuboid_cells::Cell;
 
 // Takes a cell in at a place: a free slot gets it, and a cell in use becomes the merge of both. `BadLayout` where a
-// number would pass its type; what is at the place is then not said.
+// number would exceed its type; what is at the place is then not said.
 #[inline(always)]
 pub(crate) fn take_in(slots: &mut Vec<Cell>, place: usize, cell: &Cell) -> Result<(), Fault>
     requires { place < length slots.old.items }

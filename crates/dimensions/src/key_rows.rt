@@ -20,7 +20,7 @@ const WIDTH_SPARED: usize = 65536;
 /// Distinct keys in the order of their rows. Contracts see it as the list of the keys.
 ///
 /// The row index of a key is computed where the keys are consecutive from the first. It is read in a table of entries
-/// where `of` or `densify` found that they lie close together, and looked up by hash elsewhere.
+/// where `of` or `densify` found that they lie close together, and in a hash table elsewhere.
 #[derive(Drop)]
 pub struct Keys {
     keys: Vec<u32>,
@@ -34,7 +34,7 @@ enum Lookup {
     Consecutive { first: u32 },
     // It is read in its entry: there is one for each number from a first key on.
     Direct { first: u32, entries: Vec<u32> },
-    // It is looked up by hash.
+    // It is found in a hash table.
     Hashed(HashMap<u32, u32>),
 }
 
@@ -127,7 +127,7 @@ impl Keys {
         }
     }
 
-    /// Finds the row indexes in entries from now on, if they were looked up by hash and the keys lie close together. It
+    /// Finds the row indexes in entries from now on, if they were in a hash table and the keys lie close together. It
     /// can only fail when out of memory.
     pub fn densify(&mut self, alloc: Global) -> Result<(), Fault>
         ensures keys { self.new ≡ self.old }
@@ -260,7 +260,7 @@ impl Lookup {
     }
 }
 
-// The first row of each key of a list, by hash. It can only fail when out of memory.
+// The first row of each key of a list, in a hash table. It can only fail when out of memory.
 fn hashed(alloc: Global, keys: &[u32]) -> Result<HashMap<u32, u32>, AllocError>
     requires few { length keys.now < 2 ^ 32 }
     ensures { IfOk result (λ rows. AreRowIndexes (get nat_eq rows) keys.now) }

@@ -4,7 +4,7 @@ use Rattle.std.proofs.Common.{◌∷◌, length, take, get_or, refl, add-one, sy
 use Rattle.sector_device.specs.Device.{Image, CandidatesStay, HasRun}
 use Rattle.sector_device.proofs.WriteRuns.{stays_then}
 use Rattle.sector_device.proofs.CallerLemmas.{length-chunks, chunk_at}
-use Rattle.file_device.specs.History.{reads_after, IsHonest, file_state}
+use Rattle.file_device.specs.History.{reads_after, HasKeptWord, file_state}
 use Rattle.file_device.specs.Runs.{sectors_in, with_reads}
 use Rattle.file_device.specs.declared.event.Event.{Event}
 use Rattle.file_device.specs.declared.event.Event.TheVariants.{Read}
@@ -29,34 +29,34 @@ noted first sectors k start so_far lt is =
     ∙ ap (λ (n : ℕ). with_reads first (take n sectors) start) (sym (add-one k))
 
 module _ (start : Image) where
-  honest-before : (first : ℕ) (sectors : List (List ℕ)) (events : List Event)
-      → IsHonest start (with_reads first sectors events) → IsHonest start events
-  honest-before first [] events honest = honest
-  honest-before first (b ∷ others) events honest = (honest-before (suc first) others (Read first b ∷ events) honest).1
+  kept-before : (first : ℕ) (sectors : List (List ℕ)) (events : List Event)
+      → HasKeptWord start (with_reads first sectors events) → HasKeptWord start events
+  kept-before first [] events kept = kept
+  kept-before first (b ∷ others) events kept = (kept-before (suc first) others (Read first b ∷ events) kept).1
 
   are_before : (first : ℕ) (sectors : List (List ℕ)) (events : List Event)
-      → IsHonest start (with_reads first sectors events) → (k : ℕ) → k < length sectors
+      → HasKeptWord start (with_reads first sectors events) → (k : ℕ) → k < length sectors
       → get_or sectors k [] ≡ reads_after start events (first + k)
-  are_before first [] events honest k lt = absurd (omega (arith, lt))
-  are_before first (b ∷ others) events honest zero lt =
-      (honest-before (suc first) others (Read first b ∷ events) honest).0 ∙ ap (reads_after start events) (omega arith)
-  are_before first (b ∷ others) events honest (suc k) lt =
-      are_before (suc first) others (Read first b ∷ events) honest k (omega (arith, lt))
+  are_before first [] events kept k lt = absurd (omega (arith, lt))
+  are_before first (b ∷ others) events kept zero lt =
+      (kept-before (suc first) others (Read first b ∷ events) kept).0 ∙ ap (reads_after start events) (omega arith)
+  are_before first (b ∷ others) events kept (suc k) lt =
+      are_before (suc first) others (Read first b ∷ events) kept k (omega (arith, lt))
       ∙ ap (reads_after start events) (omega arith)
 
-  -- the file was honest before a run was read
-  pub honest_if_run_read : {T E : Type 0} (r : Result T E) (first : ℕ) (sectors : List (List ℕ)) (old new : List Event)
-      → MatchResult r (λ _. new ≡ with_reads first sectors old) (λ _. new ≡ old) → IsHonest start new
-      → IsHonest start old
-  honest_if_run_read (Ok x) first sectors old new is honest =
-      honest-before first sectors old (subst (IsHonest start) is honest)
-  honest_if_run_read (Err e) first sectors old new is honest = subst (IsHonest start) is honest
+  -- the file had kept its word before a run was read
+  pub kept_if_run_read : {T E : Type 0} (r : Result T E) (first : ℕ) (sectors : List (List ℕ)) (old new : List Event)
+      → MatchResult r (λ _. new ≡ with_reads first sectors old) (λ _. new ≡ old) → HasKeptWord start new
+      → HasKeptWord start old
+  kept_if_run_read (Ok x) first sectors old new is kept =
+      kept-before first sectors old (subst (HasKeptWord start) is kept)
+  kept_if_run_read (Err e) first sectors old new is kept = subst (HasKeptWord start) is kept
 
   has_read : (first : ℕ) (bytes : List ℕ) (events : List Event)
-      → IsHonest start (with_reads first (sectors_in bytes) events) → HasRun (reads_after start events) first bytes
-  has_read first bytes events honest k lt =
+      → HasKeptWord start (with_reads first (sectors_in bytes) events) → HasRun (reads_after start events) first bytes
+  has_read first bytes events kept k lt =
       sym (chunk_at (length bytes / 512) k bytes lt)
-      ∙ are_before first (sectors_in bytes) events honest k
+      ∙ are_before first (sectors_in bytes) events kept k
       (omega (arith, lt, length-chunks (length bytes / 512) bytes))
 
   -- a run that was read is what reads give
@@ -64,9 +64,9 @@ module _ (start : Image) where
       (old new : List Event)
       → is_ok r ≡ is_ok outcome
       → MatchResult outcome (λ _. new ≡ with_reads first (sectors_in bytes) old) (λ _. new ≡ old)
-      → OnOk r (IsHonest start new → HasRun (reads_after start old) first bytes)
+      → OnOk r (HasKeptWord start new → HasRun (reads_after start old) first bytes)
   run_if_read (Ok x) (Ok y) first bytes old new same is =
-      λ honest. has_read first bytes old (subst (IsHonest start) is honest)
+      λ kept. has_read first bytes old (subst (HasKeptWord start) is kept)
   run_if_read (Ok x) (Err e) first bytes old new same is = absurd (true≢false same)
   run_if_read (Err e) outcome first bytes old new same is = tt
 

@@ -6,7 +6,7 @@ use Rattle.std.proofs.Common.{arith}
 use Rattle.sector_device.specs.Device.{Image, WritesSector, WritesWithin, HasRun, IsInRun}
 use Rattle.sector_device.proofs.WriteRuns.{none_written, one_written, within_then}
 use Rattle.sector_device.proofs.CallerLemmas.{length-chunks, chunk_at}
-use Rattle.file_device.specs.History.{reads_after, IsHonest, file_state}
+use Rattle.file_device.specs.History.{reads_after, HasKeptWord, file_state}
 use Rattle.file_device.specs.Laws.{file_only_now}
 use Rattle.file_device.specs.Runs.{sectors_in, with_writes}
 use Rattle.file_device.specs.declared.event.Event.{Event}
@@ -33,17 +33,17 @@ noted_write first sectors ok k start so_far lt is =
     ∙ ap (λ (n : ℕ). with_writes first (take n sectors) ok start) (sym (add-one k))
 
 module _ (start : Image) where
-  honest_below : (first : ℕ) (sectors : List (List ℕ)) (ok : Bool) (events : List Event)
-      → IsHonest start (with_writes first sectors ok events) → IsHonest start events
-  honest_below first [] ok events honest = honest
-  honest_below first (b ∷ others) ok events honest =
-      (honest_below (suc first) others ok (Written first b ok ∷ events) honest).1
+  kept_below : (first : ℕ) (sectors : List (List ℕ)) (ok : Bool) (events : List Event)
+      → HasKeptWord start (with_writes first sectors ok events) → HasKeptWord start events
+  kept_below first [] ok events kept = kept
+  kept_below first (b ∷ others) ok events kept =
+      (kept_below (suc first) others ok (Written first b ok ∷ events) kept).1
 
-  -- the file was honest before neighbouring sectors were written
-  pub honest_written : (first : ℕ) (sectors : List (List ℕ)) (ok : Bool) (old new : List Event)
-      → new ≡ with_writes first sectors ok old → IsHonest start new → IsHonest start old
-  honest_written first sectors ok old new is honest =
-      honest_below first sectors ok old (subst (IsHonest start) is honest)
+  -- the file had kept its word before neighbouring sectors were written
+  pub kept_if_written : (first : ℕ) (sectors : List (List ℕ)) (ok : Bool) (old new : List Event)
+      → new ≡ with_writes first sectors ok old → HasKeptWord start new → HasKeptWord start old
+  kept_if_written first sectors ok old new is kept =
+      kept_below first sectors ok old (subst (HasKeptWord start) is kept)
 
   written_reads : (events : List Event) (i : ℕ) (bytes : List ℕ) → reads_after start (Written i bytes true ∷ events) i
       ≡ bytes

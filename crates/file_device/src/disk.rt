@@ -10,9 +10,8 @@ use sector_device::{DeviceError, Sectors};
 use std::io;
 use std::marker::PhantomData;
 
-/// A file of whole sectors. It keeps its word as long as the record of its calls is that of an honest file:
-/// each read gave what was written there last. After a failed write or sync it fails each call until it is
-/// opened anew.
+/// A file of whole sectors. It keeps its word as long as each read in the record of its calls gave what was written
+/// there last. After a failed write or sync it fails each call until it is opened anew.
 ///
 /// Each read, write or sync makes one call of the file, also one of neighbouring sectors, and takes no memory.
 ///

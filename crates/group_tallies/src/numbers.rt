@@ -9,7 +9,7 @@ use std::marker::Model;
 
 /// Numbers in the order of their first sight, each once, fewer than 2^32. Contracts see it as the list of them.
 ///
-/// A number is found by its hash, in the same time among few and among many.
+/// A number is found in a hash table, in the same time among few and among many.
 #[derive(Drop)]
 pub struct Numbers {
     seen: IndexSet<u128>,

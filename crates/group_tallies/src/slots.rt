@@ -12,15 +12,16 @@ const MOST_FROM_THE_START: u128 = 65_536;
 /// Up to how many numbers a table tells their slots: one of 16 megabytes.
 const MOST_IN_A_TABLE: u128 = 4_194_304;
 
-/// Which slot the number of a group has.
+/// Which slot the number of a group has. The number is made of the codes of its members, so that no two groups have the
+/// same one: it is a perfect hash of the group.
 #[derive(Drop)]
 pub enum Slots {
-    /// Each number below the count, from the start, in the slot with that number.
+    /// Each number below the count has the slot with that number, from the start.
     Direct(u32),
-    /// The numbers that were seen, of those below a bound: the place of each in the order of their first sight is its
-    /// slot.
+    /// The numbers that were seen, of those below a bound, in a table with an entry for each that may come. The place
+    /// of each in the order of their first sight is its slot.
     Below(PlaceTable),
-    /// The same with no bound.
+    /// The same with no bound, in a hash table.
     Seen(Numbers),
 }
 

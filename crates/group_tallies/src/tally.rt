@@ -13,7 +13,7 @@ use cube_model::{Agg, Amount, Value};
 /// The least count that a tally does not hold. A sum fits where its absolute value is less.
 pub const LIMIT: u64 = 1 << 63;
 
-/// A count or a sum would pass its type.
+/// A count or a sum would exceed its type.
 #[derive(Clone, Copy, PartialEq, Eq)]
 pub struct TooLarge;
 

@@ -1,6 +1,6 @@
 mod Adding
 mod CellPartsLemmas
-mod CellParts
+mod OneCellMore
 mod Chosen
 pub mod Counted
 mod Divides

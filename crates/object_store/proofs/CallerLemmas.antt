@@ -8,7 +8,7 @@ use Rattle.std.proofs.lemmas.List.Kept.{AllPairs-cons}
 use Rattle.wire.specs.Limits.{most_object_bytes}
 use Rattle.sector_device.specs.declared.device.Sectors.{Ghosts}
 use Rattle.sector_device.specs.Device.{Image, IsImage}
-use Rattle.sector_device.specs.Moments.{leaves_also}
+use Rattle.sector_device.proofs.Moments.{leaves_also}
 use Rattle.superblock.specs.declared.superblock.Super.{Super}
 use Rattle.superblock.specs.Superblock.{IsSuperblock}
 use Rattle.object_store.specs.declared.catalogue.entry.Entry.{Entry}

@@ -3,7 +3,7 @@ use Rattle.std.proofs.Common.{◌≡◌, ◌≢◌, ⊎_elim, inl, inr, ℕ, ◌
 use Rattle.std.proofs.Common.{ap, subst, arith}
 use Rattle.std.proofs.lemmas.List.{length-map}
 use Rattle.sector_device.specs.Device.{Image, DeviceState, IsSettled, LeavesOnly}
-use Rattle.sector_device.specs.Moments.{leaves_also}
+use Rattle.sector_device.proofs.Moments.{leaves_also}
 use Rattle.extents.specs.Extents.{SomeHolds}
 use Rattle.superblock.specs.declared.superblock.Super.{Super}
 use Rattle.superblock.specs.Superblock.{IsSuperblock}

@@ -1,7 +1,7 @@
 -- What calls leave of a device, one after another.
 use Rattle.std.proofs.Common.{◌∙◌, ℕ}
 use Rattle.sector_device.specs.declared.device.Sectors.{Ghosts}
-use Rattle.sector_device.specs.Moments.{leaves_also}
+use Rattle.sector_device.proofs.Moments.{leaves_also}
 use Rattle.sector_device.proofs.WriteRuns.{within_more, within_then}
 use Rattle.object_store.specs.Disk.{disk, OnlyImagesOf}
 use Rattle.object_store.specs.DeviceCalls.{WritesDevice, ReadsDevice}

@@ -15,7 +15,7 @@ use Rattle.object_store.specs.Publish.{AreFor, written_by, plan_slot, HasWritten
 use Rattle.object_store.proofs.Extents.{before_apart, one_holds, held_in_range}
 use Rattle.object_store.specs.Frames.{objects_same, bytes_same}
 use Rattle.std.proofs.lemmas.Bool.{cases_eq}
-use Rattle.sector_device.specs.Moments.{goes_on, leaves_also}
+use Rattle.sector_device.proofs.Moments.{goes_on, leaves_also}
 use Rattle.sector_device.proofs.WriteRuns.{synced_within}
 use Rattle.superblock.specs.Superblock.{sector_of}
 use Rattle.object_store.specs.declared.plan.CommitPlan.{CommitPlan}

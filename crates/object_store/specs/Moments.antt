@@ -2,7 +2,7 @@
 use Rattle.std.specs.Prelude.{ℕ, refl}
 use Rattle.std.proofs.Common.{◌∙◌, subst}
 use Rattle.sector_device.specs.Device.{Image, IsImage, LeavesOnly}
-use Rattle.sector_device.specs.Moments.{started, join_runs, leaves_also}
+use Rattle.sector_device.proofs.Moments.{started, join_runs, leaves_also}
 use Rattle.object_store.specs.Content.{Content}
 use Rattle.object_store.specs.Disk.{Disk, Each, AllShow, Passes, Leaves, ShowsSome, OnlyImagesOf}
 

@@ -19,7 +19,7 @@ use Rattle.cube_model.proofs.Ascending.{list_any-ascending}
 use Rattle.cube_model.specs.Keys.{key_cmp}
 use Rattle.cube_model.proofs.KeyOrder.{key_cmp_total, key_cmp-IsAntisymmetric}
 use Rattle.cube_model.specs.Orders.{answer_cmp}
-use Rattle.partial_reports.proofs.MergeLaws.{line_of_key-map, map_some, same_key, same_key-is}
+use Rattle.partial_reports.proofs.AnswerMerges.{line_of_key-map, map_some, same_key, same_key-is}
 use Rattle.partial_reports.proofs.TheOne.{has, has_line, has_merged, merge_is_the_one}
 use Rattle.partial_reports.specs.Merges.{keys_in, line_of_key, merged_line, merged_line_if_any, merged_lines}
 pub use Rattle.partial_reports.proofs.ReadBack.{line_bar, line_lf}

@@ -5,7 +5,7 @@ mod Cutting
 mod FieldsLemmas
 pub mod HeadTexts
 pub mod ReadingLemmas
-pub mod MergeLaws
+pub mod AnswerMerges
 mod NumberTexts
 mod NumbersLeft
 mod HeadReadingLemmas

@@ -9,8 +9,9 @@ use Rattle.cube_model.specs.declared.rows.DimRows.{DimRows}
 use Rattle.cube_model.specs.declared.rows.LineOrder.{LineOrder}
 use Rattle.cube_model.specs.Answers.{answer, keys_among, line_of, rows_of_key}
 use Rattle.ssb_reports.specs.Report.{report_of}
-use Rattle.partial_reports.proofs.MergeLaws.{parts_make_the_answer, has_rows, has_some, or_true, same_key}
-use Rattle.partial_reports.proofs.MergeLaws.{same_key-refl, greatest-append, least-append, total-append, merged-parts}
+use Rattle.partial_reports.proofs.AnswerMerges.{parts_make_the_answer, has_rows, has_some, or_true, same_key}
+use Rattle.partial_reports.proofs.AnswerMerges.{same_key-refl, greatest-append, least-append, total-append}
+use Rattle.partial_reports.proofs.AnswerMerges.{merged-parts}
 use Rattle.partial_reports.proofs.ReadBack.{reports_read_back, decimal_none}
 use Rattle.partial_reports.specs.MergeLawful.{AreReadFrom, MergedReportsAreTheReport, PartialAnswersAreReadable}
 use Rattle.partial_reports.specs.MergeLawful.{PartialAnswersCanBeFinished, NeighboursMayChangePlaces, MergedNumbersFit}

@@ -14,7 +14,7 @@ use Rattle.cube_model.specs.Keys.{key_cmp}
 use Rattle.cube_model.proofs.KeyOrder.{key_cmp_total, key_cmp-IsAntisymmetric}
 use Rattle.cube_model.specs.Orders.{answer_cmp}
 use Rattle.cube_model.proofs.Entries.{IsAscending-unique}
-use Rattle.partial_reports.proofs.MergeLaws.{same_key, same_key-refl}
+use Rattle.partial_reports.proofs.AnswerMerges.{same_key, same_key-refl}
 use Rattle.partial_reports.specs.MergeLawful.{MergeIsTheOne}
 use Rattle.partial_reports.specs.Merges.{keys_in, line_of_key, merged_line_if_any}
 

@@ -9,17 +9,17 @@ use sector_device::{DeviceError, MemDisk, Sectors};
 #[derive(Drop)]
 pub struct Turning {
     inner: Option<MemDisk>,
-    honest: u64,
+    kept_calls: u64,
     calls: u64,
     failures: u64,
 }
 
 impl Turning {
     /// A memory disk for so many calls.
-    pub fn new(inner: MemDisk, honest: u64) -> Turning {
+    pub fn new(inner: MemDisk, kept_calls: u64) -> Turning {
         Turning {
             inner: Some(inner),
-            honest,
+            kept_calls,
             calls: 0,
             failures: 0,
         }
@@ -29,7 +29,7 @@ impl Turning {
     pub fn lying(failures: u64) -> Turning {
         Turning {
             inner: None,
-            honest: 0,
+            kept_calls: 0,
             calls: 0,
             failures,
         }
@@ -40,7 +40,7 @@ impl Turning {
         ensures { CountsFailure result self.old.failures self.new.failures }
     {
         self.calls = self.calls.wrapping_add(1);
-        if self.calls <= self.honest || self.calls % 2 == 0 {
+        if self.calls <= self.kept_calls || self.calls % 2 == 0 {
             return Ok(());
         }
         self.failures = self.failures.saturating_add(1);
@@ -81,7 +81,7 @@ impl Sectors for Turning {
 
     fn read(&mut self, i: u32, to: &mut [u8; 512]) -> Result<(), DeviceError> {
         match &mut self.inner {
-            Some(inner) if self.calls < self.honest && i < inner.count() => {
+            Some(inner) if self.calls < self.kept_calls && i < inner.count() => {
                 let _ = inner.read(i, to);
             }
             _ => *to = [(self.calls % 256) as u8; 512],
@@ -91,7 +91,7 @@ impl Sectors for Turning {
 
     fn write(&mut self, i: u32, from: &[u8; 512]) -> Result<(), DeviceError> {
         match &mut self.inner {
-            Some(inner) if self.calls < self.honest && i < inner.count() => {
+            Some(inner) if self.calls < self.kept_calls && i < inner.count() => {
                 let _ = inner.write(i, from);
             }
             _ => {}

@@ -4,3 +4,4 @@ pub mod MemorySteps
 pub mod PickSteps
 pub mod Runs
 pub mod WriteRuns
+pub mod Moments

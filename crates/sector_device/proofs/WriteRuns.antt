@@ -2,7 +2,7 @@
 use Rattle.std.specs.Prelude.{◌≢◌, ℕ, List, refl}
 use Rattle.std.proofs.Common.{inl, inr, ⊎_elim, sym, ◌∙◌, subst, arith}
 use Rattle.sector_device.specs.Device.{Image, DeviceState, IsImage, CandidatesStay, WritesSector, WritesWithin, Syncs}
-use Rattle.sector_device.specs.Moments.{started, goes_on, join_runs, leaves_also}
+use Rattle.sector_device.proofs.Moments.{started, goes_on, join_runs, leaves_also}
 
 -- before the first write
 pub none_written : (Within : ℕ → Type 0) (s : DeviceState)

@@ -4,5 +4,4 @@ pub mod Fuse
 pub mod MemDisk
 pub mod Memory
 pub mod MemoryLaws
-pub mod Moments
 pub mod Picks

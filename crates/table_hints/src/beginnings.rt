@@ -28,21 +28,16 @@ pub fn beginning_hint(line: &[u8]) -> &'static str {
 
 // The same of a line of text, by what its fields are separated by.
 fn separator_hint(line: &[u8]) -> &'static str {
-    if line.contains(&b'|') {
-        return header_hint(line);
-    }
-    if line.contains(&b'\t') {
-        return "; the file is separated by tabs and not by bars";
-    }
-    if line.contains(&b',') {
-        return "; the file is separated by commas and not by bars";
-    }
-    ""
-}
-
-fn header_hint(line: &[u8]) -> &'static str {
-    match line.first() {
-        Some(byte) if byte.is_ascii_alphabetic() => "; remove the header line",
+    let begins_with_name = matches!(line.first(), Some(byte) if byte.is_ascii_alphabetic());
+    match (
+        line.contains(&b'|'),
+        line.contains(&b'\t'),
+        line.contains(&b','),
+    ) {
+        (true, _, _) if begins_with_name => "; remove the header line",
+        (true, _, _) => "",
+        (_, true, _) => "; the file is separated by tabs and not by bars",
+        (_, _, true) => "; the file is separated by commas and not by bars",
         _ => "",
     }
 }

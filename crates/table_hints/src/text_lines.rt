@@ -6,7 +6,6 @@ use batch_loader::{Column, Table, without_cr};
 use cube_model::limits::{LONGEST_LINE, LONGEST_TEXT};
 use cube_model::{Fault, Place};
 use std::alloc::Global;
-use std::fmt;
 
 /// What is wrong with a line of a table for which the table is refused, as one line without its end. Nothing where the
 /// fault is none of a line. It fails only when out of memory.
@@ -17,119 +16,80 @@ pub fn line_hint(
     line: &[u8],
     fault: Fault,
 ) -> Result<Option<String>, Fault> {
-    let Some((at, wrong)) = wrong_in(table, line, fault) else {
+    let (at, wrong) = match fault {
+        Fault::FieldCount { line: at } => (at, count_hint(alloc, table, line, at)?),
+        Fault::BadNumber { line: at, field } => (at, number_hint(alloc, table, line, at, field)?),
+        Fault::FieldTooLong {
+            place: Place::Line(at),
+            field,
+        } => (at, length_hint(alloc, table, line, field)?),
+        _ => return Ok(None),
+    };
+    let Some(wrong) = wrong else {
         return Ok(None);
     };
     Ok(Some(format!(in alloc; "{path} line {at}: {wrong}")?))
 }
 
-// The number of a line, and what is wrong with it.
-fn wrong_in(table: Table, line: &[u8], fault: Fault) -> Option<(u64, Wrong<'_>)> {
-    match fault {
-        Fault::FieldCount { line: at } => Some((at, wrong_count(table, line, at))),
-        Fault::BadNumber { line: at, field } => Some((at, wrong_number(table, line, at, field)?)),
-        Fault::FieldTooLong {
-            place: Place::Line(at),
-            field: 0,
-        } => Some((at, Wrong::TooLong)),
-        Fault::FieldTooLong {
-            place: Place::Line(at),
-            field,
-        } => Some((at, wrong_length(table, line, field)?)),
-        _ => None,
-    }
-}
-
-// What is wrong with a line. A hint says something of the whole file.
-#[derive(Clone, Copy)]
-enum Wrong<'a> {
-    TooLong,
-    Empty,
-    Blank,
-    Count {
-        table: Table,
-        count: usize,
-        hint: &'static str,
-    },
-    Number {
-        column: &'static str,
-        text: &'a [u8],
-        limit: u64,
-        hint: &'static str,
-    },
-    Length {
-        column: &'static str,
-        length: usize,
-    },
-}
-
-impl fmt::Display for Wrong<'_> {
-    fn fmt<W: fmt::Write>(&self, f: &mut fmt::Formatter<W>) -> fmt::Result {
-        match *self {
-            Wrong::TooLong => write!(f, "more than {LONGEST_LINE} bytes"),
-            Wrong::Empty => write!(f, "the line is empty"),
-            Wrong::Blank => write!(f, "the line is blank"),
-            Wrong::Count { table, count, hint } => write!(
-                f,
-                "a {} line has {} fields, and this one {count}{hint}",
-                table.name(),
-                table.columns().len()
-            ),
-            Wrong::Number {
-                column,
-                text,
-                limit,
-                hint,
-            } => write!(
-                f,
-                "{column} is {}, expected an integer from 0 to {limit}{hint}",
-                Quoted(text)
-            ),
-            Wrong::Length { column, length } => write!(
-                f,
-                "{column} has {length} bytes, and a text has at most {LONGEST_TEXT}"
-            ),
-        }
-    }
-}
-
-fn wrong_count(table: Table, line: &[u8], at: u64) -> Wrong<'_> {
+fn count_hint(alloc: Global, table: Table, line: &[u8], at: u64) -> Result<Option<String>, Fault> {
     let whole = without_cr(line);
     if whole.is_empty() {
-        return Wrong::Empty;
+        return Ok(Some(format!(in alloc; "the line is empty")?));
     }
     if whole.trim_ascii().is_empty() {
-        return Wrong::Blank;
+        return Ok(Some(format!(in alloc; "the line is blank")?));
     }
-    Wrong::Count {
-        table,
-        count: field_count(line),
-        hint: first_hint(line, at),
-    }
+    Ok(Some(format!(in alloc;
+        "a {} line has {} fields, and this one {}{}",
+        table.name(),
+        table.columns().len(),
+        field_count(line),
+        first_hint(line, at)
+    )?))
 }
 
-fn wrong_number(table: Table, line: &[u8], at: u64, number: u8) -> Option<Wrong<'_>> {
-    let place = usize::from(number).checked_sub(1)?;
-    let Column::Number(limit) = *table.columns().get(place)? else {
-        return None;
+fn number_hint(
+    alloc: Global,
+    table: Table,
+    line: &[u8],
+    at: u64,
+    number: u8,
+) -> Result<Option<String>, Fault> {
+    let place = usize::from(number).saturating_sub(1);
+    let (Some(column), Some(Column::Number(limit))) = (
+        table.column_name(number),
+        table.columns().get(place),
+    ) else {
+        return Ok(None);
     };
-    Some(Wrong::Number {
-        column: table.column_name(number)?,
-        text: field(line, number),
-        limit,
-        hint: if number == 1 {
-            first_hint(line, at)
-        } else {
-            ""
-        },
-    })
+    let hint = if number == 1 {
+        first_hint(line, at)
+    } else {
+        ""
+    };
+    Ok(Some(format!(in alloc;
+        "{column} is {}, expected an integer from 0 to {limit}{hint}",
+        Quoted(field(line, number))
+    )?))
 }
 
-fn wrong_length(table: Table, line: &[u8], number: u8) -> Option<Wrong<'_>> {
-    Some(Wrong::Length {
-        column: table.column_name(number)?,
-        length: field(line, number).len(),
-    })
+// The whole line is too long where no field is named.
+fn length_hint(
+    alloc: Global,
+    table: Table,
+    line: &[u8],
+    number: u8,
+) -> Result<Option<String>, Fault> {
+    if number == 0 {
+        return Ok(Some(format!(in alloc; "more than {LONGEST_LINE} bytes")?));
+    }
+    let Some(column) = table.column_name(number) else {
+        return Ok(None);
+    };
+    let length = field(line, number).len();
+    Ok(Some(format!(in alloc;
+        "{column} has {length} bytes, and a text has at most {LONGEST_TEXT}"
+    )?))
 }
 
 // What the first line of a file says of the file. A later line says nothing of it.

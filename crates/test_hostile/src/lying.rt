@@ -16,7 +16,7 @@ use warehouse::{Session, create, open};
 #[derive(Drop)]
 struct Lying {
     inner: MemDisk,
-    honest: u64,
+    kept_calls: u64,
     fails_every: u64,
     calls: u64,
     failures: u64,
@@ -28,7 +28,7 @@ impl Lying {
         ensures { CountsFailure result self.old.failures self.new.failures }
     {
         self.calls = self.calls.wrapping_add(1);
-        if self.calls <= self.honest
+        if self.calls <= self.kept_calls
             || self.fails_every == 0
             || self.calls % self.fails_every != 0
         {
@@ -74,7 +74,7 @@ impl Sectors for Lying {
         if i < self.inner.count() {
             let _ = self.inner.read(i, to);
         }
-        if self.calls >= self.honest {
+        if self.calls >= self.kept_calls {
             let place = (self.calls.wrapping_mul(37) % 512) as usize;
             to[place] ^= 1u8 << (self.calls % 8) as u32;
         }
@@ -180,11 +180,11 @@ fn lived<D: Sectors + Drop>(alloc: Global, made: Result<Session<D>, (Fault, D)>)
 
 /// Whether each call of a creation, a life, an opening and a second life is allowed on a device that gives other bytes
 /// after so many calls, and fails at each of some number.
-fn is_right(alloc: Global, honest: u64, fails_every: u64) -> Result<bool, Fault> {
+fn is_right(alloc: Global, kept_calls: u64, fails_every: u64) -> Result<bool, Fault> {
     let dims = sample_dims(alloc)?;
     let device = Lying {
         inner: MemDisk::new(alloc, 64)?,
-        honest,
+        kept_calls,
         fails_every,
         calls: 0,
         failures: 0,
@@ -199,11 +199,11 @@ const CALLS: u64 = 240;
 
 #[test]
 fn each_call_returns_on_a_device_that_lies(rt: HostRuntime) -> Result<(), Fail> {
-    for honest in 0..CALLS {
+    for kept_calls in 0..CALLS {
         for fails_every in [0, 2, 7, 50] {
             assert!(rt;
-                is_right(rt.alloc(), honest, fails_every)?,
-                "{honest} {fails_every}"
+                is_right(rt.alloc(), kept_calls, fails_every)?,
+                "{kept_calls} {fails_every}"
             );
         }
     }

@@ -14,7 +14,8 @@ use Rattle.warehouse_objects.specs.Represents.{Represents}
 use Rattle.warehouse.specs.declared.session.Session.{Session}
 use Rattle.stored_cuboids.proofs.CallerLemmas.{kept_same}
 use Rattle.warehouse.specs.Found.{IsSince, MayBeFound, MayRepresent, MayRepresentSince}
-use Rattle.warehouse.specs.Session.{IsAt, is_at, disk_of, content_of, has_failed}
+use Rattle.warehouse.specs.Session.{IsAt, disk_of, content_of, has_failed}
+use Rattle.warehouse.proofs.Represented.{is_at}
 
 -- what is shown then is since then
 pub since_then : (start : Disk) (c : Content) (w : Warehouse) → IsShown start c → Represents c w → IsSince start w

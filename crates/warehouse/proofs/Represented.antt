@@ -1,4 +1,4 @@
--- What a session that a call left unchanged represents.
+-- What a session represents that has not failed, or that a call left unchanged.
 use Rattle.std.proofs.Common.{◌≡◌, ℕ, true, false, List, Result, sym, ◌∙◌, subst}
 use Rattle.cube_model.specs.declared.fault.Fault.{Fault}
 use Rattle.cube_model.specs.declared.rows.DimRows.{DimRows}
@@ -8,13 +8,24 @@ use Rattle.warehouse_objects.specs.Reads.{ReadsOnly}
 use Rattle.sector_device.specs.declared.device.Sectors.{Ghosts}
 use Rattle.object_store.specs.Content.{Content}
 use Rattle.object_store.specs.Disk.{Disk, Leaves, disk}
-use Rattle.object_store.specs.Moments.{leaves_weaker}
+use Rattle.object_store.specs.Frames.{always_shows}
+use Rattle.object_store.specs.Moments.{all_weaker, leaves_weaker}
 use Rattle.object_store.specs.Store as stores
 use Rattle.object_store.specs.declared.store.Store.{Store}
 use Rattle.warehouse_objects.specs.Warehouse.{Warehouse}
 use Rattle.warehouse_objects.specs.Represents.{Represents}
 use Rattle.warehouse.specs.declared.session.Session.{Session}
-use Rattle.warehouse.specs.Session.{IsAt, is_at}
+use Rattle.warehouse.specs.Session.{IsAt, content_of, disk_of, has_failed}
+
+-- a session that has not failed is at what its content represents
+pub is_at : {D : Type 0} (g : Ghosts D) (session : Session D g) (w : Warehouse) → has_failed session ≡ false
+    → ((disk_of g session).keeps_word → Represents (content_of g session) w) → IsAt g session w
+is_at g session w fine represents = record {
+  fine = fine;
+  represents = represents;
+  all = all_weaker (λ (c : Content). c ≡ content_of g session) (λ (c : Content). Represents c w) (disk_of g session)
+      (λ k c e. subst (λ (x : Content). Represents x w) (sym e) (represents k)) (always_shows g session.store fine);
+}
 
 module _ {D : Type 0} (g : Ghosts D) (w : Warehouse) where
   pub record StoreAt (store : Store D g) : Type 0 where

@@ -2,7 +2,6 @@
 use Rattle.std.specs.Prelude.{◌≡◌, ◌↔◌, ◌⊎◌, ℕ, ◌+◌, ◌<◌, ◌≤◌, Bool, true, false, None, Some, length}
 use Rattle.std.specs.Prelude.{List}
 use Rattle.std.specs.Prelude.{[]}
-use Rattle.std.proofs.Common.{sym, subst}
 use Rattle.sector_device.specs.declared.device.Sectors.{Ghosts}
 use Rattle.cube_model.specs.declared.fault.Fault.{Fault}
 use Rattle.cube_model.specs.declared.fault.Fault.TheVariants.{BadQuery, Device, Failed, Memory, NoSuchPrefix}
@@ -13,8 +12,6 @@ use Rattle.cube_model.specs.Proper.{IsProper}
 use Rattle.warehouse_root.specs.Root as roots
 use Rattle.object_store.specs.Content.{Content}
 use Rattle.object_store.specs.Disk.{Disk, AllShow}
-use Rattle.object_store.specs.Frames.{always_shows}
-use Rattle.object_store.specs.Moments.{all_weaker}
 use Rattle.object_store.specs.Room.{Room}
 use Rattle.object_store.specs.Store as stores
 use Rattle.stored_rows.specs.Added.{widened, widening_puts}
@@ -110,13 +107,3 @@ IsAsked w as_of query = IsAskable (IsProper query) w as_of
 
 abbrev pub QueryRefuses : Warehouse → ℕ → Query → Fault → Type 0
 QueryRefuses w as_of query fault = AskingRefuses (IsProper query) w as_of fault
-
--- a session that has not failed is at what its content represents
-pub is_at : {D : Type 0} (g : Ghosts D) (session : Session D g) (w : Warehouse) → has_failed session ≡ false
-    → ((disk_of g session).keeps_word → Represents (content_of g session) w) → IsAt g session w
-is_at g session w fine represents = record {
-  fine = fine;
-  represents = represents;
-  all = all_weaker (λ (c : Content). c ≡ content_of g session) (λ (c : Content). Represents c w) (disk_of g session)
-      (λ k c e. subst (λ (x : Content). Represents x w) (sym e) (represents k)) (always_shows g session.store fine);
-}

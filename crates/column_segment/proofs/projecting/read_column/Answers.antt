@@ -1,6 +1,6 @@
 use Rattle.std.proofs.Common.{◌≡◌, ◌+◌, ◌*◌, ◌<◌, ℕ, List, slice_index, sym, subst, ◌∙◌, true≢false}
 use Rattle.column_segment.specs.Projected.{StaysOutside, fact_place, width_of}
-use Rattle.column_segment.proofs.OneColumn.{fits_shared, shares, still_shares}
+use Rattle.column_segment.proofs.ProjectingLemmas.{fits_shared, shares, still_shares}
 use Rattle.column_segment.proofs.projecting.read_column.Goals as goal
 
 pub returns-clause-found : goal.returns-clause-found

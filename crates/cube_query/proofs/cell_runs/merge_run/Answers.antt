@@ -13,7 +13,7 @@ use Rattle.group_plan.specs.Numbers.{group_count}
 use Rattle.cube_query.specs.CellSlots.{AreMergedIn, HaveNoRepresentative}
 use Rattle.cube_query.specs.CellTallies.{GroupsHaveRoomFor}
 use Rattle.group_tallies.specs.Slots.{entries_of, Grow}
-use Rattle.cube_query.proofs.CellSlots.{none_yet}
+use Rattle.cube_query.proofs.CellSlotsLemmas.{none_yet}
 use Rattle.group_tallies.proofs.Placing.{Grow-same}
 use Rattle.cube_query.proofs.CellRunsLemmas.{ran_later, ran_own, ran_stays, run_done, run_more, run_refused}
 use Rattle.cube_query.proofs.cell_runs.merge_run.Goals as goal

@@ -13,7 +13,7 @@ use Rattle.group_tallies.specs.declared.slots.Slots.{Slots}
 use Rattle.group_tallies.specs.declared.tally.Tally.{Tally}
 use Rattle.group_tallies.proofs.Placing.{Grow-same}
 use Rattle.cube_query.proofs.CellMerges.{no_cell}
-use Rattle.cube_query.proofs.CellSlots.{none_yet, one_more, rooms_next}
+use Rattle.cube_query.proofs.CellSlotsLemmas.{none_yet, one_more, rooms_next}
 use Rattle.cube_query.proofs.cell_slots.merge_cells.Goals as goal
 
 -- what is so after the last of fewer slots is so after the last of more

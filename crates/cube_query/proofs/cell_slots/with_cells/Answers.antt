@@ -9,7 +9,7 @@ use Rattle.group_tallies.specs.Slots.{entries_of, Grow}
 use Rattle.group_tallies.specs.declared.slots.Slots.{Slots}
 use Rattle.group_tallies.specs.declared.tally.Tally.{Tally}
 use Rattle.cube_query.proofs.CellMerges.{as_many}
-use Rattle.cube_query.proofs.CellSlots.{rooms_of_copy}
+use Rattle.cube_query.proofs.CellSlotsLemmas.{rooms_of_copy}
 use Rattle.group_tallies.proofs.Placing.{Grow-same}
 use Rattle.cube_query.proofs.cell_slots.with_cells.Goals as goal
 

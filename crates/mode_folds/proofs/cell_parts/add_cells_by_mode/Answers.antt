@@ -14,7 +14,7 @@ use Rattle.mode_folds.specs.Celling.{AreCellParts, cells_at}
 use Rattle.mode_folds.specs.Parts.{RepresentByMode}
 use Rattle.mode_folds.proofs.CellPartsLemmas.{all_represented, all_taken, one_place_more, own_part, part_represents}
 use Rattle.mode_folds.proofs.CellPartsLemmas.{place_foldable, rows_at, rows_before}
-use Rattle.mode_folds.proofs.CellParts.{part_at}
+use Rattle.mode_folds.proofs.OneCellMore.{part_at}
 use Rattle.mode_folds.proofs.Chosen.{kept_proper}
 use Rattle.mode_folds.proofs.cell_parts.add_cells_by_mode.Goals as goal
 

@@ -1,6 +1,6 @@
 use Rattle.std.proofs.Common.{sym, subst, take}
 use Rattle.std.proofs.lemmas.List.{take_more}
-use Rattle.mode_folds.proofs.CellParts.{no_cells}
+use Rattle.mode_folds.proofs.OneCellMore.{no_cells}
 use Rattle.mode_folds.specs.Celling.{AreCellParts}
 use Rattle.mode_folds.proofs.celling.divided_cells.Goals as goal
 

@@ -1,5 +1,5 @@
 use Rattle.std.proofs.Common.{◌∙◌, ◌<◌, ◌++◌, ◌∷◌, [], ap, arith, length}
-use Rattle.mode_folds.proofs.CellParts.{left_out, put}
+use Rattle.mode_folds.proofs.OneCellMore.{left_out, put}
 use Rattle.mode_folds.proofs.celling.put_cell.Goals as goal
 
 pub returns-in_ok-push : goal.returns-in_ok-push

@@ -1,5 +1,5 @@
 use Rattle.std.proofs.Common.{inr, ℕ, [], subst}
-use Rattle.sector_device.specs.Moments.{leaves_also}
+use Rattle.sector_device.proofs.Moments.{leaves_also}
 use Rattle.object_store.specs.Commit.{puts_of}
 use Rattle.object_store.specs.Publish.{IsPlanForPuts}
 use Rattle.object_store.proofs.CreateLemmas.{few_first, ready_created, content_created, either_shows}

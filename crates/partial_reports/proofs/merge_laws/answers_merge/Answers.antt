@@ -1,4 +1,4 @@
-use Rattle.partial_reports.proofs.MergeLaws.{answers_merge}
+use Rattle.partial_reports.proofs.AnswerMerges.{answers_merge}
 use Rattle.partial_reports.proofs.merge_laws.answers_merge.Goals as goal
 
 pub returns : goal.returns

@@ -1,6 +1,6 @@
 use Rattle.report_merge.proofs.LawsLemmas.{merged_texts_can_be_finished}
 use Rattle.partial_reports.proofs.HeadTexts.{heads_read_back}
-use Rattle.partial_reports.proofs.MergeLaws.{answers_merge, partial_answers_suffice}
+use Rattle.partial_reports.proofs.AnswerMerges.{answers_merge, partial_answers_suffice}
 use Rattle.partial_reports.proofs.MergeLawsLemmas.{partial_answers_can_be_finished}
 use Rattle.partial_reports.proofs.ReadBack.{reports_read_back}
 use Rattle.query_words.proofs.Once.{spell_one_query}

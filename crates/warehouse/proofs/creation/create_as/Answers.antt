@@ -2,7 +2,7 @@ use Rattle.std.proofs.Common.{ℕ, List, sym, subst}
 use Rattle.object_store.specs.Store.{content_of}
 use Rattle.warehouse_objects.specs.Loaded.{IsLoaded}
 use Rattle.warehouse_objects.specs.Warehouse.{fresh_in}
-use Rattle.warehouse.specs.Session.{is_at}
+use Rattle.warehouse.proofs.Represented.{is_at}
 use Rattle.warehouse.proofs.CreationLemmas.{made_of, no_memory, refused_of}
 use Rattle.warehouse.proofs.creation.create_as.Goals as goal
 

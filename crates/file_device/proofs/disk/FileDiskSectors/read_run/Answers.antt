@@ -1,10 +1,10 @@
 use Rattle.file_device.specs.Runs.{sectors_in}
-use Rattle.file_device.proofs.Runs.{honest_if_run_read, run_if_read, stays_if_run_read}
+use Rattle.file_device.proofs.Runs.{kept_if_run_read, run_if_read, stays_if_run_read}
 use Rattle.file_device.proofs.disk.FileDiskSectors.read_run.Goals as goal
 
 pub returns-clause-word : goal.returns-clause-word
 returns-clause-word g c =
-    honest_if_run_read g.S.Start.reads c.read_run-outcome.result c.args.first (sectors_in c.read_run-outcome.new.to) _ _
+    kept_if_run_read g.S.Start.reads c.read_run-outcome.result c.args.first (sectors_in c.read_run-outcome.new.to) _ _
     c.read_run-outcome.ensures
 
 pub returns-clause-bytes : goal.returns-clause-bytes

@@ -1,11 +1,11 @@
 use Rattle.std.proofs.Common.{is_ok}
 use Rattle.file_device.specs.Runs.{sectors_in}
-use Rattle.file_device.proofs.Written.{honest_written, run_if_written, within_written}
+use Rattle.file_device.proofs.Written.{kept_if_written, run_if_written, within_written}
 use Rattle.file_device.proofs.disk.FileDiskSectors.write_run.Goals as goal
 
 pub returns-clause-word : goal.returns-clause-word
 returns-clause-word g c =
-    honest_written g.S.Start.reads c.args.first (sectors_in c.args.from.now) (is_ok c.write_run-outcome.result) _ _
+    kept_if_written g.S.Start.reads c.args.first (sectors_in c.args.from.now) (is_ok c.write_run-outcome.result) _ _
     c.write_run-outcome.ensures
 
 pub returns-clause-written : goal.returns-clause-written

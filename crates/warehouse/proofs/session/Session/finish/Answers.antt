@@ -1,7 +1,7 @@
 use Rattle.std.proofs.lemmas.Result.{IfErr-weaker, IfOk-weaker}
 use Rattle.cube_model.specs.declared.fault.Fault.TheVariants.{BadLayout, Device}
 use Rattle.stored_cuboids.specs.Nexts.{EndsBringing}
-use Rattle.warehouse.specs.Session.{is_at}
+use Rattle.warehouse.proofs.Represented.{is_at}
 use Rattle.warehouse.proofs.Cuboids.{kept_at, members_at}
 use Rattle.warehouse.proofs.Caught.{finished_at, of_err, passed_on}
 use Rattle.warehouse.proofs.session.Session.finish.Goals as goal

@@ -7,7 +7,7 @@ use Rattle.warehouse_root.specs.Root.{PlainRoot}
 use Rattle.warehouse_objects.specs.Migration.{migration_refusal}
 use Rattle.warehouse_objects.specs.Represents.{Represents}
 use Rattle.warehouse_objects.specs.Warehouse.{Warehouse, migrated}
-use Rattle.warehouse.specs.Session.{is_at}
+use Rattle.warehouse.proofs.Represented.{is_at}
 use Rattle.warehouse.proofs.SessionLemmas.{second_already}
 use Rattle.warehouse.proofs.Represented.{session_at, store_at}
 use Rattle.warehouse.proofs.Cuboids.{represented_agrees}

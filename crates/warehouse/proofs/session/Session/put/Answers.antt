@@ -12,7 +12,8 @@ use Rattle.warehouse_root.proofs.CallerLemmas.{root_is_short}
 use Rattle.warehouse_objects.specs.Warehouse.{loaded}
 use Rattle.warehouse_objects.specs.Represents.{Represents}
 use Rattle.warehouse_objects.specs.Loaded.{IsLoaded}
-use Rattle.warehouse.specs.Session.{disk_of, is_at}
+use Rattle.warehouse.specs.Session.{disk_of}
+use Rattle.warehouse.proofs.Represented.{is_at}
 use Rattle.warehouse.specs.Submitting.{WithOrWithout}
 use Rattle.warehouse.proofs.Represented.{store_at, session_at, as_before_at, as_before_leaves}
 use Rattle.warehouse.proofs.SessionLemmas.{few_more, loaded_after, modes_now, prepared_is_put, ready_agrees}

@@ -8,7 +8,7 @@ use Rattle.warehouse_root.proofs.CallerLemmas.{root_is_short}
 use Rattle.warehouse_objects.specs.Loaded.{IsLoaded}
 use Rattle.warehouse_objects.specs.Represents.{Represents}
 use Rattle.warehouse_objects.specs.Warehouse.{migrated}
-use Rattle.warehouse.specs.Session.{is_at}
+use Rattle.warehouse.proofs.Represented.{is_at}
 use Rattle.warehouse.proofs.SessionLemmas.{can_migrate, few_moved, loaded_moved, migration_is_put, moved_leaves}
 use Rattle.warehouse.proofs.SessionLemmas.{moved_causes}
 use Rattle.warehouse.proofs.SessionLemmas.{leaves_at}

@@ -11,7 +11,7 @@ use Rattle.warehouse_root.specs.Layouts.{layout_number}
 use Rattle.warehouse_root.proofs.CallerLemmas.{root_is_short}
 use Rattle.warehouse_objects.specs.Represents.{Represents}
 use Rattle.warehouse_objects.specs.Loaded.{IsLoaded}
-use Rattle.warehouse.specs.Session.{is_at}
+use Rattle.warehouse.proofs.Represented.{is_at}
 use Rattle.warehouse.specs.Widening.{WidenedOrNot, shown_puts}
 use Rattle.warehouse.proofs.Represented.{store_at, session_at, as_before_at, as_before_leaves}
 use Rattle.warehouse.proofs.SessionLemmas.{few_wider, loaded_wider, represents_wider, wider_causes, wider_leaves}

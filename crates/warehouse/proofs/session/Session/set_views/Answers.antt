@@ -1,5 +1,5 @@
 use Rattle.std.proofs.Common.{sym, ◌∙◌}
-use Rattle.warehouse.specs.Session.{is_at}
+use Rattle.warehouse.proofs.Represented.{is_at}
 use Rattle.warehouse_objects.specs.Warehouse.{with_views}
 use Rattle.warehouse.proofs.Cuboids.{kept_at}
 use Rattle.warehouse.proofs.session.Session.set_views.Goals as goal

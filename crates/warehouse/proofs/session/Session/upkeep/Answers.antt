@@ -4,7 +4,7 @@ use Rattle.cube_model.specs.declared.fault.Fault.TheVariants.{Device, TooManyCel
 use Rattle.lattice.specs.declared.view.View.{View}
 use Rattle.lattice.specs.Views.{index_of}
 use Rattle.stored_cuboids.specs.Upkeep.{AreWholeBut}
-use Rattle.warehouse.specs.Session.{is_at}
+use Rattle.warehouse.proofs.Represented.{is_at}
 use Rattle.warehouse.proofs.Cuboids.{kept_at, members_at}
 use Rattle.warehouse.proofs.session.Session.upkeep.Goals as goal
 
