@@ -1,6 +1,6 @@
 //! The ship modes of a batch, where they are the members of an axis.
 ghost use Rattle.std.specs.Prelude.{◌≡◌, ◌<◌, ◌≤◌, ◌++◌, ℕ, List, length, IfErr, IfOk};
-ghost use Rattle.std.specs.Int.{from_le_bytes, w16};
+ghost use Rattle.std.specs.Int.{from_le_bytes};
 ghost use Rattle.std.specs.Option.{IfNone};
 ghost use Rattle.cube_model.specs.Limits.{most_batch_rows, most_members};
 ghost use Rattle.cube_model.specs.ShipModes.{crowded_place, reserved_place};

@@ -1,7 +1,7 @@
 -- Rows of lines, taken one by one.
 use Rattle.std.proofs.Common.{◌≡◌, ◌∙◌, sym, ap, subst, refl, ℕ, ◌+◌, ◌-◌, ◌<◌, ◌≤◌, List, [], ◌∷◌, ◌++◌, length, take}
 use Rattle.std.proofs.Common.{drop, arith, Some, None, append-nil, append_assoc, length-append, inl, inr}
-use Rattle.std.specs.Prelude.{suc, zero, true, Option, ⊤, Result, Ok, Err, IfOk, IfErr}
+use Rattle.std.specs.Prelude.{suc, zero, true, Option, ⊤, Result, Ok, Err, IfOk, IfSome}
 use Rattle.std.proofs.lemmas.Grind.{common_steps}
 use Rattle.std.proofs.lemmas.List.{take_all}
 use Rattle.std.proofs.lemmas.Result.{IfOk-at_ok}
@@ -12,7 +12,7 @@ use Rattle.batch_loader.specs.Rows.{next_number, number_after, row_before, rows_
 use Rattle.batch_loader.specs.Unread.{Unread}
 use Rattle.batch_loader.specs.Reading.{TakesLine, TakesNext, IsAllTaken, StaysAtEnd, IsNextFault, PushesRow, PushesNext}
 use Rattle.batch_loader.specs.Reading.{RefusesRow, TakesRows, IsFirstFault, TakesBatch, RefusesBatch, AreRowsOf}
-use Rattle.batch_loader.specs.Reading.{IsFaultOf, TakesTable, RefusesTable}
+use Rattle.batch_loader.specs.Reading.{IsFaultOf, TakesTable, RefusesTable, AnswersRows}
 
 -- rows in front of others
 abbrev pub rows_before : {Row : Type 0} → List Row → Result (List Row) Fault → Result (List Row) Fault
@@ -209,11 +209,6 @@ IsTaking-refused row max old now rows count fault below (inr (inr next)) before 
     inr (inr (in_front-fault row max old.number old.left (max - count) (max - (count + 1)) now.number now.left rows
     fault (omega arith) next before.front))
 
--- a fault that is handed on
-pub IfErr-from : {X : Type 0} (result : Result X Fault) (fault : Fault) (P : Fault → Type 0)
-    → (other : Fault) × (result ≡ Err other) × (other ≡ fault) → P fault → IfErr result P
-IfErr-from result fault P is why = rw (is.1, is.2) why
-
 count-row_before : {Row : Type 0} (first : Result Row Fault) (others : Result (List Row) Fault) (n : ℕ)
     → IfOk others (λ rows. length rows ≡ n) → IfOk (row_before first others) (λ rows. length rows ≡ suc n)
 count-row_before (Err fault) others n is = tt
@@ -282,3 +277,31 @@ pub RefusesTable-batch : {Row : Type 0} (row : ℕ → List ℕ → Result Row F
 RefusesTable-batch row max old fault (inl memory) = inl memory
 RefusesTable-batch row max old fault (inr (inl input)) = inr (inl input)
 RefusesTable-batch row max old fault (inr (inr first)) = inr (inr (fault-all row max old.number old.left fault first))
+
+-- a call that fails
+abbrev failed : (Given : Type 0) → Fault → Result Given Fault
+failed Given fault = Err fault
+
+abbrev fault_or : {Given : Type 0} → Fault → Result Given Fault → Fault
+fault_or other (Ok given) = other
+fault_or other (Err fault) = fault
+
+failed_again : (Given Made : Type 0) (met : Option Fault) (fault : Fault)
+    → IfSome met (λ first. failed Given fault ≡ Err first) → IfSome met (λ first. failed Made fault ≡ Err first)
+failed_again Given Made None fault again = tt
+failed_again Given Made (Some first) fault again = ap (failed Made) (ap (fault_or fault) again)
+
+-- a fault of a callee is answered as one's own
+pub AnswersRows-refused : {Row Given Made : Type 0} (row : ℕ → List ℕ → Result Row Fault) (Takes : Given → Type 0)
+    (Makes : Made → Type 0) (Refuses Stops : Fault → Type 0) (old now new : Unread) (fault : Fault)
+    → old.fault ≡ now.fault → (now.fault ≡ None → Refuses fault → Stops fault)
+    → AnswersRows row Takes Refuses now new (Err fault) → AnswersRows row Makes Stops old new (Err fault)
+AnswersRows-refused {Given = Given} {Made = Made} row Takes Makes Refuses Stops old now new fault same stops answered =
+    record {
+      again = subst (λ met. IfSome met (λ first. failed Made fault ≡ Err first)) (sym same)
+          (failed_again Given Made now.fault fault answered.again);
+      held = answered.held;
+      taken = tt;
+      refused = λ none. stops (sym same ∙ none) (answered.refused (sym same ∙ none));
+      line = λ none. answered.line (sym same ∙ none);
+    }

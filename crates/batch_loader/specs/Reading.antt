@@ -1,7 +1,7 @@
 -- What is taken from a text that is read line by line.
 use Rattle.std.specs.Prelude.{◌≡◌, ◌<◌, ◌≤◌, ◌⊎◌, ℕ, ⊤, Bool, true, false, List, [], ◌∷◌, ◌++◌, take, drop, length}
-use Rattle.std.specs.Prelude.{Option, Some, None}
-use Rattle.std.specs.Prelude.{Result, Ok, Err}
+use Rattle.std.specs.Prelude.{Option, Some, None, IfSome}
+use Rattle.std.specs.Prelude.{Result, Ok, Err, IfOk, IfErr}
 use Rattle.std.specs.Borrow.{Bor}
 use Rattle.std.specs.Io.KnownBytes.{IsAtEnd}
 use Rattle.cube_model.specs.declared.fault.Fault.{Fault}
@@ -131,3 +131,23 @@ pub record TakesTable {Row : Type 0} (row : ℕ → List ℕ → Result Row Faul
 -- no table was taken: memory was refused, a read failed, or it is the first fault of the lines that were left
 abbrev pub RefusesTable : {Row : Type 0} → (ℕ → List ℕ → Result Row Fault) → Unread → Fault → Type 0
 RefusesTable row old fault = (fault ≡ Memory) ⊎ ((fault ≡ Input) ⊎ IsFaultOf row old.number old.left fault)
+
+-- What a call answers that takes rows from a text: what was taken, or why not. A fault that the lines hold comes again,
+-- a new one is held, and the line that was taken last is the one that is refused.
+pub record AnswersRows {Row Given : Type 0} (row : ℕ → List ℕ → Result Row Fault) (Takes : Given → Type 0)
+    (Refuses : Fault → Type 0) (old new : Unread) (result : Result Given Fault) : Type 0 where
+  pub again : IfSome old.fault (λ fault. result ≡ Err fault)
+  pub held : IfErr result (λ fault. new.fault ≡ Some fault)
+  pub taken : IfOk result Takes
+  pub refused : old.fault ≡ None → IfErr result Refuses
+  pub line : old.fault ≡ None → IfErr result (RefusesLine row new)
+
+-- a call for a batch of at most so many rows
+abbrev pub AnswersBatch : {Row : Type 0} → (ℕ → List ℕ → Result Row Fault) → ℕ → Unread → Unread
+    → Result (List Row) Fault → Type 0
+AnswersBatch row max old new = AnswersRows row (TakesBatch row max old new) (RefusesBatch row max old) old new
+
+-- a call for a whole table
+abbrev pub AnswersTable : {Row : Type 0} → (ℕ → List ℕ → Result Row Fault) → Unread → Unread
+    → Result (List Row) Fault → Type 0
+AnswersTable row old new = AnswersRows row (TakesTable row old new) (RefusesTable row old) old new

@@ -1,7 +1,7 @@
 //! The lines of a text, one by one.
-ghost use Rattle.std.specs.Prelude.{◌≡◌, ◌⊎◌, ◌+◌, Some, None, MatchBool, MatchOption, MatchResult, IfOk, IfErr};
-ghost use Rattle.std.specs.Prelude.{IfSome, min, length, ◌≤◌};
-ghost use Rattle.std.specs.Io.KnownBytes.{IsAtEnd, Keeps};
+ghost use Rattle.std.specs.Prelude.{◌≡◌, ◌+◌, Some, None, MatchBool, IfOk, IfErr};
+ghost use Rattle.std.specs.Prelude.{IfSome, length, ◌≤◌};
+ghost use Rattle.std.specs.Io.KnownBytes.{Keeps};
 ghost use Rattle.batch_loader.specs.Reading.{TakesNext, IsAllTaken, RefusesNext, NextGives};
 ghost use Rattle.batch_loader.specs.Rows.{next_number};
 ghost use Rattle.std.specs.Borrow.{sem};

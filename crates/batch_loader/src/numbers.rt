@@ -1,6 +1,6 @@
 //! Number fields.
-ghost use Rattle.std.specs.Prelude.{◌≡◌, ◌≤◌, ◌<◌, ◌+◌, ℕ, length, slice_index, slice_range};
-ghost use Rattle.batch_loader.specs.Numbers.{number_spelled, digits_value};
+ghost use Rattle.std.specs.Prelude.{◌≡◌, ◌≤◌, ◌<◌, ◌+◌, length, slice_range};
+ghost use Rattle.batch_loader.specs.Numbers.{number_spelled};
 
 mod few;
 mod short;

@@ -1,9 +1,9 @@
 //! The rows of the five tables.
-ghost use Rattle.std.specs.Prelude.{◌≡◌, ◌⊎◌, ◌≤◌, None, IfOk, OnOk, IfErr, IfSome, Err, length};
+ghost use Rattle.std.specs.Prelude.{◌≡◌, ◌⊎◌, ◌≤◌, OnOk, IfErr, Err, length};
 ghost use Rattle.cube_model.specs.Limits.{longest_line};
 ghost use Rattle.batch_loader.specs.Columns.{row_of};
-ghost use Rattle.batch_loader.specs.Reading.{PushesNext, PushesRow, RefusesLine, RefusesRow, TakesBatch, RefusesBatch};
-ghost use Rattle.batch_loader.specs.Reading.{TakesTable, RefusesTable};
+ghost use Rattle.batch_loader.specs.Reading.{AnswersBatch, AnswersRows, AnswersTable, PushesNext, PushesRow};
+ghost use Rattle.batch_loader.specs.Reading.{RefusesRow};
 ghost use Rattle.batch_loader.specs.Tables.{customer_row, supplier_row, part_row, date_row, lineorder_row};
 
 use crate::lines::Lines;
@@ -18,11 +18,7 @@ pub fn read_customers<R: Read>(
     alloc: Global,
     lines: &mut Lines<R>,
 ) -> Result<Items<CustomerRow>, Fault>
-    ensures again { IfSome lines.old.fault (λ fault. result ≡ Err fault) }
-    ensures held { IfErr result (λ fault. lines.new.fault ≡ Some fault) }
-    ensures taken { IfOk result (TakesTable customer_row lines.old lines.new) }
-    ensures refused { lines.old.fault ≡ None → IfErr result (RefusesTable customer_row lines.old) }
-    ensures line { lines.old.fault ≡ None → IfErr result (RefusesLine customer_row lines.new) }
+    ensures { AnswersTable customer_row lines.old lines.new result }
 {
     read_all(alloc, lines)
 }
@@ -32,33 +28,21 @@ pub fn read_suppliers<R: Read>(
     alloc: Global,
     lines: &mut Lines<R>,
 ) -> Result<Items<SupplierRow>, Fault>
-    ensures again { IfSome lines.old.fault (λ fault. result ≡ Err fault) }
-    ensures held { IfErr result (λ fault. lines.new.fault ≡ Some fault) }
-    ensures taken { IfOk result (TakesTable supplier_row lines.old lines.new) }
-    ensures refused { lines.old.fault ≡ None → IfErr result (RefusesTable supplier_row lines.old) }
-    ensures line { lines.old.fault ≡ None → IfErr result (RefusesLine supplier_row lines.new) }
+    ensures { AnswersTable supplier_row lines.old lines.new result }
 {
     read_all(alloc, lines)
 }
 
 /// The rows of a part table, or the first fault of its text.
 pub fn read_parts<R: Read>(alloc: Global, lines: &mut Lines<R>) -> Result<Items<PartRow>, Fault>
-    ensures again { IfSome lines.old.fault (λ fault. result ≡ Err fault) }
-    ensures held { IfErr result (λ fault. lines.new.fault ≡ Some fault) }
-    ensures taken { IfOk result (TakesTable part_row lines.old lines.new) }
-    ensures refused { lines.old.fault ≡ None → IfErr result (RefusesTable part_row lines.old) }
-    ensures line { lines.old.fault ≡ None → IfErr result (RefusesLine part_row lines.new) }
+    ensures { AnswersTable part_row lines.old lines.new result }
 {
     read_all(alloc, lines)
 }
 
 /// The rows of a date table, or the first fault of its text.
 pub fn read_dates<R: Read>(alloc: Global, lines: &mut Lines<R>) -> Result<Items<DateRow>, Fault>
-    ensures again { IfSome lines.old.fault (λ fault. result ≡ Err fault) }
-    ensures held { IfErr result (λ fault. lines.new.fault ≡ Some fault) }
-    ensures taken { IfOk result (TakesTable date_row lines.old lines.new) }
-    ensures refused { lines.old.fault ≡ None → IfErr result (RefusesTable date_row lines.old) }
-    ensures line { lines.old.fault ≡ None → IfErr result (RefusesLine date_row lines.new) }
+    ensures { AnswersTable date_row lines.old lines.new result }
 {
     read_all(alloc, lines)
 }
@@ -69,11 +53,7 @@ pub fn read_batch<R: Read>(
     lines: &mut Lines<R>,
     max: usize,
 ) -> Result<Items<LineOrder>, Fault>
-    ensures again { IfSome lines.old.fault (λ fault. result ≡ Err fault) }
-    ensures held { IfErr result (λ fault. lines.new.fault ≡ Some fault) }
-    ensures taken { IfOk result (TakesBatch lineorder_row max lines.old lines.new) }
-    ensures refused { lines.old.fault ≡ None → IfErr result (RefusesBatch lineorder_row max lines.old) }
-    ensures line { lines.old.fault ≡ None → IfErr result (RefusesLine lineorder_row lines.new) }
+    ensures { AnswersBatch lineorder_row max lines.old lines.new result }
 {
     read_rows(alloc, lines, max, Items::new(alloc))
 }
@@ -85,11 +65,7 @@ pub fn read_batch_into<R: Read>(
     max: usize,
     done: Items<LineOrder>,
 ) -> Result<Items<LineOrder>, Fault>
-    ensures again { IfSome lines.old.fault (λ fault. result ≡ Err fault) }
-    ensures held { IfErr result (λ fault. lines.new.fault ≡ Some fault) }
-    ensures taken { IfOk result (TakesBatch lineorder_row max lines.old lines.new) }
-    ensures refused { lines.old.fault ≡ None → IfErr result (RefusesBatch lineorder_row max lines.old) }
-    ensures line { lines.old.fault ≡ None → IfErr result (RefusesLine lineorder_row lines.new) }
+    ensures { AnswersBatch lineorder_row max lines.old lines.new result }
 {
     read_rows(alloc, lines, max, done)
 }
@@ -99,11 +75,7 @@ fn read_all<T: TableRow + Drop, R: Read>(
     alloc: Global,
     lines: &mut Lines<R>,
 ) -> Result<Items<T>, Fault>
-    ensures again { IfSome lines.old.fault (λ fault. result ≡ Err fault) }
-    ensures held { IfErr result (λ fault. lines.new.fault ≡ Some fault) }
-    ensures taken { IfOk result (TakesTable (row_of T.columns T.of_fields) lines.old lines.new) }
-    ensures refused { lines.old.fault ≡ None → IfErr result (RefusesTable (row_of T.columns T.of_fields) lines.old) }
-    ensures line { lines.old.fault ≡ None → IfErr result (RefusesLine (row_of T.columns T.of_fields) lines.new) }
+    ensures { AnswersTable (row_of T.columns T.of_fields) lines.old lines.new result }
 {
     let rows = read_rows(alloc, lines, usize::MAX, Items::new(alloc))?;
     if rows.len() == usize::MAX {
@@ -120,12 +92,7 @@ fn read_rows<T: TableRow + Drop, R: Read>(
     max: usize,
     done: Items<T>,
 ) -> Result<Items<T>, Fault>
-    ensures again { IfSome lines.old.fault (λ fault. result ≡ Err fault) }
-    ensures held { IfErr result (λ fault. lines.new.fault ≡ Some fault) }
-    ensures taken { IfOk result (TakesBatch (row_of T.columns T.of_fields) max lines.old lines.new) }
-    ensures refused { lines.old.fault ≡ None
-        → IfErr result (RefusesBatch (row_of T.columns T.of_fields) max lines.old) }
-    ensures line { lines.old.fault ≡ None → IfErr result (RefusesLine (row_of T.columns T.of_fields) lines.new) }
+    ensures { AnswersBatch (row_of T.columns T.of_fields) max lines.old lines.new result }
 {
     if let Some(fault) = lines.fault() {
         return Err(fault);
@@ -145,11 +112,9 @@ fn push_row<T: TableRow + Drop, R: Read>(
     lines: &mut Lines<R>,
     rows: &mut RowBuffer<T>,
 ) -> Result<bool, Fault>
-    ensures again { IfSome lines.old.fault (λ fault. result ≡ Err fault) }
-    ensures held { IfErr result (λ fault. lines.new.fault ≡ Some fault) }
-    ensures taken { IfOk result (PushesNext (row_of T.columns T.of_fields) lines.old lines.new rows.old rows.new) }
-    ensures refused { lines.old.fault ≡ None → IfErr result (RefusesRow (row_of T.columns T.of_fields) lines.old) }
-    ensures line { lines.old.fault ≡ None → IfErr result (RefusesLine (row_of T.columns T.of_fields) lines.new) }
+    ensures { AnswersRows (row_of T.columns T.of_fields)
+        (PushesNext (row_of T.columns T.of_fields) lines.old lines.new rows.old rows.new)
+        (RefusesRow (row_of T.columns T.of_fields) lines.old) lines.old lines.new result }
 {
     if !lines.advance()? {
         return Ok(false);

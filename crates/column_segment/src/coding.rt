@@ -1,13 +1,13 @@
 //! The columns of texts of a batch while its rows are added: the texts that were seen, and the code of each row's.
 #![tactic(auto, unfolding(wire::specs::Spelling::spelling))]
 
-ghost use Rattle.std.specs.Prelude.{◌≡◌, ◌<◌, ◌∷◌, ◌++◌, [], ℕ, List, Some, IfErr, IfOk, IfSome, IsOkUnless, IsTrue};
+ghost use Rattle.std.specs.Prelude.{◌≡◌, ◌<◌, ◌∷◌, ◌++◌, [], ℕ, List, Some, IfErr, IfOk, IsOkUnless};
 ghost use Rattle.std.specs.Prelude.{OnOk};
 ghost use Rattle.std.specs.List.{flat_map};
 ghost use Rattle.cube_model.specs.declared.rows.LineOrder.{LineOrder};
 ghost use Rattle.wire.specs.Spelling.{spelling};
 ghost use Rattle.dictionary.specs.Columns.{column_spelling};
-ghost use Rattle.dictionary.specs.Dictionary.{Adds, code_of};
+ghost use Rattle.dictionary.specs.Dictionary.{Adds};
 ghost use Rattle.dictionary.specs.Spelling.{AreShort};
 ghost use Rattle.column_segment.specs.Coding.{AreCoded, AreCodesOf};
 ghost use Rattle.column_segment.specs.Columns.{text_columns};

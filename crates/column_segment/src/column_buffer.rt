@@ -1,9 +1,9 @@
 //! A buffer into which columns of one batch after another are read.
-ghost use Rattle.std.specs.Prelude.{◌≡◌, ◌⊎◌, [], ℕ, List, length, IfErr, IfOk, IsErrOf, IsSomeAnd, MatchResult, OnOk};
+ghost use Rattle.std.specs.Prelude.{◌≡◌, ◌⊎◌, [], ℕ, List, length, IfOk, IsErrOf, IsSomeAnd, OnOk};
 ghost use Rattle.std.specs.List.{AllByRecursion};
 ghost use Rattle.cube_model.specs.declared.fault.Fault.{Fault};
 ghost use Rattle.cube_model.specs.declared.rows.LineOrder.{LineOrder};
-ghost use Rattle.wire.specs.Runs.{HasRead, IsRefused};
+ghost use Rattle.wire.specs.Runs.{ReadsSourceOr};
 ghost use Rattle.column_segment.specs.Projected.{AgreeOn, FitsColumnIn, HasColumns, HoldsNoneOf};
 ghost use Rattle.column_segment.specs.Segment.{IsSegment};
 
@@ -84,9 +84,8 @@ impl ColumnBuffer {
             × AllByRecursion (FitsColumnIn text rows) columns.now)) }
         ensures refused { IsErrOf result Fault.BadLayout → S.keeps_word source.new
             → HoldsNoneOf (S.texts source.old id) number rows }
-        ensures run { MatchResult result (λ _. HasRead S.Source source.old source.new)
-            (λ fault. (((fault ≡ Fault.Memory) ⊎ (fault ≡ Fault.BadLayout)) × HasRead S.Source source.old source.new)
-            ⊎ IsRefused S.Source fault source.old source.new) }
+        ensures run { ReadsSourceOr S.Source (λ fault. (fault ≡ Fault.Memory) ⊎ (fault ≡ Fault.BadLayout)) source.old
+            source.new result }
     {
         let rows = rows as usize;
         if rows > MOST_BATCH_ROWS {

@@ -1,6 +1,5 @@
 //! Spelling a batch.
 ghost use Rattle.std.specs.Prelude.{◌≡◌, ◌≤◌, ◌+◌, ◌++◌, [], List, length, IfOk, IfErr, IsOkUnless, OnOk};
-ghost use Rattle.cube_model.specs.Limits.{most_batch_rows};
 ghost use Rattle.cube_model.specs.declared.rows.LineOrder.{LineOrder};
 ghost use Rattle.column_segment.specs.Encoding.{HaveFewTexts, HaveTexts};
 ghost use Rattle.column_segment.specs.Segment.{IsBatch, segment_header, segment_of};

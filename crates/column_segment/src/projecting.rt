@@ -1,18 +1,15 @@
 //! Reading columns of a batch, and nothing else of it.
-ghost use Rattle.std.specs.Prelude.{◌≡◌, ◌⊎◌, ◌↔◌, ◌+◌, ◌*◌, ◌≤◌, ◌<◌, ℕ, All, List, Some, length, slice_index, IfOk};
-ghost use Rattle.std.specs.Prelude.{IsErrOf, IsSomeAnd, IsTrue, MatchResult, OnOk};
+ghost use Rattle.std.specs.Prelude.{◌≡◌, ◌↔◌, ◌+◌, ◌*◌, ◌≤◌, ◌<◌, ℕ, All, List, Some, length, slice_index, IfOk};
+ghost use Rattle.std.specs.Prelude.{IsErrOf, IsSomeAnd, IsTrue, OnOk};
 ghost use Rattle.std.specs.List.{AllByRecursion};
 ghost use Rattle.cube_model.specs.Limits.{most_batch_rows};
 ghost use Rattle.cube_model.specs.declared.fault.Fault.{Fault};
-ghost use Rattle.cube_model.specs.declared.rows.LineOrder.{LineOrder};
-ghost use Rattle.wire.specs.Parts.{Gives};
-ghost use Rattle.wire.specs.Runs.{HasRead, IsRefused};
+ghost use Rattle.wire.specs.Runs.{ReadsSource, ReadsSourceOr};
 ghost use Rattle.column_segment.specs.declared.columns.FactColumn.{FactColumn};
-ghost use Rattle.column_segment.specs.Decoded.{HoldsColumns, decoded_rows};
+ghost use Rattle.column_segment.specs.Decoded.{HoldsColumns};
 ghost use Rattle.column_segment.specs.Reading.{HasHeader, HasNumbers};
-ghost use Rattle.column_segment.specs.Projected.{AgreeOn, FitsColumnIn, HasColumns, HoldsNoneOf, ShareColumn};
-ghost use Rattle.column_segment.specs.Projected.{StaysOutside, fact_place, width_of};
-ghost use Rattle.column_segment.specs.Segment.{IsSegment};
+ghost use Rattle.column_segment.specs.Projected.{FitsColumnIn, HasColumns, HoldsNoneOf, ShareColumn};
+ghost use Rattle.column_segment.specs.Projected.{StaysOutside, width_of};
 
 use crate::columns::FactColumn;
 use crate::layout::{HEADER_BYTES, Layout, NUMBER_BYTES, place_of, width_of};
@@ -41,9 +38,7 @@ pub(crate) fn read_columns<S: Source>(
         × AllByRecursion (FitsColumnIn text rows) columns.now)) }
     ensures refused { IsErrOf result Fault.BadLayout → S.keeps_word source.new
         → HoldsNoneOf (S.texts source.old id) number rows }
-    ensures run { MatchResult result (λ _. HasRead S.Source source.old source.new)
-        (λ fault. ((fault ≡ Fault.BadLayout) × HasRead S.Source source.old source.new)
-        ⊎ IsRefused S.Source fault source.old source.new) }
+    ensures run { ReadsSourceOr S.Source (λ fault. fault ≡ Fault.BadLayout) source.old source.new result }
 {
     if HEADER_BYTES + NUMBER_BYTES * rows <= AT_ONCE_BYTES {
         return read_at_once(source, id, number, bytes, rows, columns);
@@ -76,9 +71,7 @@ fn read_at_once<S: Source>(
         × AllByRecursion (FitsColumnIn text rows) columns.now)) }
     ensures refused { IsErrOf result Fault.BadLayout → S.keeps_word source.new
         → HoldsNoneOf (S.texts source.old id) number rows }
-    ensures run { MatchResult result (λ _. HasRead S.Source source.old source.new)
-        (λ fault. ((fault ≡ Fault.BadLayout) × HasRead S.Source source.old source.new)
-        ⊎ IsRefused S.Source fault source.old source.new) }
+    ensures run { ReadsSourceOr S.Source (λ fault. fault ≡ Fault.BadLayout) source.old source.new result }
 {
     if !has_room(source, id, rows) {
         return Err(Fault::BadLayout);
@@ -135,8 +128,7 @@ fn has_columns<S: Source>(source: &mut S, id: u32, number: u32, rows: usize) -> 
     ensures none { IfOk result (λ yes. (IsTrue yes → ⊥) → S.keeps_word source.new → (text : List ℕ)
         → S.texts source.old id ≡ Some text
         → HasColumns text number rows → ⊥) }
-    ensures run { MatchResult result (λ _. HasRead S.Source source.old source.new)
-        (λ fault. IsRefused S.Source fault source.old source.new) }
+    ensures run { ReadsSource S.Source source.old source.new result }
 {
     if !has_room(source, id, rows) {
         return Ok(false);
@@ -173,9 +165,7 @@ fn read_column<S: Source>(
     ensures refused { IsErrOf result Fault.BadLayout → S.keeps_word source.new → (text : List ℕ)
         → S.texts source.old id ≡ Some text
         → HasNumbers text rows → ⊥ }
-    ensures run { MatchResult result (λ _. HasRead S.Source source.old source.new)
-        (λ fault. ((fault ≡ Fault.BadLayout) × HasRead S.Source source.old source.new)
-        ⊎ IsRefused S.Source fault source.old source.new) }
+    ensures run { ReadsSourceOr S.Source (λ fault. fault ≡ Fault.BadLayout) source.old source.new result }
 {
     let at = HEADER_BYTES + place_of(column) * rows;
     read_over(source, id, bytes, at, width_of(column) * rows)?;
@@ -198,8 +188,7 @@ fn read_over<S: Source>(
     ensures outside { StaysOutside at count bytes.old bytes.new }
     ensures inside { OnOk result (S.keeps_word source.new → (text : List ℕ) → S.texts source.old id ≡ Some text
         → (place : ℕ) → place < count → slice_index bytes.new (at + place) ≡ slice_index text (at + place)) }
-    ensures run { MatchResult result (λ _. HasRead S.Source source.old source.new)
-        (λ fault. IsRefused S.Source fault source.old source.new) }
+    ensures run { ReadsSource S.Source source.old source.new result }
 {
     read_part(source, id, at as u64, &mut bytes[at..at + count])
 }

@@ -1,7 +1,7 @@
 //! Reading a batch from a source.
-ghost use Rattle.std.specs.Prelude.{◌≡◌, ◌⊎◌, option_map, IfErr, IfOk, IsErrOf, IsSomeAnd, MatchResult};
+ghost use Rattle.std.specs.Prelude.{◌≡◌, ◌⊎◌, option_map, IfErr, IfOk, IsErrOf, IsSomeAnd};
 ghost use Rattle.cube_model.specs.declared.fault.Fault.{Fault};
-ghost use Rattle.wire.specs.Runs.{HasRead, IsRefused};
+ghost use Rattle.wire.specs.Runs.{ReadsSourceOr};
 ghost use Rattle.column_segment.specs.Segment.{HoldsNoBatch, IsSegment};
 
 use crate::segment::{Segment, decode};
@@ -17,9 +17,8 @@ pub fn decode_from<S: Source>(alloc: Global, source: &mut S, id: u32) -> Result<
     ensures ok { IfOk result (λ segment. S.keeps_word source.new
         → IsSomeAnd (S.texts source.old id) (λ bytes. IsSegment bytes segment.number segment.rows)) }
     ensures refused { IsErrOf result Fault.BadLayout → S.keeps_word source.new → HoldsNoBatch (S.texts source.old id) }
-    ensures run { MatchResult result (λ _. HasRead S.Source source.old source.new)
-        (λ fault. (((fault ≡ Fault.Memory) ⊎ (fault ≡ Fault.BadLayout)) × HasRead S.Source source.old source.new)
-        ⊎ IsRefused S.Source fault source.old source.new) }
+    ensures run { ReadsSourceOr S.Source (λ fault. (fault ≡ Fault.Memory) ⊎ (fault ≡ Fault.BadLayout)) source.old
+        source.new result }
 {
     let found = read_whole(alloc, source, id)?;
     decode_found(alloc, found)

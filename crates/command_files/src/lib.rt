@@ -14,6 +14,7 @@ pub mod progress;
 pub mod query;
 pub mod records;
 pub mod refusal;
+pub mod refused_lines;
 pub mod report;
 pub mod saving;
 pub mod screens;

@@ -7,6 +7,7 @@ use crate::batch_hints::refused_mode;
 use crate::broken_rows::rows_hint;
 use crate::files::{DimensionFiles, Reads, unread_table};
 use crate::refusal::Refusal;
+use crate::refused_lines::refused_line;
 use crate::table_paths::table_name;
 use batch_loader::Table;
 use clap::ArgMatches;
@@ -17,7 +18,6 @@ use dimensions::Dims;
 use ssb_eval::{Tables, UnknownKey};
 use std::alloc::Global;
 use std::io::Read;
-use table_hints::line_hint;
 
 /// The tables of a star whose dimensions are files of one kind.
 pub type Star<F, L> = Tables<F, F, F, F, L>;
@@ -109,7 +109,7 @@ fn refused_hint(
 ) -> Result<Option<String>, Fault> {
     let table = Table::of(line.axis);
     let path = table_name(alloc, given, table)?;
-    line_hint(alloc, path.as_str(), table, line.text, fault)
+    refused_line(alloc, path.as_str(), table, line.text, fault)
 }
 
 /// The rule that dimension rows break, which come after those of a warehouse, if there is one, as one line without its
@@ -190,7 +190,7 @@ fn facts_hint(
     fault: Fault,
 ) -> Result<Option<String>, Fault> {
     let path = table_name(alloc, given, Table::Lineorder)?;
-    let said = line_hint(alloc, path.as_str(), Table::Lineorder, line, fault)?;
+    let said = refused_line(alloc, path.as_str(), Table::Lineorder, line, fault)?;
     if said.is_some() {
         return Ok(said);
     }

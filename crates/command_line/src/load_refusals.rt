@@ -5,6 +5,7 @@ use clap::ArgMatches;
 use command_files::batch_hints::{StoredBatch, number_hint, refused_mode, repeated_hint};
 use command_files::locating::{LineAt, in_line, line_of, located};
 use command_files::refusal::Refusal;
+use command_files::refused_lines::refused_line;
 use command_files::system::System;
 use command_files::table_paths::table_name;
 use command_files::table_refusals::{key_for, limit_hint};
@@ -17,7 +18,6 @@ use sector_device::Sectors;
 use ssb_eval::UnknownKey;
 use std::alloc::Global;
 use std::io::Read;
-use table_hints::line_hint;
 use warehouse::Session;
 use warehouse_jobs::LoadText;
 
@@ -63,7 +63,7 @@ fn hint_of<D: Sectors, L: Read + Drop>(
     if let Some(line) = line_of(fault) {
         let at = located(alloc, given, plan.counts.as_slice(), line)?;
         let fault = in_line(fault, at.line);
-        return line_hint(
+        return refused_line(
             alloc,
             at.path.as_str(),
             Table::Lineorder,

@@ -23,12 +23,12 @@ use Rattle.cube_model.specs.Measures.{measure_of}
 use Rattle.cube_model.specs.Selection.{is_selected, selected}
 use Rattle.column_kernels.specs.Masks.{selected_by}
 use Rattle.column_segment.specs.Projected.{HaveSmallFigures}
-use Rattle.group_plan.specs.Kept.{ArePlaces, KeepPlaces}
-use Rattle.group_plan.specs.Numbers.{Asked, group_key_at}
-use Rattle.group_plan.specs.Plans.{AreBounds, is_within}
-use Rattle.group_plan.specs.Rows.{row_at}
-use Rattle.group_plan.specs.declared.bounds.Bounds.{Bounds}
-use Rattle.group_plan.proofs.Outcomes.{out_of_bounds}
+use Rattle.group_numbers.specs.Kept.{ArePlaces, KeepPlaces}
+use Rattle.group_numbers.specs.Numbers.{Asked, group_key_at}
+use Rattle.group_numbers.specs.GroupNumbers.{AreBounds, is_within}
+use Rattle.group_numbers.specs.Rows.{row_at}
+use Rattle.group_numbers.specs.declared.bounds.Bounds.{Bounds}
+use Rattle.group_numbers.proofs.Outcomes.{out_of_bounds}
 use Rattle.cube_query.specs.Chosen.{KeepSelected, lies_within, places_from}
 use Rattle.cube_query.specs.Groups.{CanTake, FoldState, RepresentsRows, Takes}
 use Rattle.group_tallies.specs.Groups.{finest}
@@ -311,7 +311,7 @@ keep_on dimensions conditions some more all inner outer = record {
   same = inner.same ∙ outer.same;
 }
 
--- the query of a plan is that of the fold
+-- the query of the group numbers is that of the fold
 pub keep_over : (asked : Asked) (dimensions : DimRows) (query old : Query) (some all : List LineOrder)
     → asked ≡ record { dimensions = dimensions; query = query }
     → query.conditions ≡ old.conditions → KeepSelected asked.dimensions asked.query.conditions some all

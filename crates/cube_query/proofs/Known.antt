@@ -14,7 +14,7 @@ use Rattle.cube_model.specs.declared.rows.LineOrder.{LineOrder}
 use Rattle.cube_model.specs.Admission.{unknown_axis, unknown_key}
 use Rattle.cube_model.specs.Attributes.{customer_of, supplier_of, part_of, date_of}
 use Rattle.cube_model.specs.Causes.{first_cause, cause_if}
-use Rattle.group_plan.specs.Numbers.{IsKnown}
+use Rattle.group_numbers.specs.Numbers.{IsKnown}
 
 -- what is found has a place
 place_found : {X : Type 0} (p : X → Bool) (xs : List X) → is_none (find p xs) ≡ false → position_or_len p xs < length xs

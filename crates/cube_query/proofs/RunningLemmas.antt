@@ -46,9 +46,9 @@ use Rattle.std.proofs.lemmas.List.Folds.{list_any_at}
 use Rattle.std.proofs.lemmas.List.Sums.{sum_by-cons, sum_by-append}
 use Rattle.cube_model.specs.Places.{row_count_of, row_index_of}
 use Rattle.column_kernels.specs.Masks.{selected_by}
-use Rattle.group_plan.specs.Numbers.{IsKnown, group_count, group_key_at, KeysRise}
-use Rattle.group_plan.specs.Parts.{IsKnownFor, is_on, is_same, is_used}
-use Rattle.group_plan.proofs.Numbers.{is_same-same}
+use Rattle.group_numbers.specs.Numbers.{IsKnown, group_count, group_key_at, KeysRise}
+use Rattle.group_numbers.specs.Parts.{IsKnownFor, is_on, is_same, is_used}
+use Rattle.group_numbers.proofs.Numbers.{is_same-same}
 use Rattle.group_tallies.specs.Columns.{can_add, rows_with_slots, aggregate_size, tally_at, tallies_at, is_seen}
 use Rattle.group_tallies.specs.Columns.{slotted}
 use Rattle.group_tallies.specs.FoldInvariant.{AreGroupSlots, HaveRoom, IsGroupSlot, CountIn, AreTallied, IsFold, IsKept}
@@ -67,9 +67,9 @@ use Rattle.group_tallies.proofs.Sums.{length-filter-le, nat_abs-total, sum_by-fi
 use Rattle.std.proofs.lemmas.List.FromFn.{get_or-map-range_with_len}
 use Rattle.std.proofs.lemmas.Bool.{cases_lt}
 use Rattle.group_tallies.specs.declared.slots.Slots.{Slots}
-use Rattle.group_plan.specs.Plans.{IsGroupPlanOf, IsGroupPlanOver, count_of, query_of}
-use Rattle.group_plan.specs.declared.plan.GroupPlan.{GroupPlan}
-use Rattle.group_plan.proofs.Extending.{plan_of_over}
+use Rattle.group_numbers.specs.GroupNumbers.{IsGroupNumbersOf, IsGroupNumbersOver, count_of, query_of}
+use Rattle.group_numbers.specs.declared.group_numbers.GroupNumbers.{GroupNumbers}
+use Rattle.group_numbers.proofs.Extending.{grouping_of_over}
 use Rattle.group_tallies.proofs.Seen.{some_seen}
 use Rattle.group_tallies.specs.declared.slots.Slots.TheVariants.{Direct, Below, Seen}
 use Rattle.cube_query.proofs.WholeBatches.{batch_counted, one_at_least, room_at, slots_are}
@@ -716,34 +716,35 @@ which_number dimensions columns key (suc bound) =
     ]
 
 -- what a fold shows of what it keeps
-abbrev pub shown : GroupPlan → Slots → List (Vec Tally Global) → FoldState
-shown plan slots columns = record { query = query_of plan; plan = plan; tallies = all_tallies plan slots columns }
+abbrev pub shown : GroupNumbers → Slots → List (Vec Tally Global) → FoldState
+shown grouping slots columns =
+    record { query = query_of grouping; grouping = grouping; tallies = all_tallies grouping slots columns }
 
-module _ (dimensions : DimRows) (plan : GroupPlan) (over : IsGroupPlanOver dimensions plan) where
-  made : IsGroupPlanOf dimensions plan
-  made = plan_of_over dimensions plan over
+module _ (dimensions : DimRows) (grouping : GroupNumbers) (over : IsGroupNumbersOver dimensions grouping) where
+  made : IsGroupNumbersOf dimensions grouping
+  made = grouping_of_over dimensions grouping over
 
   -- what it shows at a number
   shown_at : (slots : Slots) (columns : List (Vec Tally Global)) (number : ℕ)
-      → number < group_count dimensions (query_of plan).columns
-      → get_or (all_tallies plan slots columns) number [] ≡ tallies_in (query_of plan) slots columns number
+      → number < group_count dimensions (query_of grouping).columns
+      → get_or (all_tallies grouping slots columns) number [] ≡ tallies_in (query_of grouping) slots columns number
   shown_at slots columns number h =
-      get_or-map-range_with_len (tallies_in (query_of plan) slots columns) 0 (count_of plan) number number []
+      get_or-map-range_with_len (tallies_in (query_of grouping) slots columns) 0 (count_of grouping) number number []
       (omega (arith, h, made.counted)) (omega arith)
 
-  -- ---- bounds of the plan are those of the dimensions
-  module _ (slots : Slots) (columns : List (Vec Tally Global)) (kept : IsKept plan slots columns) where
-    pub kept_numbers : AreSlots (group_count dimensions (query_of plan).columns) (entries_of slots)
+  -- ---- bounds of the query are those of the dimensions
+  module _ (slots : Slots) (columns : List (Vec Tally Global)) (kept : IsKept grouping slots columns) where
+    pub kept_numbers : AreSlots (group_count dimensions (query_of grouping).columns) (entries_of slots)
     kept_numbers = subst (λ n. AreSlots n (entries_of slots)) made.counted kept.numbers
 
-    pub kept_cover : Cover (group_count dimensions (query_of plan).columns) slots
+    pub kept_cover : Cover (group_count dimensions (query_of grouping).columns) slots
     kept_cover = subst (λ n. Cover n slots) made.counted kept.cover
 
     -- ---- rows that it represents
-    pub tallied_for : (rows : List LineOrder) → RepresentsRows dimensions (shown plan slots columns) rows
-        → AreTallied dimensions (finest (query_of plan)) (entries_of slots) columns rows
+    pub tallied_for : (rows : List LineOrder) → RepresentsRows dimensions (shown grouping slots columns) rows
+        → AreTallied dimensions (finest (query_of grouping)) (entries_of slots) columns rows
     tallied_for rows represents =
-        let query = query_of plan in
+        let query = query_of grouping in
         let aggs = query.aggregates in
         let entries = entries_of slots in
         let bound = group_count dimensions query.columns in
@@ -774,11 +775,11 @@ module _ (dimensions : DimRows) (plan : GroupPlan) (over : IsGroupPlanOver dimen
         }
 
   pub represents_for : (slots : Slots) (columns : List (Vec Tally Global)) (rows : List LineOrder)
-      → AreSlots (group_count dimensions (query_of plan).columns) (entries_of slots)
-      → AreTallied dimensions (finest (query_of plan)) (entries_of slots) columns rows
-      → RepresentsRows dimensions (shown plan slots columns) rows
+      → AreSlots (group_count dimensions (query_of grouping).columns) (entries_of slots)
+      → AreTallied dimensions (finest (query_of grouping)) (entries_of slots) columns rows
+      → RepresentsRows dimensions (shown grouping slots columns) rows
   represents_for slots columns rows numbers tallied =
-      let query = query_of plan in
+      let query = query_of grouping in
       let aggs = query.aggregates in
       let entries = entries_of slots in
       let key_of = group_key_at dimensions query.columns in
@@ -805,9 +806,9 @@ module _ (dimensions : DimRows) (plan : GroupPlan) (over : IsGroupPlanOver dimen
 
   -- ---- as it begins
   pub begun : (slots : Slots) (columns : List (Vec Tally Global))
-      → AreSlots (group_count dimensions (query_of plan).columns) (entries_of slots)
-      → ((slot : ℕ) → tallies_at columns slot ≡ tallies_of (query_of plan).aggregates [])
-      → RepresentsRows dimensions (shown plan slots columns) []
+      → AreSlots (group_count dimensions (query_of grouping).columns) (entries_of slots)
+      → ((slot : ℕ) → tallies_at columns slot ≡ tallies_of (query_of grouping).aggregates [])
+      → RepresentsRows dimensions (shown grouping slots columns) []
   begun slots columns numbers none = represents_for slots columns [] numbers (record {
     each = λ number slot found. none slot;
     others = λ key absent. refl;
@@ -815,23 +816,23 @@ module _ (dimensions : DimRows) (plan : GroupPlan) (over : IsGroupPlanOver dimen
   })
 
   -- ---- over its dimensions
-  pub fold_over : (slots : Slots) (columns : List (Vec Tally Global)) → IsKept plan slots columns
-      → IsFold dimensions (query_of plan) slots columns
+  pub fold_over : (slots : Slots) (columns : List (Vec Tally Global)) → IsKept grouping slots columns
+      → IsFold dimensions (query_of grouping) slots columns
   fold_over slots columns kept = record {
     proper = kept.proper;
     rising = made.rising;
     numbers = kept_numbers slots columns kept;
     cover = kept_cover slots columns kept;
-    count = tallies-length (query_of plan).aggregates columns (length (entries_of slots)) []
+    count = tallies-length (query_of grouping).aggregates columns (length (entries_of slots)) []
         (kept.fresh (length (entries_of slots)) (omega arith));
   }
 
   -- ---- with more slots
-  module _ (old : Slots) (columns : List (Vec Tally Global)) (kept : IsKept plan old columns) (new : Slots)
-      (longer : List (Vec Tally Global)) (cover : Cover (group_count dimensions (query_of plan).columns) new)
-      (grow : Grow (group_count dimensions (query_of plan).columns) (entries_of old) (entries_of new))
+  module _ (old : Slots) (columns : List (Vec Tally Global)) (kept : IsKept grouping old columns) (new : Slots)
+      (longer : List (Vec Tally Global)) (cover : Cover (group_count dimensions (query_of grouping).columns) new)
+      (grow : Grow (group_count dimensions (query_of grouping).columns) (entries_of old) (entries_of new))
       (same : (slot : ℕ) → tallies_at longer slot ≡ tallies_at columns slot) where
-    pub kept_ready : IsKept plan new longer
+    pub kept_ready : IsKept grouping new longer
     kept_ready = record {
       proper = kept.proper;
       numbers = subst (λ n. AreSlots n (entries_of new)) (sym made.counted) grow.slots;
@@ -841,9 +842,9 @@ module _ (dimensions : DimRows) (plan : GroupPlan) (over : IsGroupPlanOver dimen
 
     -- it has the same tallies at each number
     same_at : (number : ℕ)
-        → tallies_in (query_of plan) new longer number ≡ tallies_in (query_of plan) old columns number
+        → tallies_in (query_of grouping) new longer number ≡ tallies_in (query_of grouping) old columns number
     same_at number =
-        let query = query_of plan in
+        let query = query_of grouping in
         let tallies = tallies_or_none query columns in
         (elim (slot_of (entries_of new) number) as (λ o. slot_of (entries_of new) number ≡ o
         → tallies_or_none query longer o ≡ tallies (slot_of (entries_of old) number)) [
@@ -859,58 +860,60 @@ module _ (dimensions : DimRows) (plan : GroupPlan) (over : IsGroupPlanOver dimen
           ]
         ]) refl
 
-    pub shown_ready : shown plan new longer ≡ shown plan old columns
+    pub shown_ready : shown grouping new longer ≡ shown grouping old columns
     shown_ready = λ i. record {
-      query = query_of plan;
-      plan = plan;
-      tallies = map (λ number. same_at number i) (range_with_len 0 (count_of plan));
+      query = query_of grouping;
+      grouping = grouping;
+      tallies = map (λ number. same_at number i) (range_with_len 0 (count_of grouping));
     }
 
     tallied_ready : (rows : List LineOrder)
-        → AreTallied dimensions (finest (query_of plan)) (entries_of old) columns rows
-        → AreTallied dimensions (finest (query_of plan)) (entries_of new) longer rows
+        → AreTallied dimensions (finest (query_of grouping)) (entries_of old) columns rows
+        → AreTallied dimensions (finest (query_of grouping)) (entries_of new) longer rows
     tallied_ready rows tallied =
-        AreTallied-grow dimensions (finest (query_of plan)) (entries_of old) (entries_of new) columns longer rows
+        AreTallied-grow dimensions (finest (query_of grouping)) (entries_of old) (entries_of new) columns longer rows
         made.rising (kept_numbers old columns kept) grow same tallied
 
     -- ---- and with more rows
     module _ (rows : List LineOrder) (group_slots : List (Option ℕ))
-        (group_slots_are : AreGroupSlots dimensions (query_of plan) (entries_of new) rows group_slots) where
-      pub HaveRoom-ready : (so_far : List LineOrder) → RepresentsRows dimensions (shown plan old columns) so_far
+        (group_slots_are : AreGroupSlots dimensions (query_of grouping) (entries_of new) rows group_slots) where
+      pub HaveRoom-ready : (so_far : List LineOrder) → RepresentsRows dimensions (shown grouping old columns) so_far
           → AreFoldable dimensions (so_far ++ rows)
           → AllByRecursion (λ column. length (entries_of new) ≤ length column.items) longer
-          → HaveRoom (query_of plan).aggregates longer rows group_slots
+          → HaveRoom (query_of grouping).aggregates longer rows group_slots
       HaveRoom-ready so_far represents foldable long =
-          HaveRoom-foldable dimensions (finest (query_of plan)) (entries_of new) longer so_far rows group_slots
+          HaveRoom-foldable dimensions (finest (query_of grouping)) (entries_of new) longer so_far rows group_slots
           grow.slots
-          (AreGroupSlots-finest dimensions (query_of plan) (entries_of new) rows group_slots group_slots_are) long
+          (AreGroupSlots-finest dimensions (query_of grouping) (entries_of new) rows group_slots group_slots_are) long
           foldable
           (tallied_ready so_far (tallied_for old columns kept so_far represents))
 
       module _ (counted : List (Vec Tally Global))
-          (count : CountIn (query_of plan).aggregates rows group_slots longer counted) where
-        tallied_count : (so_far : List LineOrder) → RepresentsRows dimensions (shown plan old columns) so_far
-            → AreTallied dimensions (finest (query_of plan)) (entries_of new) counted (so_far ++ rows)
+          (count : CountIn (query_of grouping).aggregates rows group_slots longer counted) where
+        tallied_count : (so_far : List LineOrder) → RepresentsRows dimensions (shown grouping old columns) so_far
+            → AreTallied dimensions (finest (query_of grouping)) (entries_of new) counted (so_far ++ rows)
         tallied_count so_far represents =
-            AreTallied-count dimensions (finest (query_of plan)) (entries_of new) longer counted so_far rows group_slots
+            AreTallied-count dimensions (finest (query_of grouping)) (entries_of new) longer counted so_far rows
+            group_slots
             refl made.rising grow.slots
-            (AreGroupSlots-finest dimensions (query_of plan) (entries_of new) rows group_slots group_slots_are) count
+            (AreGroupSlots-finest dimensions (query_of grouping) (entries_of new) rows group_slots group_slots_are)
+            count
             (tallied_ready so_far (tallied_for old columns kept so_far represents))
 
-        pub kept_count : IsKept plan new counted
+        pub kept_count : IsKept grouping new counted
         kept_count = record {
           proper = kept.proper;
           numbers = kept_ready.numbers;
           cover = kept_ready.cover;
           fresh = λ slot h.
               count slot [] (kept_ready.fresh slot h)
-              ∙ ap (tallies_of (query_of plan).aggregates)
-              (slotted-none dimensions (query_of plan) (group_count dimensions (query_of plan).columns)
+              ∙ ap (tallies_of (query_of grouping).aggregates)
+              (slotted-none dimensions (query_of grouping) (group_count dimensions (query_of grouping).columns)
               (entries_of new) grow.slots rows group_slots group_slots_are slot h);
         }
 
-        pub represents_count : (so_far : List LineOrder) → RepresentsRows dimensions (shown plan old columns) so_far
-            → RepresentsRows dimensions (shown plan new counted) (so_far ++ rows)
+        pub represents_count : (so_far : List LineOrder) → RepresentsRows dimensions (shown grouping old columns) so_far
+            → RepresentsRows dimensions (shown grouping new counted) (so_far ++ rows)
         represents_count so_far represents =
             represents_for new counted (so_far ++ rows) grow.slots (tallied_count so_far represents)
 
@@ -939,34 +942,35 @@ takes_none dimensions fold =
     }
 
 -- ---- a fold
-module _ (dimensions : DimRows) (plan : GroupPlan) (over : IsGroupPlanOver dimensions plan) (old : Slots)
-    (columns : List (Vec Tally Global)) (kept : IsKept plan old columns) (one : has_one_group (query_of plan) ≡ true)
+module _ (dimensions : DimRows) (grouping : GroupNumbers) (over : IsGroupNumbersOver dimensions grouping) (old : Slots)
+    (columns : List (Vec Tally Global)) (kept : IsKept grouping old columns)
+    (one : has_one_group (query_of grouping) ≡ true)
   where
     abbrev query : Query
-    query = query_of plan
+    query = query_of grouping
 
     abbrev bound : ℕ
     bound = group_count dimensions query.columns
 
     pub place_first : CanPlace old 0
     place_first =
-        can_place bound old (one_at_least dimensions query one) (kept_cover dimensions plan over old columns kept)
+        can_place bound old (one_at_least dimensions query one) (kept_cover dimensions grouping over old columns kept)
 
     module _ (new : Slots) (longer : List (Vec Tally Global)) (covers : (bound : ℕ) → Cover bound old → Cover bound new)
         (grows : (bound : ℕ) → 0 < bound → AreSlots bound (entries_of old)
         → Grow bound (entries_of old) (entries_of new))
         (same : (slot : ℕ) → tallies_at longer slot ≡ tallies_at columns slot) where
       cover : Cover bound new
-      cover = covers bound (kept_cover dimensions plan over old columns kept)
+      cover = covers bound (kept_cover dimensions grouping over old columns kept)
 
       grow : Grow bound (entries_of old) (entries_of new)
-      grow = grows bound (one_at_least dimensions query one) (kept_numbers dimensions plan over old columns kept)
+      grow = grows bound (one_at_least dimensions query one) (kept_numbers dimensions grouping over old columns kept)
 
-      pub shown_one : shown plan new longer ≡ shown plan old columns
-      shown_one = shown_ready dimensions plan over old columns kept new longer cover grow same
+      pub shown_one : shown grouping new longer ≡ shown grouping old columns
+      shown_one = shown_ready dimensions grouping over old columns kept new longer cover grow same
 
-      pub kept_one : IsKept plan new longer
-      kept_one = kept_ready dimensions plan over old columns kept new longer cover grow same
+      pub kept_one : IsKept grouping new longer
+      kept_one = kept_ready dimensions grouping over old columns kept new longer cover grow same
 
       module _ (slot : ℕ) (there : slot_of (entries_of new) 0 ≡ Some slot) where
         pub slot_within : AllByRecursion (λ column. length (entries_of new) ≤ length column.items) longer
@@ -981,13 +985,14 @@ module _ (dimensions : DimRows) (plan : GroupPlan) (over : IsGroupPlanOver dimen
           have : AreGroupSlots dimensions query (entries_of new) some (all_at slot some)
           have = slots_are dimensions query (entries_of new) slot one there marks rows marks_are
 
-          pub room_one : (so_far : List LineOrder) → RepresentsRows dimensions (shown plan old columns) so_far
+          pub room_one : (so_far : List LineOrder) → RepresentsRows dimensions (shown grouping old columns) so_far
               → AreFoldable dimensions (so_far ++ some)
               → AllByRecursion (λ column. length (entries_of new) ≤ length column.items) longer → 0 < length some
               → HaveRoomAt query.aggregates longer slot some
           room_one so_far represents foldable long any =
               room_at query.aggregates longer slot some any
-              (HaveRoom-ready dimensions plan over old columns kept new longer cover grow same some (all_at slot some)
+              (HaveRoom-ready dimensions grouping over old columns kept new longer cover grow same some
+              (all_at slot some)
               have so_far represents foldable long)
 
           module _ (merged : List (Vec Tally Global))
@@ -997,15 +1002,15 @@ module _ (dimensions : DimRows) (plan : GroupPlan) (over : IsGroupPlanOver dimen
               counted : CountIn query.aggregates some (all_at slot some) longer merged
               counted = batch_counted query.aggregates some slot longer merged merged_is
 
-              pub kept_batch : IsKept plan new merged
-              kept_batch = kept_count dimensions plan over old columns kept new longer cover grow same some
+              pub kept_batch : IsKept grouping new merged
+              kept_batch = kept_count dimensions grouping over old columns kept new longer cover grow same some
                   (all_at slot some) have merged counted
 
               pub represents_batch : (so_far : List LineOrder)
-                  → RepresentsRows dimensions (shown plan old columns) so_far
-                  → RepresentsRows dimensions (shown plan new merged) (so_far ++ some)
+                  → RepresentsRows dimensions (shown grouping old columns) so_far
+                  → RepresentsRows dimensions (shown grouping new merged) (so_far ++ some)
               represents_batch so_far represents =
-                  represents_count dimensions plan over old columns kept new longer cover grow same some
+                  represents_count dimensions grouping over old columns kept new longer cover grow same some
                   (all_at slot some)
                   have merged counted so_far represents
 
@@ -1141,24 +1146,24 @@ module _ (dimensions : DimRows) (modes : List (List ℕ)) (plain : PlainCells) (
   rooms_for (agg ∷ aggs) = (room_for agg, rooms_for aggs)
 
 -- ---- a fold
-module _ (dimensions : DimRows) (plan : GroupPlan) (over : IsGroupPlanOver dimensions plan) (old : Slots)
-    (columns : List (Vec Tally Global)) (kept : IsKept plan old columns) (new : Slots)
-    (cover : Cover (group_count dimensions (query_of plan).columns) new)
-    (grow : Grow (group_count dimensions (query_of plan).columns) (entries_of old) (entries_of new)) where
+module _ (dimensions : DimRows) (grouping : GroupNumbers) (over : IsGroupNumbersOver dimensions grouping) (old : Slots)
+    (columns : List (Vec Tally Global)) (kept : IsKept grouping old columns) (new : Slots)
+    (cover : Cover (group_count dimensions (query_of grouping).columns) new)
+    (grow : Grow (group_count dimensions (query_of grouping).columns) (entries_of old) (entries_of new)) where
   abbrev as_they_are : (slot : ℕ) → tallies_at columns slot ≡ tallies_at columns slot
   as_they_are slot = refl
 
   -- with more slots it represents what it represented
-  pub shown_with_slots : shown plan new columns ≡ shown plan old columns
-  shown_with_slots = shown_ready dimensions plan over old columns kept new columns cover grow as_they_are
+  pub shown_with_slots : shown grouping new columns ≡ shown grouping old columns
+  shown_with_slots = shown_ready dimensions grouping over old columns kept new columns cover grow as_they_are
 
-  pub kept_with_slots : IsKept plan new columns
-  kept_with_slots = kept_ready dimensions plan over old columns kept new columns cover grow as_they_are
+  pub kept_with_slots : IsKept grouping new columns
+  kept_with_slots = kept_ready dimensions grouping over old columns kept new columns cover grow as_they_are
 
   -- whatever was merged in at the slots
   pub kept_after : (merged : List (Vec Tally Global))
       → ((slot : ℕ) → length (entries_of new) ≤ slot → tallies_at merged slot ≡ tallies_at columns slot)
-      → IsKept plan new merged
+      → IsKept grouping new merged
   kept_after merged same = record {
     proper = kept_with_slots.proper;
     numbers = kept_with_slots.numbers;
@@ -1168,17 +1173,17 @@ module _ (dimensions : DimRows) (plan : GroupPlan) (over : IsGroupPlanOver dimen
 
   module _ (modes : List (List ℕ)) (plain : PlainCells) where
     module _ (merged : List (Vec Tally Global))
-        (are : AreMergedIn (asked_of dimensions (query_of plan) plain.view modes) (query_of plan).aggregates
+        (are : AreMergedIn (asked_of dimensions (query_of grouping) plain.view modes) (query_of grouping).aggregates
         (entries_of new) plain.cells columns merged) where
       slots_below : SlotsAreBelow (length (entries_of new)) are.group_slots
       slots_below place slot at =
-          let found = AreGroupSlots-at dimensions (query_of plan) (entries_of new) are.slots.rows are.group_slots
+          let found = AreGroupSlots-at dimensions (query_of grouping) (entries_of new) are.slots.rows are.group_slots
           are.slots.slots place slot at in
           grow.slots.within found.0 slot found.1
 
-      pub kept_merged : IsKept plan new merged
+      pub kept_merged : IsKept grouping new merged
       kept_merged =
-          let aggs = (query_of plan).aggregates in
+          let aggs = (query_of grouping).aggregates in
           record {
             proper = kept_with_slots.proper;
             numbers = kept_with_slots.numbers;
@@ -1189,14 +1194,14 @@ module _ (dimensions : DimRows) (plan : GroupPlan) (over : IsGroupPlanOver dimen
           }
 
     pub represents_wanted : (merged : List (Vec Tally Global))
-        → AreWantedMerged (asked_of dimensions (query_of plan) plain.view modes) (query_of plan).aggregates
+        → AreWantedMerged (asked_of dimensions (query_of grouping) plain.view modes) (query_of grouping).aggregates
         (entries_of new) plain.cells columns merged
-        → AreStorable dimensions → Serves plain.view (query_of plan) → (rows : List LineOrder)
+        → AreStorable dimensions → Serves plain.view (query_of grouping) → (rows : List LineOrder)
         → RepresentRows dimensions modes rows plain
-        → (so_far : List LineOrder) → RepresentsRows dimensions (shown plan old columns) so_far
-        → RepresentsRows dimensions (shown plan new merged) (so_far ++ rows)
+        → (so_far : List LineOrder) → RepresentsRows dimensions (shown grouping old columns) so_far
+        → RepresentsRows dimensions (shown grouping new merged) (so_far ++ rows)
     represents_wanted merged are storable serves rows represent so_far represents =
-        let query = query_of plan in
+        let query = query_of grouping in
         let asked = asked_of dimensions query plain.view modes in
         let entries = entries_of new in
         let own = are.merged in
@@ -1217,34 +1222,35 @@ module _ (dimensions : DimRows) (plan : GroupPlan) (over : IsGroupPlanOver dimen
         (λ slot. own.merged slot ∙ sym
         (with_wanted asked slot plain.cells are.wanted are.out own.group_slots count query.aggregates
         (tallies_at columns slot))) in
-        represents_count dimensions plan over old columns kept new columns cover grow as_they_are rows
+        represents_count dimensions grouping over old columns kept new columns cover grow as_they_are rows
         (map (slot_of_row dimensions modes plain.view query entries storable serves plain.cells group_slots have rows
         represent) rows) slots merged counted so_far represents
 
     pub represents_merged : (merged : List (Vec Tally Global))
-        → AreMergedIn (asked_of dimensions (query_of plan) plain.view modes) (query_of plan).aggregates (entries_of new)
+        → AreMergedIn (asked_of dimensions (query_of grouping) plain.view modes) (query_of grouping).aggregates
+        (entries_of new)
         plain.cells columns merged
-        → AreStorable dimensions → Serves plain.view (query_of plan) → (rows : List LineOrder)
+        → AreStorable dimensions → Serves plain.view (query_of grouping) → (rows : List LineOrder)
         → RepresentRows dimensions modes rows plain
-        → (so_far : List LineOrder) → RepresentsRows dimensions (shown plan old columns) so_far
-        → RepresentsRows dimensions (shown plan new merged) (so_far ++ rows)
+        → (so_far : List LineOrder) → RepresentsRows dimensions (shown grouping old columns) so_far
+        → RepresentsRows dimensions (shown grouping new merged) (so_far ++ rows)
     represents_merged merged are =
         represents_wanted merged (record {
           wanted = plain.cells;
-          out = leaves_none (asked_of dimensions (query_of plan) plain.view modes)
+          out = leaves_none (asked_of dimensions (query_of grouping) plain.view modes)
               plain.cells;
           merged = are;
         })
 
     pub room_for_cells : (rows : List LineOrder) → RepresentRows dimensions modes rows plain → (so_far : List LineOrder)
-        → RepresentsRows dimensions (shown plan old columns) so_far → AreFoldable dimensions (so_far ++ rows)
-        → GroupsHaveRoomFor (entries_of new) (query_of plan).aggregates plain.cells columns
+        → RepresentsRows dimensions (shown grouping old columns) so_far → AreFoldable dimensions (so_far ++ rows)
+        → GroupsHaveRoomFor (entries_of new) (query_of grouping).aggregates plain.cells columns
     room_for_cells rows represent so_far represents foldable number slot found =
-        let query = finest (query_of plan) in
-        let made = plan_of_over dimensions plan over in
+        let query = finest (query_of grouping) in
+        let made = grouping_of_over dimensions grouping over in
         let tallied = AreTallied-grow dimensions query (entries_of old) (entries_of new) columns columns so_far
-        made.rising (kept_numbers dimensions plan over old columns kept) grow as_they_are
-        (tallied_for dimensions plan over old columns kept so_far represents) in
+        made.rising (kept_numbers dimensions grouping over old columns kept) grow as_they_are
+        (tallied_for dimensions grouping over old columns kept so_far represents) in
         let p = is_selected dimensions query.conditions in
         let key = group_key_at dimensions query.columns number in
         let q = λ (row : LineOrder). list_any (eq_by_cmp key_cmp key) (keys_of dimensions query row) in

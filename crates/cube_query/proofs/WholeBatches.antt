@@ -20,10 +20,10 @@ use Rattle.cube_model.specs.declared.rows.LineOrder.{LineOrder}
 use Rattle.column_kernels.specs.Masks.{selected_by}
 use Rattle.column_kernels.proofs.CallerLemmas.{count_selected}
 use Rattle.column_segment.specs.Projected.{HaveSmallFigures}
-use Rattle.group_plan.specs.Numbers.{group_count, group_key_at}
-use Rattle.group_plan.specs.Parts.{holds_in}
-use Rattle.group_plan.specs.Plans.{AreBounds}
-use Rattle.group_plan.specs.declared.bounds.Bounds.{Bounds}
+use Rattle.group_numbers.specs.Numbers.{group_count, group_key_at}
+use Rattle.group_numbers.specs.Parts.{holds_in}
+use Rattle.group_numbers.specs.GroupNumbers.{AreBounds}
+use Rattle.group_numbers.specs.declared.bounds.Bounds.{Bounds}
 use Rattle.cube_query.specs.Chosen.{KeepSelected, lies_within}
 use Rattle.group_tallies.specs.Columns.{can_add, rows_with_slots, no_tally, aggregate_size, slotted, tallies_at}
 use Rattle.group_tallies.specs.Columns.{tally_at}

@@ -5,7 +5,7 @@ use Rattle.cube_model.specs.declared.rows.DimRows.{DimRows}
 use Rattle.cube_model.specs.declared.rows.LineOrder.{LineOrder}
 use Rattle.cube_model.specs.Selection.{selected}
 use Rattle.column_kernels.specs.Masks.{lies_in, selected_by}
-use Rattle.group_plan.specs.declared.bounds.Bounds.{Bounds}
+use Rattle.group_numbers.specs.declared.bounds.Bounds.{Bounds}
 
 -- the quantity and the discount of a row lie within bounds
 abbrev pub lies_within : Bounds → LineOrder → Bool

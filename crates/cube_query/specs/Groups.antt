@@ -10,20 +10,21 @@ use Rattle.group_tallies.specs.declared.tally.Tally.{Tally}
 use Rattle.group_tallies.specs.Groups.{finest, rows_at}
 use Rattle.group_tallies.specs.Limits.{AreFoldable}
 use Rattle.group_tallies.specs.Tallies.{tallies_of}
-use Rattle.group_plan.specs.Numbers.{group_count, group_key_at}
-use Rattle.group_plan.specs.Plans.{IsGroupPlanOver}
-use Rattle.group_plan.specs.declared.plan.GroupPlan.{GroupPlan}
+use Rattle.group_numbers.specs.Numbers.{group_count, group_key_at}
+use Rattle.group_numbers.specs.GroupNumbers.{IsGroupNumbersOver}
+use Rattle.group_numbers.specs.declared.group_numbers.GroupNumbers.{GroupNumbers}
 
--- a fold: its query, its plan, and the tallies at the number of each group by all columns, those of no row among them
+-- a fold: its query, its group numbers, and the tallies at the number of each group by all columns, those of no row
+-- among them
 pub record FoldState : Type 0 where
   pub query : Query
-  pub plan : GroupPlan
+  pub grouping : GroupNumbers
   pub tallies : List (List Tally)
 
--- A fold represents fact rows over dimensions: its plan is over these, at the number of each group it has the tallies
--- over the selected rows of that group's key, and no selected row has another key.
+-- A fold represents fact rows over dimensions: its group numbers are over these, at the number of each group it has the
+-- tallies over the selected rows of that group's key, and no selected row has another key.
 pub record RepresentsRows (dimensions : DimRows) (fold : FoldState) (rows : List LineOrder) : Type 0 where
-  pub over : IsGroupPlanOver dimensions fold.plan
+  pub over : IsGroupNumbersOver dimensions fold.grouping
   pub each : (number : ℕ) → number < group_count dimensions fold.query.columns
       → slice_index_or fold.tallies number []
       ≡ tallies_of fold.query.aggregates
@@ -40,7 +41,7 @@ pub record Begins (dimensions : DimRows) (query : Query) (fold : FoldState) : Ty
 
 -- the dimensions are those of a fold's beginning
 abbrev pub IsOver : DimRows → FoldState → Type 0
-IsOver dimensions fold = IsGroupPlanOver dimensions fold.plan
+IsOver dimensions fold = IsGroupNumbersOver dimensions fold.grouping
 
 -- a fold over the dimensions of its beginning: it represents some fact rows
 abbrev pub IsFoldOver : DimRows → FoldState → Type 0

@@ -1,5 +1,5 @@
 //! The columns of fact rows at which a query looks.
-ghost use Rattle.std.specs.Prelude.{◌≡◌, ◌++◌, ◌∷◌, [], List, cond, IfOk, OnOk};
+ghost use Rattle.std.specs.Prelude.{◌≡◌, ◌++◌, ◌∷◌, [], cond, IfOk, OnOk};
 ghost use Rattle.std.specs.List.{list_any};
 ghost use Rattle.cube_model.specs.Attributes.{axis_of};
 ghost use Rattle.cube_query.specs.Asked.{aggregate_asks, asked_columns, condition_asks, has_keys_of, is_asked};

@@ -1,12 +1,12 @@
 //! The cells of a run, merged in as they are read.
-ghost use Rattle.std.specs.Prelude.{◌≡◌, ◌⊎◌, ◌<◌, ◌≤◌, ℕ, List, Some, length, IsErrOf, MatchResult, OnOk};
+ghost use Rattle.std.specs.Prelude.{◌≡◌, ◌⊎◌, ◌<◌, ◌≤◌, ℕ, List, Some, length, IsErrOf, OnOk};
 ghost use Rattle.std.specs.List.{All};
 ghost use Rattle.cube_model.specs.declared.fault.Fault.{Fault};
-ghost use Rattle.wire.specs.Runs.{HasRead, IsRefused};
+ghost use Rattle.wire.specs.Runs.{ReadsSourceOr};
 ghost use Rattle.cuboid_cells.specs.Cells.{IsCellOf};
 ghost use Rattle.cuboid_cells.specs.Pieces.{AreLeft, size_of_run};
 ghost use Rattle.cuboid_cells.specs.declared.cell.Cell.{Cell};
-ghost use Rattle.group_plan.specs.Numbers.{group_count};
+ghost use Rattle.group_numbers.specs.Numbers.{group_count};
 ghost use Rattle.cube_query.specs.CellRuns.{IsRunMerged, ReadsWanted};
 ghost use Rattle.cube_query.specs.CellSlots.{HaveNoRepresentative};
 ghost use Rattle.cube_query.specs.CellTallies.{GroupsHaveRoomFor};
@@ -52,9 +52,8 @@ pub fn merge_run<S: Source>(
     ensures cover { Cover (group_count numbers.now.dimensions numbers.now.query.columns) slots.new }
     ensures grow { Grow (group_count numbers.now.dimensions numbers.now.query.columns) (entries_of slots.old)
         (entries_of slots.new) }
-    ensures run { MatchResult result (λ _. HasRead S.Source source.old source.new)
-        (λ fault. (((fault ≡ Fault.Memory) ⊎ (fault ≡ Fault.BadLayout)) × HasRead S.Source source.old source.new)
-        ⊎ IsRefused S.Source fault source.old source.new) }
+    ensures run { ReadsSourceOr S.Source (λ fault. (fault ≡ Fault.Memory) ⊎ (fault ≡ Fault.BadLayout)) source.old
+        source.new result }
 {
     let mut cells = Vec::new(alloc);
     while !run.is_done() {
@@ -84,9 +83,8 @@ fn read_wanted<S: Source>(
         → ReadsWanted numbers.now (S.texts source.old run.old.id) left run.new cells.new.items) }
     ensures refused { IsErrOf result Fault.BadLayout → S.keeps_word source.new → (left : List Cell)
         → AreLeft (S.texts source.old run.old.id) run.old left → ⊥ }
-    ensures run { MatchResult result (λ _. HasRead S.Source source.old source.new)
-        (λ fault. (((fault ≡ Fault.Memory) ⊎ (fault ≡ Fault.BadLayout)) × HasRead S.Source source.old source.new)
-        ⊎ IsRefused S.Source fault source.old source.new) }
+    ensures run { ReadsSourceOr S.Source (λ fault. (fault ≡ Fault.Memory) ⊎ (fault ≡ Fault.BadLayout)) source.old
+        source.new result }
 {
     cells.clear();
     let Some(least) = numbers.next_number(run.least()) else {

@@ -2,7 +2,7 @@
 ghost use Rattle.std.specs.Prelude.{◌≡◌, ◌⊎◌, ◌<◌, ◌≤◌, ℕ, List, [], ◌∷◌, length, Some, Err, IfOk, IfErr, OnOk};
 ghost use Rattle.std.specs.List.{All};
 ghost use Rattle.cuboid_cells.specs.Cells.{IsCellOf};
-ghost use Rattle.group_plan.specs.Numbers.{group_count};
+ghost use Rattle.group_numbers.specs.Numbers.{group_count};
 ghost use Rattle.cube_query.specs.CellSlots.{AreMergedIn, HasNoRepresentative, HaveNoRepresentative, IsCellSlot};
 ghost use Rattle.cube_query.specs.CellSlots.{IsMergedIn};
 ghost use Rattle.cube_query.specs.CellTallies.{GroupsHaveRoomFor};

@@ -1,17 +1,17 @@
 //! The rows of a batch that lie within bounds.
-ghost use Rattle.std.specs.Prelude.{◌≡◌, ◌<◌, ◌^◌, ℕ, List, length, IfErr, IfOk};
+ghost use Rattle.std.specs.Prelude.{◌≡◌, ◌<◌, ◌^◌, List, length, IfErr, IfOk};
 ghost use Rattle.std.specs.List.{range_with_len};
 ghost use Rattle.cube_model.specs.declared.fault.Fault.{Fault};
 ghost use Rattle.cube_model.specs.declared.query.Cond.{Cond};
 ghost use Rattle.cube_model.specs.declared.rows.DimRows.{DimRows};
-ghost use Rattle.group_plan.specs.Plans.{AreBounds};
+ghost use Rattle.group_numbers.specs.GroupNumbers.{AreBounds};
 ghost use Rattle.cube_query.specs.Chosen.{KeepSelected, places_from};
 
 use crate::column_rows::ColumnRows;
 use column_kernels::Mask;
 use column_segment::FactColumns;
 use cube_model::{Axis, Fault, Measure};
-use group_plan::{Bounds, FactRows, GroupPlanOver};
+use group_numbers::{Bounds, FactRows, GroupNumbersOver};
 use std::alloc::{AllocError, Global};
 use std::marker::Model;
 
@@ -26,7 +26,7 @@ impl<'a> Model for ChosenRows<'a> {
     ghost use Rattle.std.specs.Prelude.{List, map, length, ◌<◌};
     ghost use Rattle.std.specs.List.{All};
     ghost use Rattle.cube_model.specs.declared.rows.LineOrder.{LineOrder};
-    ghost use Rattle.group_plan.specs.Rows.{row_at};
+    ghost use Rattle.group_numbers.specs.Rows.{row_at};
 
     ghost Value = { List LineOrder };
 
@@ -40,18 +40,18 @@ impl<'a> ChosenRows<'a> {
     /// bounds and whose keys pass its tables. It can only fail when out of memory.
     pub fn of(
         alloc: Global,
-        plan: &GroupPlanOver,
+        grouping: &GroupNumbersOver,
         batch: FactColumns<'a>,
     ) -> Result<ChosenRows<'a>, Fault>
         ensures ok { IfOk result
-            (λ chosen. KeepSelected plan.now.dimensions plan.now.query.conditions chosen batch.entry) }
+            (λ chosen. KeepSelected grouping.now.dimensions grouping.now.query.conditions chosen batch.entry) }
         ensures memory { IfErr result (λ fault. fault ≡ Fault.Memory) }
     {
-        let chosen = ChosenRows::bounded(alloc, batch, plan.bounds())?;
-        let chosen = chosen.without(plan, Axis::Supplier);
-        let chosen = chosen.without(plan, Axis::Customer);
-        let chosen = chosen.without(plan, Axis::Part);
-        Ok(chosen.without(plan, Axis::Date))
+        let chosen = ChosenRows::bounded(alloc, batch, grouping.bounds())?;
+        let chosen = chosen.without(grouping, Axis::Supplier);
+        let chosen = chosen.without(grouping, Axis::Customer);
+        let chosen = chosen.without(grouping, Axis::Part);
+        Ok(chosen.without(grouping, Axis::Date))
     }
 
     // The rows of a batch whose quantity and discount lie within bounds.
@@ -105,11 +105,11 @@ impl<'a> ChosenRows<'a> {
     }
 
     // The rows without those that fail a condition on a dimension, as far as a table of its keys tells.
-    fn without(self, plan: &GroupPlanOver, axis: Axis) -> ChosenRows<'a>
-        ensures { KeepSelected plan.now.dimensions plan.now.query.conditions result self.entry }
+    fn without(self, grouping: &GroupNumbersOver, axis: Axis) -> ChosenRows<'a>
+        ensures { KeepSelected grouping.now.dimensions grouping.now.query.conditions result self.entry }
     {
         let ChosenRows { rows, mut places } = self;
-        let kept = plan.keep(&rows, axis, places.as_mut_slice());
+        let kept = grouping.keep(&rows, axis, places.as_mut_slice());
         places.truncate(kept);
         ChosenRows { rows, places }
     }

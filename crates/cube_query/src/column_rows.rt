@@ -3,11 +3,11 @@ ghost use Rattle.std.specs.Prelude.{◌≡◌, ◌<◌, ℕ, List, length, map};
 ghost use Rattle.std.specs.Int.{from_le_bytes, w32, w64};
 ghost use Rattle.cube_model.specs.declared.rows.LineOrder.{LineOrder};
 ghost use Rattle.cube_model.specs.Attributes.{key_on};
-ghost use Rattle.group_plan.specs.Rows.{row_at};
+ghost use Rattle.group_numbers.specs.Rows.{row_at};
 
 use column_segment::{AmountColumn, ByteColumn, FactColumns, NumberColumn};
 use cube_model::{Axis, Measure};
-use group_plan::FactRows;
+use group_numbers::FactRows;
 use std::marker::Model;
 
 /// The rows of a batch, of which no row is made: each number is read from its column. Contracts see the list of the

@@ -8,7 +8,7 @@ use crate::column_rows::ColumnRows;
 use column_segment::{Segment, TextColumn};
 use cube_model::{Axis, Measure};
 use dictionary::Dictionary;
-use group_plan::{FactRows, ModeRows};
+use group_numbers::{FactRows, ModeRows};
 use std::marker::Model;
 
 /// The rows of a batch whose ship modes are given by their codes in the batch. Contracts see the list of the rows, and

@@ -1,12 +1,12 @@
 //! A fold over fact rows that come in any number of calls.
 ghost use Rattle.std.specs.Prelude.{◌≡◌, ◌⊎◌, ◌≤◌, ◌<◌, ℕ, List, true, length, map, Some, Err, IfOk};
-ghost use Rattle.std.specs.Prelude.{IfErr, IsErrOf, MatchResult, OnOk, OnErr};
+ghost use Rattle.std.specs.Prelude.{IfErr, IsErrOf, OnOk, OnErr};
 ghost use Rattle.std.specs.List.{All, AllByRecursion};
 ghost use Rattle.std.specs.Option.{option_map};
 ghost use Rattle.cube_model.specs.Answers.{answer};
 ghost use Rattle.cube_model.specs.Selection.{is_selected};
 ghost use Rattle.cube_model.specs.declared.rows.LineOrder.{LineOrder};
-ghost use Rattle.wire.specs.Runs.{HasRead, IsRefused};
+ghost use Rattle.wire.specs.Runs.{ReadsSourceOr};
 ghost use Rattle.column_segment.specs.Projected.{AgreeOn};
 ghost use Rattle.cuboid_cells.specs.Pieces.{AreLeft, size_of_run};
 ghost use Rattle.cuboid_cells.specs.Steps.{cells_of};
@@ -19,9 +19,9 @@ ghost use Rattle.group_tallies.specs.Columns.{tallies_at};
 ghost use Rattle.group_tallies.specs.GroupLines.{AreGroupsOver, answer_over};
 ghost use Rattle.cube_query.specs.Groups.{RepresentsRows, Begins, CanTake, CountsRowsIn, IsFoldable, IsOver, Takes};
 ghost use Rattle.dimensions.specs.Shown.{AreStorable};
-ghost use Rattle.group_plan.specs.Numbers.{group_count, IsKnown};
-ghost use Rattle.group_plan.specs.Parts.{IsKnownFor};
-ghost use Rattle.group_plan.specs.Plans.{IsGroupPlanOver, query_of};
+ghost use Rattle.group_numbers.specs.Numbers.{group_count, IsKnown};
+ghost use Rattle.group_numbers.specs.Parts.{IsKnownFor};
+ghost use Rattle.group_numbers.specs.GroupNumbers.{IsGroupNumbersOver, query_of};
 ghost use Rattle.group_tallies.specs.Slots.{entries_of, slot_of, AreSlots, CanPlace, Cover, Grow};
 ghost use Rattle.cube_query.specs.WholeBatch.{has_one_group};
 ghost use Rattle.group_tallies.specs.FoldInvariant.{AreGroupSlots};
@@ -43,7 +43,7 @@ use cuboid_cells::{Cells, RunReader};
 use cuboid_upkeep::CellNumbers;
 use dictionary::Dictionary;
 use dimensions::Dims;
-use group_plan::{FactRows, GroupPlan, RowSlice};
+use group_numbers::{FactRows, GroupNumbers, RowSlice};
 use group_tallies::{
     Groups, Slots, Tally, answer_lines, count_in_all, have_room, make_room, no_columns,
 };
@@ -60,7 +60,7 @@ use wire::Source;
 /// 65,536, with those that had a row. Up to 4,194,304 that there can be, it takes four bytes more for each of them.
 pub struct Fold {
     alloc: Global,
-    plan: GroupPlan,
+    grouping: GroupNumbers,
     slots: Slots,
     columns: Vec<Vec<Tally>>,
 }
@@ -70,7 +70,7 @@ impl Drop for Fold {
     fn drop(self) {
         let Fold {
             alloc: _,
-            plan: _,
+            grouping: _,
             slots: _,
             columns: _,
         } = self;
@@ -79,18 +79,18 @@ impl Drop for Fold {
 
 impl Model for Fold {
     ghost use Rattle.cube_query.specs.Groups.{FoldState};
-    ghost use Rattle.group_plan.specs.Plans.{query_of};
+    ghost use Rattle.group_numbers.specs.GroupNumbers.{query_of};
     ghost use Rattle.group_tallies.specs.FoldInvariant.{IsKept, all_tallies};
 
     ghost Value = { FoldState };
 
     ghost view = { λ fold. record {
-      query = query_of fold.plan;
-      plan = fold.plan;
-      tallies = all_tallies fold.plan fold.slots fold.columns.items;
+      query = query_of fold.grouping;
+      grouping = fold.grouping;
+      tallies = all_tallies fold.grouping fold.slots fold.columns.items;
     } };
 
-    ghost invariant = { λ fold. IsKept fold.plan fold.slots fold.columns.items };
+    ghost invariant = { λ fold. IsKept fold.grouping fold.slots fold.columns.items };
 }
 
 impl Fold {
@@ -98,12 +98,12 @@ impl Fold {
     pub fn new(alloc: Global, dims: &Dims, query: &ProperQuery<'_>) -> Result<Self, AllocError>
         ensures { IfOk result (Begins dims.now query.now) }
     {
-        let plan = GroupPlan::new(alloc, dims, query)?;
-        let slots = Slots::new(alloc, plan.group_count())?;
+        let grouping = GroupNumbers::new(alloc, dims, query)?;
+        let slots = Slots::new(alloc, grouping.group_count())?;
         let columns = no_columns(alloc, query.get().aggregates.as_slice())?;
         Ok(Fold {
             alloc,
-            plan,
+            grouping,
             slots,
             columns,
         })
@@ -114,7 +114,7 @@ impl Fold {
         ensures ok { IfOk result (λ columns. columns.items ≡ asked_columns self.now.query) }
         ensures memory { IfErr result (λ fault. fault ≡ Fault.Memory) }
     {
-        Ok(asked_columns(self.alloc, self.plan.query())?)
+        Ok(asked_columns(self.alloc, self.grouping.query())?)
     }
 
     /// Counts fact rows in. A refusal leaves the fold as it was.
@@ -173,7 +173,13 @@ impl Fold {
         let slots = &mut self.slots;
         let columns = self.columns.as_slice();
         let merged = columns_with_cells(
-            self.alloc, dims, &self.plan, slots, columns, cells, modes,
+            self.alloc,
+            dims,
+            &self.grouping,
+            slots,
+            columns,
+            cells,
+            modes,
         )?;
         self.columns = merged;
         Ok(())
@@ -209,14 +215,20 @@ impl Fold {
             → RepresentRows dims.now (modes_of (option_map (λ modes. modes.now) modes.entry)) rows
             (cells_of run.old.head.view cells)
             → CanTake dims.now self.old rows → ⊥ }
-        ensures run { MatchResult result (λ _. HasRead S.Source source.old source.new)
-            (λ fault. (((fault ≡ Fault.Memory) ⊎ (fault ≡ Fault.BadLayout)) × HasRead S.Source source.old source.new)
-            ⊎ IsRefused S.Source fault source.old source.new) }
+        ensures run { ReadsSourceOr S.Source (λ fault. (fault ≡ Fault.Memory) ⊎ (fault ≡ Fault.BadLayout)) source.old
+            source.new result }
     {
         let slots = &mut self.slots;
         let columns = self.columns.as_mut_slice();
         with_run(
-            self.alloc, dims, &self.plan, slots, columns, source, run, modes,
+            self.alloc,
+            dims,
+            &self.grouping,
+            slots,
+            columns,
+            source,
+            run,
+            modes,
         )
     }
 
@@ -231,13 +243,13 @@ impl Fold {
             → CanTake dims.now self.old rows → ⊥ }
         ensures only { IfErr result (λ fault. (fault ≡ Fault.Memory) ⊎ (fault ≡ Fault.BadLayout)) }
     {
-        if has_one_group(self.plan.query()) {
+        if has_one_group(self.grouping.query()) {
             return self.add_whole(dims, &batch);
         }
-        if self.plan.query().conditions.is_empty() {
+        if self.grouping.query().conditions.is_empty() {
             return self.add(dims, &ColumnRows::of(batch));
         }
-        let rows = ChosenRows::of(self.alloc, &self.plan.over(dims), batch)?;
+        let rows = ChosenRows::of(self.alloc, &self.grouping.over(dims), batch)?;
         self.add(dims, &rows)
     }
 
@@ -253,7 +265,7 @@ impl Fold {
             → CanTake dims.now self.old rows → ⊥ }
         ensures only { IfErr result (λ fault. (fault ≡ Fault.Memory) ⊎ (fault ≡ Fault.BadLayout)) }
     {
-        let mask = selected_rows(self.alloc, &self.plan.over(dims), batch)?;
+        let mask = selected_rows(self.alloc, &self.grouping.over(dims), batch)?;
         self.add_masked(dims, batch, &mask)
     }
 
@@ -276,7 +288,7 @@ impl Fold {
         let columns = &mut self.columns;
         let slots = &mut self.slots;
         let slot = ready_for_one(slots, columns)?;
-        let aggregates = self.plan.query().aggregates.as_slice();
+        let aggregates = self.grouping.query().aggregates.as_slice();
         let merged = with_batch(
             self.alloc,
             columns.as_slice(),
@@ -302,8 +314,8 @@ impl Fold {
     {
         let columns = &mut self.columns;
         let slots = &mut self.slots;
-        let group_slots = ready(self.alloc, dims, &self.plan, slots, columns, rows)?;
-        let aggregates = self.plan.query().aggregates.as_slice();
+        let group_slots = ready(self.alloc, dims, &self.grouping, slots, columns, rows)?;
+        let aggregates = self.grouping.query().aggregates.as_slice();
         if !have_room(columns.as_slice(), aggregates, rows, group_slots.as_slice()) {
             return Err(Fault::BadLayout);
         }
@@ -324,11 +336,11 @@ impl Fold {
         ensures refused { result ≡ Err Fault.BadLayout → IsFoldable dims.now self.now → ⊥ }
         ensures only { IfErr result (λ fault. (fault ≡ Fault.Memory) ⊎ (fault ≡ Fault.BadLayout)) }
     {
-        let plan = self.plan.over(dims);
-        let query = self.plan.query();
+        let grouping = self.grouping.over(dims);
+        let query = self.grouping.query();
         let lines = answer_lines(
             self.alloc,
-            &plan,
+            &grouping,
             query,
             self.columns.as_slice(),
             &self.slots,
@@ -348,11 +360,11 @@ impl Fold {
     {
         let Fold {
             alloc,
-            plan,
+            grouping,
             slots,
             columns,
         } = self;
-        Groups::of(alloc, dims, plan, slots, columns)
+        Groups::of(alloc, dims, grouping, slots, columns)
     }
 }
 
@@ -361,27 +373,27 @@ impl Fold {
 fn ready<F: FactRows>(
     alloc: Global,
     dims: &Dims,
-    plan: &GroupPlan,
+    grouping: &GroupNumbers,
     slots: &mut Slots,
     columns: &mut Vec<Vec<Tally>>,
     rows: &F,
 ) -> Result<Vec<Option<u32>>, Fault>
-    requires over { IsGroupPlanOver dims.now plan.now }
-    requires numbers { AreSlots (group_count dims.now (query_of plan.now).columns) (entries_of slots.old) }
-    requires cover { Cover (group_count dims.now (query_of plan.now).columns) slots.old }
+    requires over { IsGroupNumbersOver dims.now grouping.now }
+    requires numbers { AreSlots (group_count dims.now (query_of grouping.now).columns) (entries_of slots.old) }
+    requires cover { Cover (group_count dims.now (query_of grouping.now).columns) slots.old }
     ensures group_slots { IfOk result (λ group_slots.
-        AreGroupSlots dims.now (query_of plan.now) (entries_of slots.new) (F.rows rows.now) group_slots.items) }
-    ensures refused { result ≡ Err Fault.BadLayout → All (IsKnownFor dims.now (query_of plan.now)) (F.rows rows.now)
+        AreGroupSlots dims.now (query_of grouping.now) (entries_of slots.new) (F.rows rows.now) group_slots.items) }
+    ensures refused { result ≡ Err Fault.BadLayout → All (IsKnownFor dims.now (query_of grouping.now)) (F.rows rows.now)
         → ⊥ }
     ensures only { IfErr result (λ fault. (fault ≡ Fault.Memory) ⊎ (fault ≡ Fault.BadLayout)) }
     ensures long { OnOk result (AllByRecursion (λ column. length (entries_of slots.new) ≤ length column.items)
         columns.new.items) }
     ensures same { (slot : ℕ) → tallies_at columns.new.items slot ≡ tallies_at columns.old.items slot }
-    ensures cover { Cover (group_count dims.now (query_of plan.now).columns) slots.new }
-    ensures grow { Grow (group_count dims.now (query_of plan.now).columns) (entries_of slots.old)
+    ensures cover { Cover (group_count dims.now (query_of grouping.now).columns) slots.new }
+    ensures grow { Grow (group_count dims.now (query_of grouping.now).columns) (entries_of slots.old)
         (entries_of slots.new) }
 {
-    let group_slots = group_slots_of(alloc, &plan.over(dims), slots, rows)?;
+    let group_slots = group_slots_of(alloc, &grouping.over(dims), slots, rows)?;
     make_room(columns, slots)?;
     Ok(group_slots)
 }
@@ -391,33 +403,34 @@ fn ready<F: FactRows>(
 fn columns_with_cells(
     alloc: Global,
     dims: &Dims,
-    plan: &GroupPlan,
+    grouping: &GroupNumbers,
     slots: &mut Slots,
     columns: &[Vec<Tally>],
     cells: &Cells,
     modes: Option<&Dictionary>,
 ) -> Result<Vec<Vec<Tally>>, Fault>
-    requires over { IsGroupPlanOver dims.now plan.now }
-    requires numbers { AreSlots (group_count dims.now (query_of plan.now).columns) (entries_of slots.old) }
-    requires cover { Cover (group_count dims.now (query_of plan.now).columns) slots.old }
-    requires columns { length columns.now ≡ length (query_of plan.now).aggregates }
-    ensures merged { IfOk result (λ merged. AreMergedIn (asked_of dims.now (query_of plan.now) cells.now.view
-        (modes_of (option_map (λ modes. modes.now) modes.entry))) (query_of plan.now).aggregates (entries_of slots.new)
+    requires over { IsGroupNumbersOver dims.now grouping.now }
+    requires numbers { AreSlots (group_count dims.now (query_of grouping.now).columns) (entries_of slots.old) }
+    requires cover { Cover (group_count dims.now (query_of grouping.now).columns) slots.old }
+    requires columns { length columns.now ≡ length (query_of grouping.now).aggregates }
+    ensures merged { IfOk result (λ merged. AreMergedIn (asked_of dims.now (query_of grouping.now) cells.now.view
+        (modes_of (option_map (λ modes. modes.now) modes.entry))) (query_of grouping.now).aggregates
+        (entries_of slots.new)
         cells.now.cells columns.now merged.items) }
     ensures refused { result ≡ Err Fault.BadLayout → (rows : List LineOrder)
         → RepresentRows dims.now (modes_of (option_map (λ modes. modes.now) modes.entry)) rows cells.now
         → All (IsKnown dims.now) rows
-        → GroupsHaveRoomFor (entries_of slots.new) (query_of plan.now).aggregates cells.now.cells columns.now → ⊥ }
+        → GroupsHaveRoomFor (entries_of slots.new) (query_of grouping.now).aggregates cells.now.cells columns.now → ⊥ }
     ensures only { IfErr result (λ fault. (fault ≡ Fault.Memory) ⊎ (fault ≡ Fault.BadLayout)) }
-    ensures cover { Cover (group_count dims.now (query_of plan.now).columns) slots.new }
-    ensures grow { Grow (group_count dims.now (query_of plan.now).columns) (entries_of slots.old)
+    ensures cover { Cover (group_count dims.now (query_of grouping.now).columns) slots.new }
+    ensures grow { Grow (group_count dims.now (query_of grouping.now).columns) (entries_of slots.old)
         (entries_of slots.new) }
     ensures storable { AreStorable dims.now }
 {
     let view = cells.view();
     let cells = cells.as_slice();
-    let numbers = CellNumbers::of(alloc, dims, plan, view, modes)?;
-    let aggregates = plan.query().aggregates.as_slice();
+    let numbers = CellNumbers::of(alloc, dims, grouping, view, modes)?;
+    let aggregates = grouping.query().aggregates.as_slice();
     with_cells(alloc, &numbers, slots, columns, aggregates, cells)
 }
 
@@ -426,44 +439,43 @@ fn columns_with_cells(
 fn with_run<S: Source>(
     alloc: Global,
     dims: &Dims,
-    plan: &GroupPlan,
+    grouping: &GroupNumbers,
     slots: &mut Slots,
     columns: &mut [Vec<Tally>],
     source: &mut S,
     run: &mut RunReader,
     modes: Option<&Dictionary>,
 ) -> Result<(), Fault>
-    requires over { IsGroupPlanOver dims.now plan.now }
-    requires numbers { AreSlots (group_count dims.now (query_of plan.now).columns) (entries_of slots.old) }
-    requires cover { Cover (group_count dims.now (query_of plan.now).columns) slots.old }
-    requires columns { length columns.old ≡ length (query_of plan.now).aggregates }
+    requires over { IsGroupNumbersOver dims.now grouping.now }
+    requires numbers { AreSlots (group_count dims.now (query_of grouping.now).columns) (entries_of slots.old) }
+    requires cover { Cover (group_count dims.now (query_of grouping.now).columns) slots.old }
+    requires columns { length columns.old ≡ length (query_of grouping.now).aggregates }
     requires total { S.totals source.old run.old.id ≡ Some (size_of_run run.old) }
     ensures merged { OnOk result (S.keeps_word source.new
         → IsRunMerged
-        (asked_of dims.now (query_of plan.now) run.old.head.view
+        (asked_of dims.now (query_of grouping.now) run.old.head.view
         (modes_of (option_map (λ modes. modes.now) modes.entry)))
-        (query_of plan.now).aggregates (entries_of slots.new) (S.texts source.old run.old.id) run.old
+        (query_of grouping.now).aggregates (entries_of slots.new) (S.texts source.old run.old.id) run.old
         columns.old columns.new) }
     ensures refused { IsErrOf result Fault.BadLayout → S.keeps_word source.new
         → (cells : List Cell) → AreLeft (S.texts source.old run.old.id) run.old cells
         → HaveNoRepresentative
-        (asked_of dims.now (query_of plan.now) run.old.head.view
+        (asked_of dims.now (query_of grouping.now) run.old.head.view
         (modes_of (option_map (λ modes. modes.now) modes.entry)))
         cells
-        ⊎ (GroupsHaveRoomFor (entries_of slots.new) (query_of plan.now).aggregates cells columns.old → ⊥) }
+        ⊎ (GroupsHaveRoomFor (entries_of slots.new) (query_of grouping.now).aggregates cells columns.old → ⊥) }
     ensures fresh { (slot : ℕ) → length (entries_of slots.new) ≤ slot
         → tallies_at columns.new slot ≡ tallies_at columns.old slot }
-    ensures cover { Cover (group_count dims.now (query_of plan.now).columns) slots.new }
-    ensures grow { Grow (group_count dims.now (query_of plan.now).columns) (entries_of slots.old)
+    ensures cover { Cover (group_count dims.now (query_of grouping.now).columns) slots.new }
+    ensures grow { Grow (group_count dims.now (query_of grouping.now).columns) (entries_of slots.old)
         (entries_of slots.new) }
-    ensures run { MatchResult result (λ _. HasRead S.Source source.old source.new)
-        (λ fault. (((fault ≡ Fault.Memory) ⊎ (fault ≡ Fault.BadLayout)) × HasRead S.Source source.old source.new)
-        ⊎ IsRefused S.Source fault source.old source.new) }
+    ensures run { ReadsSourceOr S.Source (λ fault. (fault ≡ Fault.Memory) ⊎ (fault ≡ Fault.BadLayout)) source.old
+        source.new result }
     ensures storable { AreStorable dims.now }
 {
     let view = run.head().view;
-    let numbers = CellNumbers::of(alloc, dims, plan, view, modes)?;
-    let aggregates = plan.query().aggregates.as_slice();
+    let numbers = CellNumbers::of(alloc, dims, grouping, view, modes)?;
+    let aggregates = grouping.query().aggregates.as_slice();
     merge_run(alloc, &numbers, slots, columns, aggregates, source, run)
 }
 

@@ -15,7 +15,7 @@ ghost use Rattle.cube_query.specs.WholeBatch.{HaveRoomAt, has_one_group, is_on_r
 use column_kernels::Mask;
 use column_segment::FactColumns;
 use cube_model::{Agg, Amount, Cond, Fault, Measure, Query};
-use group_plan::GroupPlanOver;
+use group_numbers::GroupNumbersOver;
 use group_tallies::{Tally, TooLarge};
 use std::alloc::Global;
 
@@ -47,15 +47,15 @@ fn is_on_row(condition: &Cond) -> bool
 /// memory.
 pub fn selected_rows(
     alloc: Global,
-    plan: &GroupPlanOver,
+    grouping: &GroupNumbersOver,
     batch: &FactColumns,
 ) -> Result<Mask, Fault>
-    requires { list_all is_on_row plan.now.query.conditions ≡ true }
+    requires { list_all is_on_row grouping.now.query.conditions ≡ true }
     ensures ok { IfOk result
-        (λ mask. mask ≡ map (is_selected plan.now.dimensions plan.now.query.conditions) batch.now) }
+        (λ mask. mask ≡ map (is_selected grouping.now.dimensions grouping.now.query.conditions) batch.now) }
     ensures memory { IfErr result (λ fault. fault ≡ Fault.Memory) }
 {
-    let limits = plan.bounds();
+    let limits = grouping.bounds();
     let quantity = (limits.least_quantity, limits.greatest_quantity);
     let discount = (limits.least_discount, limits.greatest_discount);
     let mask = batch.mask(alloc, quantity, discount)?;

@@ -1,8 +1,8 @@
 //! Bytes of a text that are read ahead.
 ghost use Rattle.std.specs.Prelude.{◌≡◌, ◌+◌, ◌-◌, ◌≤◌, [], Some, length, drop, take, min, IfOk, IsSomeAnd};
-ghost use Rattle.std.specs.Prelude.{MatchResult, OnOk};
+ghost use Rattle.std.specs.Prelude.{OnOk};
 ghost use Rattle.wire.specs.Parts.{Gives};
-ghost use Rattle.wire.specs.Runs.{HasRead, IsRefused};
+ghost use Rattle.wire.specs.Runs.{ReadsSource};
 ghost use Rattle.cuboid_cells.specs.Pieces.{most_ahead};
 
 use cube_model::Fault;
@@ -75,8 +75,7 @@ impl Ahead {
         requires within { at ≤ total }
         ensures many { OnOk result (length self.new ≡ min most_ahead (total - at)) }
         ensures bytes { OnOk result (S.keeps_word source.new → Gives (S.texts source.old id) at self.new) }
-        ensures run { MatchResult result (λ _. HasRead S.Source source.old source.new)
-            (λ fault. IsRefused S.Source fault source.old source.new) }
+        ensures run { ReadsSource S.Source source.old source.new result }
     {
         let count = (total - at).min(PART);
         read_front(source, id, at, count, self.bytes.as_mut_slice())?;
@@ -97,8 +96,7 @@ fn read_front<S: Source>(
     requires within { IsSomeAnd (S.totals source.old id) (λ total. at + count ≤ total) }
     requires room { count ≤ length bytes.old }
     ensures bytes { OnOk result (S.keeps_word source.new → Gives (S.texts source.old id) at (take count bytes.new)) }
-    ensures run { MatchResult result (λ _. HasRead S.Source source.old source.new)
-        (λ fault. IsRefused S.Source fault source.old source.new) }
+    ensures run { ReadsSource S.Source source.old source.new result }
 {
     read_part(source, id, at as u64, &mut bytes[..count])
 }

@@ -1,5 +1,5 @@
 //! What the header of a run says.
-ghost use Rattle.std.specs.Prelude.{◌≡◌, ◌≤◌, ℕ, List, ◌++◌, Some, length, min, take, IfNone, IfSome};
+ghost use Rattle.std.specs.Prelude.{◌≡◌, ℕ, List, ◌++◌, Some, length, min, take, IfNone, IfSome};
 ghost use Rattle.cuboid_cells.specs.Cells.{PlainCells};
 ghost use Rattle.cuboid_cells.specs.Pieces.{IsHeadFor, bytes_of_head, most_ahead};
 ghost use Rattle.cuboid_cells.specs.Spelled.{IsRun};

@@ -1,8 +1,8 @@
 //! Reading a run piece by piece.
 ghost use Rattle.std.specs.Prelude.{◌≡◌, ◌⊎◌, ◌↔◌, ◌<◌, ◌≤◌, ℕ, List, Option, Some, length, IfErr, IfOk, IsErrOf};
-ghost use Rattle.std.specs.Prelude.{IsTrue, MatchResult, OnOk};
+ghost use Rattle.std.specs.Prelude.{IsTrue, OnOk};
 ghost use Rattle.cube_model.specs.declared.fault.Fault.{Fault};
-ghost use Rattle.wire.specs.Runs.{HasRead, IsRefused};
+ghost use Rattle.wire.specs.Runs.{ReadsSource, ReadsSourceOr};
 ghost use Rattle.cuboid_cells.specs.Pieces.{AreCellsFrom, AreLeft, IsAtFirst, ReadsOn, least_after, size_of_run};
 ghost use Rattle.cuboid_cells.specs.Spelled.{HoldsNoRun, cell_bytes};
 ghost use Rattle.cuboid_cells.specs.declared.cell.Cell.{Cell};
@@ -65,9 +65,8 @@ impl RunReader {
         ensures ok { IfOk result (λ run. S.keeps_word source.new → IsAtFirst (S.texts source.old id) run) }
         ensures refused { IsErrOf result Fault.BadLayout → S.keeps_word source.new
             → HoldsNoRun (S.texts source.old id) }
-        ensures run { MatchResult result (λ _. HasRead S.Source source.old source.new)
-            (λ fault. (((fault ≡ Fault.Memory) ⊎ (fault ≡ Fault.BadLayout)) × HasRead S.Source source.old source.new)
-            ⊎ IsRefused S.Source fault source.old source.new) }
+        ensures run { ReadsSourceOr S.Source (λ fault. (fault ≡ Fault.Memory) ⊎ (fault ≡ Fault.BadLayout)) source.old
+            source.new result }
     {
         let Some(total) = source.total(id) else {
             return Err(Fault::BadLayout);
@@ -125,9 +124,8 @@ impl RunReader {
             → ReadsOn (S.texts source.old self.old.id) left self.new cells.new.items) }
         ensures refused { IsErrOf result Fault.BadLayout → S.keeps_word source.new → (left : List Cell)
             → AreLeft (S.texts source.old self.old.id) self.old left → ⊥ }
-        ensures run { MatchResult result (λ _. HasRead S.Source source.old source.new)
-            (λ fault. (((fault ≡ Fault.Memory) ⊎ (fault ≡ Fault.BadLayout)) × HasRead S.Source source.old source.new)
-            ⊎ IsRefused S.Source fault source.old source.new) }
+        ensures run { ReadsSourceOr S.Source (λ fault. (fault ≡ Fault.Memory) ⊎ (fault ≡ Fault.BadLayout)) source.old
+            source.new result }
     {
         self.read_ahead(source)?;
         self.take_piece(cells)
@@ -142,8 +140,7 @@ impl RunReader {
         ensures ok { OnOk result (S.keeps_word source.new → (left : List Cell)
             → AreLeft (S.texts source.old self.old.id) self.old left
             → AreLeft (S.texts source.old self.old.id) self.new left) }
-        ensures run { MatchResult result (λ _. HasRead S.Source source.old source.new)
-            (λ fault. IsRefused S.Source fault source.old source.new) }
+        ensures run { ReadsSource S.Source source.old source.new result }
     {
         let size = bytes_of_cell(self.head.view.ship_mode);
         if self.ahead.rest().len() >= size {

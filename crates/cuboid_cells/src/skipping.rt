@@ -1,8 +1,8 @@
 //! Passing over cells of a run.
 ghost use Rattle.std.specs.Prelude.{◌≡◌, ◌+◌, ◌-◌, ◌<◌, ◌≤◌, ℕ, [], List, Option, Some, max, slice_index_or, drop};
-ghost use Rattle.std.specs.Prelude.{if◌then◌else◌, All, IfOk, IfSome, MatchResult, OnOk};
+ghost use Rattle.std.specs.Prelude.{if◌then◌else◌, All, IfOk, IfSome, OnOk};
 ghost use Rattle.cube_model.specs.declared.fault.Fault.{Fault};
-ghost use Rattle.wire.specs.Runs.{HasRead, IsRefused};
+ghost use Rattle.wire.specs.Runs.{ReadsSource};
 ghost use Rattle.cuboid_cells.specs.Cells.{key_as_number};
 ghost use Rattle.cuboid_cells.specs.Pieces.{AreLeft, AreParted, PassesOver, size_of_run};
 ghost use Rattle.cuboid_cells.specs.declared.cell.Cell.{Cell};
@@ -58,8 +58,7 @@ impl RunReader {
             → AreLeft (S.texts source.old self.old.id) self.old left
             → PassesOver (S.texts source.old self.old.id) left least self.new) }
         ensures idle { least ≤ self.old.least → source.new ≡ source.old }
-        ensures run { MatchResult result (λ _. HasRead S.Source source.old source.new)
-            (λ fault. IsRefused S.Source fault source.old source.new) }
+        ensures run { ReadsSource S.Source source.old source.new result }
     {
         if least <= self.least {
             return Ok(());
@@ -97,8 +96,7 @@ impl RunReader {
         ensures ok { IfOk result (λ place. S.keeps_word source.new → (left : List Cell)
             → AreLeft (S.texts source.old self.now.id) self.now left
             → AreParted least (place - self.now.done) (place - self.now.done) left) }
-        ensures run { MatchResult result (λ _. HasRead S.Source source.old source.new)
-            (λ fault. IsRefused S.Source fault source.old source.new) }
+        ensures run { ReadsSource S.Source source.old source.new result }
     {
         let all = Range {
             from: self.done,
@@ -147,8 +145,7 @@ impl RunReader {
             → AreLeft (S.texts source.old self.now.id) self.now left
             → AreParted least (range.from - self.now.done) (range.to - self.now.done) left
             → AreParted least (next.from - self.now.done) (next.to - self.now.done) left) }
-        ensures run { MatchResult result (λ _. HasRead S.Source source.old source.new)
-            (λ fault. IsRefused S.Source fault source.old source.new) }
+        ensures run { ReadsSource S.Source source.old source.new result }
     {
         if place < range.from || place >= range.to {
             return Ok(range);
@@ -165,8 +162,7 @@ impl RunReader {
         ensures ok { IfOk result (λ number. S.keeps_word source.new → (left : List Cell) (none : Cell)
             → AreLeft (S.texts source.old self.now.id) self.now left
             → number ≡ key_as_number (slice_index_or left (place - self.now.done) none).key) }
-        ensures run { MatchResult result (λ _. HasRead S.Source source.old source.new)
-            (λ fault. IsRefused S.Source fault source.old source.new) }
+        ensures run { ReadsSource S.Source source.old source.new result }
     {
         if let Some(number) = self.number_ahead(place) {
             return Ok(number);

@@ -1,7 +1,7 @@
 //! Reading a run from a source.
-ghost use Rattle.std.specs.Prelude.{◌≡◌, ◌⊎◌, option_map, IfErr, IfOk, IsErrOf, IsSomeAnd, MatchResult};
+ghost use Rattle.std.specs.Prelude.{◌≡◌, ◌⊎◌, option_map, IfErr, IfOk, IsErrOf, IsSomeAnd};
 ghost use Rattle.cube_model.specs.declared.fault.Fault.{Fault};
-ghost use Rattle.wire.specs.Runs.{HasRead, IsRefused};
+ghost use Rattle.wire.specs.Runs.{ReadsSourceOr};
 ghost use Rattle.cuboid_cells.specs.Spelled.{HoldsNoRun, IsRun};
 
 use crate::cells::Cells;
@@ -22,9 +22,8 @@ pub fn decode_from<S: Source>(
     ensures ok { IfOk result (λ run. S.keeps_word source.new
         → IsSomeAnd (S.texts source.old id) (λ bytes. IsRun bytes run.0 run.1)) }
     ensures refused { IsErrOf result Fault.BadLayout → S.keeps_word source.new → HoldsNoRun (S.texts source.old id) }
-    ensures run { MatchResult result (λ _. HasRead S.Source source.old source.new)
-        (λ fault. (((fault ≡ Fault.Memory) ⊎ (fault ≡ Fault.BadLayout)) × HasRead S.Source source.old source.new)
-        ⊎ IsRefused S.Source fault source.old source.new) }
+    ensures run { ReadsSourceOr S.Source (λ fault. (fault ≡ Fault.Memory) ⊎ (fault ≡ Fault.BadLayout)) source.old
+        source.new result }
 {
     let found = read_whole(alloc, source, id)?;
     decode_found(alloc, found)

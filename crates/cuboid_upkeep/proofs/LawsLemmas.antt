@@ -30,8 +30,8 @@ use Rattle.cube_model.specs.Keys.{key_under}
 use Rattle.cube_model.specs.Selection.{holds_of, is_selected, text_le}
 use Rattle.dimensions.specs.Shown.{rows_on, AreStorable}
 use Rattle.dimensions.proofs.AttributeLaws.{count_on}
-use Rattle.group_plan.specs.Numbers.{IsGroupNumber}
-use Rattle.group_plan.proofs.AtPlaces.{attribute_at_place}
+use Rattle.group_numbers.specs.Numbers.{IsGroupNumber}
+use Rattle.group_numbers.proofs.AtPlaces.{attribute_at_place}
 use Rattle.lattice.specs.declared.view.View.{View}
 use Rattle.lattice.specs.Views.{level_on}
 use Rattle.cuboid_cells.specs.declared.key.Key.{Key}
@@ -45,7 +45,7 @@ use Rattle.cuboid_upkeep.proofs.InRange.{in_range_fit}
 use Rattle.cuboid_upkeep.proofs.OneList.{the_one}
 use Rattle.cuboid_upkeep.specs.Lawful.{CellsAreTheOne, MergesRepresentBoth, MoreRowsHaveNoFewerCells, RowsHaveCells}
 use Rattle.cuboid_upkeep.specs.Lawful.{RowsInRangeFit}
-use Rattle.group_plan.proofs.OneKind as kinds
+use Rattle.group_numbers.proofs.OneKind as kinds
 use Rattle.lattice.specs.declared.level.Level.TheVariants as level
 use Rattle.dimensions.proofs.CallerLemmas.{good_on}
 

@@ -14,7 +14,7 @@ use Rattle.cube_model.specs.Places.{row_count_of, row_index_of}
 use Rattle.dimensions.specs.Coded.{AreGoodRows}
 use Rattle.dimensions.specs.Shown.{rows_on}
 use Rattle.dimensions.specs.TextRows.{TextRow}
-use Rattle.group_plan.proofs.Keys as key_laws
+use Rattle.group_numbers.proofs.Keys as key_laws
 use Rattle.lattice.specs.declared.level.Level.{Level}
 use Rattle.lattice.specs.declared.level.Level.TheVariants.{All}
 use Rattle.cuboid_cells.specs.Limits.{all_code}

@@ -12,9 +12,9 @@ use Rattle.cube_model.specs.declared.rows.DimRows.{DimRows}
 use Rattle.cube_model.specs.declared.rows.LineOrder.{LineOrder}
 use Rattle.cube_model.specs.Attributes.{key_on}
 use Rattle.cube_model.specs.Places.{row_count_of, row_index_of}
-use Rattle.group_plan.specs.Numbers.{IsKnown, IsGroupNumber}
-use Rattle.group_plan.specs.Parts.{given_at, given_on, holds_in}
-use Rattle.group_plan.proofs.Outcomes.{out_of_bounds}
+use Rattle.group_numbers.specs.Numbers.{IsKnown, IsGroupNumber}
+use Rattle.group_numbers.specs.Parts.{given_at, given_on, holds_in}
+use Rattle.group_numbers.proofs.Outcomes.{out_of_bounds}
 use Rattle.lattice.specs.declared.level.Level.{Level}
 use Rattle.cuboid_cells.specs.declared.cell.Cell.{Cell}
 use Rattle.cuboid_cells.specs.declared.key.Key.{Key}

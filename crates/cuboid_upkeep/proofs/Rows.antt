@@ -7,8 +7,8 @@ use Rattle.cube_model.specs.declared.attr.Axis.{Axis}
 use Rattle.cube_model.specs.declared.attr.Axis.TheVariants.{Customer, Supplier, Part, Date}
 use Rattle.cube_model.specs.declared.rows.DimRows.{DimRows}
 use Rattle.cube_model.specs.declared.rows.LineOrder.{LineOrder}
-use Rattle.group_plan.specs.Numbers.{IsKnownOn}
-use Rattle.group_plan.specs.Rows.{no_row, row_at}
+use Rattle.group_numbers.specs.Numbers.{IsKnownOn}
+use Rattle.group_numbers.specs.Rows.{no_row, row_at}
 use Rattle.lattice.specs.declared.level.Level.TheVariants as level
 use Rattle.lattice.specs.declared.view.View.{View}
 use Rattle.lattice.specs.Views.{level_on}

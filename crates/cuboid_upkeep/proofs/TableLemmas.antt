@@ -15,7 +15,7 @@ use Rattle.cuboid_upkeep.specs.Steps.{AreUnfit, IsAddFault, IsCellOfRow, IsRowKe
 use Rattle.cuboid_upkeep.proofs.Members.{no_mode}
 use Rattle.std.proofs.lemmas.List.Elements.{All-cons, All-nil}
 use Rattle.cube_model.specs.declared.fault.Fault.TheVariants.{BadLayout}
-use Rattle.group_plan.specs.Rows.{row_at}
+use Rattle.group_numbers.specs.Rows.{row_at}
 use Rattle.cuboid_cells.specs.declared.key.Key.{Key}
 use Rattle.cuboid_cells.specs.Merges.{PassesType}
 use Rattle.cuboid_upkeep.proofs.Added.{both_represent, merge_refused}

@@ -14,10 +14,10 @@ use Rattle.cube_model.specs.declared.rows.DimRows.{DimRows}
 use Rattle.cube_model.specs.declared.rows.LineOrder.{LineOrder}
 use Rattle.cube_model.specs.Places.{row_count_of, row_index_of}
 use Rattle.cube_model.specs.Selection.{is_selected}
-use Rattle.group_plan.specs.Numbers.{IsKnownOn}
-use Rattle.group_plan.specs.Parts.{given_at, given_on, holds_in}
-use Rattle.group_plan.proofs.Outcomes.{given_none}
-use Rattle.group_plan.proofs.Split.{all_five, passes_at, place_on, selected_by_places}
+use Rattle.group_numbers.specs.Numbers.{IsKnownOn}
+use Rattle.group_numbers.specs.Parts.{given_at, given_on, holds_in}
+use Rattle.group_numbers.proofs.Outcomes.{given_none}
+use Rattle.group_numbers.proofs.Split.{all_five, passes_at, place_on, selected_by_places}
 use Rattle.lattice.specs.declared.level.Level.{Level}
 use Rattle.lattice.specs.declared.level.Level.TheVariants as level
 use Rattle.lattice.specs.Views.{level_on}

@@ -5,8 +5,8 @@ use Rattle.cube_model.specs.declared.attr.Axis.TheVariants.{Customer, Supplier, 
 use Rattle.cube_model.specs.declared.query.Query.{Query}
 use Rattle.cube_model.specs.declared.rows.DimRows.{DimRows}
 use Rattle.cube_model.specs.declared.rows.LineOrder.{LineOrder}
-use Rattle.group_plan.specs.Numbers.{IsGroupNumber}
-use Rattle.group_plan.specs.Parts.{holds_in}
+use Rattle.group_numbers.specs.Numbers.{IsGroupNumber}
+use Rattle.group_numbers.specs.Parts.{holds_in}
 use Rattle.lattice.specs.declared.view.View.{View}
 use Rattle.cuboid_cells.specs.declared.cell.Cell.{Cell}
 use Rattle.cuboid_cells.specs.Cells.{IsCellOf, KeyFits, key_as_number}

@@ -13,7 +13,7 @@ use Rattle.cube_model.specs.Aggregates.{greatest, least, total}
 use Rattle.cube_model.specs.Attributes.{key_on}
 use Rattle.cube_model.specs.Measures.{measure_of}
 use Rattle.cube_model.specs.Places.{row_index_of}
-use Rattle.group_plan.specs.Numbers.{IsKnownOn}
+use Rattle.group_numbers.specs.Numbers.{IsKnownOn}
 use Rattle.lattice.specs.declared.level.Level.{Level}
 use Rattle.lattice.specs.declared.level.Level.TheVariants as level
 use Rattle.lattice.specs.declared.view.View.{View}

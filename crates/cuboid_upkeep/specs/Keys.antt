@@ -3,8 +3,8 @@ use Rattle.std.specs.Prelude.{◌≡◌, ℕ, ◌<◌, true, List, [], length, s
 use Rattle.cube_model.specs.declared.attr.Axis.{Axis}
 use Rattle.cube_model.specs.declared.rows.DimRows.{DimRows}
 use Rattle.cube_model.specs.declared.rows.LineOrder.{LineOrder}
-use Rattle.group_plan.specs.Numbers.{IsKnownOn}
-use Rattle.group_plan.specs.Rows.{row_at}
+use Rattle.group_numbers.specs.Numbers.{IsKnownOn}
+use Rattle.group_numbers.specs.Rows.{row_at}
 use Rattle.lattice.specs.declared.level.Level.{Level}
 use Rattle.lattice.specs.declared.level.Level.TheVariants as level
 use Rattle.lattice.specs.declared.view.View.{View}

@@ -4,7 +4,7 @@ use Rattle.cube_model.specs.declared.query.Query.{Query}
 use Rattle.cube_model.specs.declared.rows.DimRows.{DimRows}
 use Rattle.cube_model.specs.declared.rows.LineOrder.{LineOrder}
 use Rattle.cube_model.specs.Admission.{AreInRange}
-use Rattle.group_plan.specs.Numbers.{IsGroupNumber}
+use Rattle.group_numbers.specs.Numbers.{IsGroupNumber}
 use Rattle.lattice.specs.Determined.{Serves}
 use Rattle.lattice.specs.declared.view.View.{View}
 use Rattle.cuboid_cells.specs.declared.cell.Cell.{Cell}

@@ -5,7 +5,7 @@ use Rattle.cube_model.specs.declared.attr.Axis.{Axis}
 use Rattle.cube_model.specs.declared.query.Query.{Query}
 use Rattle.cube_model.specs.declared.rows.DimRows.{DimRows}
 use Rattle.cube_model.specs.Places.{row_count_of, row_index_of}
-use Rattle.group_plan.specs.Parts.{given_at}
+use Rattle.group_numbers.specs.Parts.{given_at}
 use Rattle.lattice.specs.declared.level.Level.{Level}
 use Rattle.cuboid_cells.specs.Limits.{all_code}
 use Rattle.cuboid_upkeep.specs.Representatives.{MemberHasCode}

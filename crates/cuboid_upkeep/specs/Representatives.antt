@@ -7,8 +7,8 @@ use Rattle.cube_model.specs.declared.rows.DimRows.{DimRows}
 use Rattle.cube_model.specs.declared.rows.LineOrder.{LineOrder}
 use Rattle.cube_model.specs.Places.{row_count_of, row_index_of}
 use Rattle.dictionary.specs.Columns.{place_of, text_of_code}
-use Rattle.group_plan.specs.Numbers.{IsKnown}
-use Rattle.group_plan.specs.Rows.{no_row}
+use Rattle.group_numbers.specs.Numbers.{IsKnown}
+use Rattle.group_numbers.specs.Rows.{no_row}
 use Rattle.lattice.specs.declared.level.Level.{Level}
 use Rattle.lattice.specs.declared.view.View.{View}
 use Rattle.cuboid_cells.specs.declared.cell.Cell.{Cell}

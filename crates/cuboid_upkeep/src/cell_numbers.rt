@@ -2,7 +2,7 @@
 ghost use Rattle.std.specs.Prelude.{◌≡◌, ◌↔◌, true, IfOk, IsTrue, OnErr};
 ghost use Rattle.std.specs.Option.{option_map};
 ghost use Rattle.cube_model.specs.declared.rows.LineOrder.{LineOrder};
-ghost use Rattle.group_plan.specs.Plans.{IsGroupPlanOver, query_of};
+ghost use Rattle.group_numbers.specs.GroupNumbers.{IsGroupNumbersOver, query_of};
 ghost use Rattle.dimensions.specs.Shown.{AreStorable};
 ghost use Rattle.cuboid_cells.specs.Cells.{IsCellOf};
 ghost use Rattle.cuboid_upkeep.specs.CellNumbers.{AreUnwanted, IsCellNumber};
@@ -16,7 +16,7 @@ use cuboid_cells::Cell;
 use cuboid_cells::limits::ALL_CODE;
 use dictionary::Dictionary;
 use dimensions::Dims;
-use group_plan::{GroupPlan, GroupPlanOver};
+use group_numbers::{GroupNumbers, GroupNumbersOver};
 use lattice::View;
 use std::alloc::{AllocError, Global};
 use std::marker::Model;
@@ -31,14 +31,14 @@ const EVERY: u128 = 65_535;
 #[derive(Clone, Copy, PartialEq, Eq)]
 pub struct UnknownMember;
 
-/// The numbers of the groups that the cells of a view belong to by a plan. Contracts see the dimensions, the query, the
-/// view and the ship modes.
+/// The numbers of the groups that the cells of a view belong to by a query. Contracts see the dimensions, the query,
+/// the view and the ship modes.
 ///
 /// A number is the sum of what the members of a cell give to it. That follows from their codes, from tables that are
 /// made once, so that for a cell neither keys nor rows of dimensions are looked at.
 #[derive(Drop)]
 pub struct CellNumbers<'a> {
-    plan: GroupPlanOver<'a>,
+    grouping: GroupNumbersOver<'a>,
     view: View,
     modes: Option<&'a Dictionary>,
     // Whether rows of zeros keep the conditions on the numbers of rows.
@@ -57,15 +57,15 @@ impl<'a> Model for CellNumbers<'a> {
     ghost Value = { AskedOfCells };
 
     ghost view = { λ numbers. record {
-      dimensions = numbers.plan.dimensions;
-      query = numbers.plan.query;
+      dimensions = numbers.grouping.dimensions;
+      query = numbers.grouping.query;
       view = numbers.view;
       modes = modes_of (option_map (λ modes. modes.now) numbers.modes);
     } };
 
     ghost invariant = { λ numbers. AreTables (record {
-      dimensions = numbers.plan.dimensions;
-      query = numbers.plan.query;
+      dimensions = numbers.grouping.dimensions;
+      query = numbers.grouping.query;
       view = numbers.view;
       modes = modes_of (option_map (λ modes. modes.now) numbers.modes);
     }) numbers.within numbers.customers numbers.suppliers numbers.parts numbers.dates };
@@ -77,27 +77,27 @@ impl<'a> CellNumbers<'a> {
     pub fn of(
         alloc: Global,
         dims: &'a Dims,
-        plan: &'a GroupPlan,
+        grouping: &'a GroupNumbers,
         view: View,
         modes: Option<&'a Dictionary>,
     ) -> Result<CellNumbers<'a>, AllocError>
-        requires { IsGroupPlanOver dims.now plan.now }
+        requires { IsGroupNumbersOver dims.now grouping.now }
         ensures asked { IfOk result (λ numbers. numbers ≡ record {
           dimensions = dims.now;
-          query = query_of plan.now;
+          query = query_of grouping.now;
           view = view;
           modes = modes_of (option_map (λ modes. modes.now) modes.entry);
         }) }
         ensures storable { AreStorable dims.now }
     {
-        let plan = plan.over(dims);
-        let within = plan.bounds().hold(0, 0);
-        let customers = parts_of_members(alloc, dims, &plan, Axis::Customer, view.customer)?;
-        let suppliers = parts_of_members(alloc, dims, &plan, Axis::Supplier, view.supplier)?;
-        let parts = parts_of_members(alloc, dims, &plan, Axis::Part, view.part)?;
-        let dates = parts_of_members(alloc, dims, &plan, Axis::Date, view.date)?;
+        let grouping = grouping.over(dims);
+        let within = grouping.bounds().hold(0, 0);
+        let customers = parts_of_members(alloc, dims, &grouping, Axis::Customer, view.customer)?;
+        let suppliers = parts_of_members(alloc, dims, &grouping, Axis::Supplier, view.supplier)?;
+        let parts = parts_of_members(alloc, dims, &grouping, Axis::Part, view.part)?;
+        let dates = parts_of_members(alloc, dims, &grouping, Axis::Date, view.date)?;
         Ok(CellNumbers {
-            plan,
+            grouping,
             view,
             modes,
             within,
@@ -135,7 +135,7 @@ impl<'a> CellNumbers<'a> {
         if !self.within {
             return Ok(None);
         }
-        Ok(self.plan.number_by(customer, supplier, part, date))
+        Ok(self.grouping.number_by(customer, supplier, part, date))
     }
 
     /// The least number, from one on, that the key of a cell of the view can have which is to be looked at, and nothing

@@ -12,7 +12,7 @@ use crate::row_cell::row_cell;
 use crate::taking::merge_at;
 use cube_model::Fault;
 use cuboid_cells::{Cell, Key};
-use group_plan::FactRows;
+use group_numbers::FactRows;
 use indexmap::IndexSet;
 use std::alloc::Global;
 

@@ -17,7 +17,7 @@ use cube_model::Fault;
 use cuboid_cells::Cells;
 use dictionary::Dictionary;
 use dimensions::Dims;
-use group_plan::ModeRows;
+use group_numbers::ModeRows;
 use lattice::View;
 use std::alloc::Global;
 

@@ -2,7 +2,7 @@
 ghost use Rattle.std.specs.Prelude.{◌≡◌, ◌⊎◌, ◌<◌, ℕ, List, All, IfErr, IfNone, IfOk, IfSome, false, true};
 ghost use Rattle.std.specs.Prelude.{length, slice_index_or};
 ghost use Rattle.cube_model.specs.declared.fault.Fault.{Fault};
-ghost use Rattle.group_plan.specs.Rows.{row_at};
+ghost use Rattle.group_numbers.specs.Rows.{row_at};
 ghost use Rattle.cuboid_cells.specs.declared.key.Key.{Key};
 ghost use Rattle.cuboid_upkeep.specs.Grouping.{HasMembers};
 ghost use Rattle.cuboid_upkeep.specs.Keys.{AreRowKeys, IsKeyOfRow, IsOwnMode};
@@ -14,7 +14,7 @@ use crate::mode_codes::own_mode;
 use cube_model::{Axis, Fault};
 use cuboid_cells::Key;
 use dimensions::Dims;
-use group_plan::{FactRows, ModeRows};
+use group_numbers::{FactRows, ModeRows};
 use lattice::View;
 use std::alloc::Global;
 

@@ -1,8 +1,8 @@
 //! The codes of the members that the rows of dimensions have at the levels of a view.
 ghost use Rattle.std.specs.Prelude.{◌≡◌, ◌<◌, ◌^◌, Some, EachIndex, IfNone, IfOk, IfSome, length, slice_index};
 ghost use Rattle.cube_model.specs.Places.{row_count_of};
-ghost use Rattle.group_plan.specs.Numbers.{IsKnownOn};
-ghost use Rattle.group_plan.specs.Rows.{row_at};
+ghost use Rattle.group_numbers.specs.Numbers.{IsKnownOn};
+ghost use Rattle.group_numbers.specs.Rows.{row_at};
 ghost use Rattle.dimensions.specs.Coded.{AreGoodRows};
 ghost use Rattle.dimensions.specs.Shown.{rows_on};
 ghost use Rattle.lattice.specs.declared.level.Level.{Level};
@@ -16,7 +16,7 @@ use crate::codes::{LevelCodes, is_all};
 use cube_model::Axis;
 use cuboid_cells::limits::ALL_CODE;
 use dimensions::Dims;
-use group_plan::FactRows;
+use group_numbers::FactRows;
 use lattice::{Level, View};
 use std::alloc::{AllocError, Global};
 

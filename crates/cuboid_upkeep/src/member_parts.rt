@@ -11,7 +11,7 @@ use crate::member_keys::keys_of_members;
 use cube_model::Axis;
 use cuboid_cells::limits::ALL_CODE;
 use dimensions::Dims;
-use group_plan::GroupPlanOver;
+use group_numbers::GroupNumbersOver;
 use lattice::Level;
 use std::alloc::{AllocError, Global};
 
@@ -120,22 +120,22 @@ impl MemberParts {
     }
 }
 
-// What the members of a level of a dimension give by a plan, each by one row.
+// What the members of a level of a dimension give by group numbers, each by one row.
 pub(crate) fn parts_of_members(
     alloc: Global,
     dims: &Dims,
-    plan: &GroupPlanOver,
+    grouping: &GroupNumbersOver,
     axis: Axis,
     grouped: Level,
 ) -> Result<MemberParts, AllocError>
-    requires { plan.now.dimensions ≡ dims.now }
-    ensures parts { IfOk result (AreParts dims.now plan.now.query axis grouped) }
+    requires { grouping.now.dimensions ≡ dims.now }
+    ensures parts { IfOk result (AreParts dims.now grouping.now.query axis grouped) }
     ensures storable { AreStorable dims.now }
 {
     let keys = keys_of_members(alloc, dims, axis, grouped)?;
-    let members = parts_by_code(alloc, plan, axis, keys.members.as_slice())?;
+    let members = parts_by_code(alloc, grouping, axis, keys.members.as_slice())?;
     Ok(MemberParts {
-        every: part_of(plan, axis, keys.every),
+        every: part_of(grouping, axis, keys.every),
         members,
     })
 }
@@ -143,30 +143,30 @@ pub(crate) fn parts_of_members(
 // What the rows with some keys give, each in its place.
 fn parts_by_code(
     alloc: Global,
-    plan: &GroupPlanOver,
+    grouping: &GroupNumbersOver,
     axis: Axis,
     keys: &[Option<u32>],
 ) -> Result<Vec<MemberPart>, AllocError>
-    requires { All (IsOfRow plan.now.dimensions axis) keys.now }
+    requires { All (IsOfRow grouping.now.dimensions axis) keys.now }
     ensures { IfOk result (λ parts.
-        map given_by parts.items ≡ map (member_part_by plan.now.dimensions plan.now.query axis) keys.now) }
+        map given_by parts.items ≡ map (member_part_by grouping.now.dimensions grouping.now.query axis) keys.now) }
 {
     let mut parts = Vec::with_capacity(alloc, keys.len())?;
     for key in keys {
-        parts.push(part_of(plan, axis, *key))?;
+        parts.push(part_of(grouping, axis, *key))?;
     }
     Ok(parts)
 }
 
 // What the row with a key gives, if there is a key.
-fn part_of(plan: &GroupPlanOver, axis: Axis, key: Option<u32>) -> MemberPart
-    requires { IsOfRow plan.now.dimensions axis key }
-    ensures { given_by result ≡ member_part_by plan.now.dimensions plan.now.query axis key }
+fn part_of(grouping: &GroupNumbersOver, axis: Axis, key: Option<u32>) -> MemberPart
+    requires { IsOfRow grouping.now.dimensions axis key }
+    ensures { given_by result ≡ member_part_by grouping.now.dimensions grouping.now.query axis key }
 {
     let Some(key) = key else {
         return MemberPart::NoMember;
     };
-    match plan.part(axis, key) {
+    match grouping.part(axis, key) {
         None => MemberPart::Nothing,
         Some(part) => MemberPart::Part(part),
     }

@@ -19,7 +19,7 @@ use cube_model::Fault;
 use cuboid_cells::{Cell, Cells};
 use dictionary::Dictionary;
 use dimensions::Dims;
-use group_plan::ModeRows;
+use group_numbers::ModeRows;
 use lattice::View;
 use std::alloc::{AllocError, Global};
 

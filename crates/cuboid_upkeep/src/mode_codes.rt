@@ -1,7 +1,7 @@
 //! The codes of the ship modes of fact rows.
 ghost use Rattle.std.specs.Prelude.{◌≡◌, ◌<◌, ℕ, List, true, IfNone, IfOk, IfSome, length};
 ghost use Rattle.std.specs.Option.{option_map};
-ghost use Rattle.group_plan.specs.Rows.{row_at};
+ghost use Rattle.group_numbers.specs.Rows.{row_at};
 ghost use Rattle.cuboid_upkeep.specs.Codes.{IsMode, modes_of};
 ghost use Rattle.cuboid_upkeep.specs.Keys.{IsOwnMode};
 ghost use Rattle.cuboid_upkeep.specs.Modes.{AreModeCodes, AreOwnCodes, code_among};
@@ -9,7 +9,7 @@ ghost use Rattle.cuboid_upkeep.specs.Modes.{AreModeCodes, AreOwnCodes, code_amon
 use crate::member_codes::code_at;
 use cuboid_cells::limits::ALL_CODE;
 use dictionary::Dictionary;
-use group_plan::ModeRows;
+use group_numbers::ModeRows;
 use lattice::View;
 use std::alloc::{AllocError, Global};
 

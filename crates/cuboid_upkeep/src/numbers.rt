@@ -1,5 +1,5 @@
 //! The numbers of keys.
-ghost use Rattle.std.specs.Prelude.{◌≡◌, ◌+◌, ◌*◌, ◌<◌, ◌≤◌, ℕ, IfSome, IsTrue};
+ghost use Rattle.std.specs.Prelude.{◌≡◌, ◌+◌, ◌*◌, ◌<◌, ◌≤◌, ℕ, IfSome};
 ghost use Rattle.cuboid_cells.specs.Limits.{most_cells};
 ghost use Rattle.cuboid_upkeep.specs.Numbers.{AreFew, LiesIn, code_digit, key_place, numbers_count};
 

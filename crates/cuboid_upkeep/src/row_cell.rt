@@ -2,7 +2,7 @@
 ghost use Rattle.std.specs.Prelude.{◌≡◌, ◌<◌, ℕ, List, [], ◌∷◌, IfErr, IfNone, IfOk, IfSome, length};
 ghost use Rattle.cube_model.specs.declared.fault.Fault.{Fault};
 ghost use Rattle.cube_model.specs.declared.rows.DimRows.{DimRows};
-ghost use Rattle.group_plan.specs.Rows.{row_at};
+ghost use Rattle.group_numbers.specs.Rows.{row_at};
 ghost use Rattle.lattice.specs.declared.view.View.{View};
 ghost use Rattle.cuboid_cells.specs.Cells.{SummariesFit, SummaryFits};
 ghost use Rattle.cuboid_upkeep.specs.Grouping.{summaries_over, summary_over};
@@ -10,7 +10,7 @@ ghost use Rattle.cuboid_upkeep.specs.Steps.{HasNoCell, IsCellOfRow, IsRowKey};
 
 use cube_model::{Fault, Measure};
 use cuboid_cells::{Cell, Key, Summaries, Summary};
-use group_plan::FactRows;
+use group_numbers::FactRows;
 
 // The cell of the row at a place, whose key it is. `BadLayout` where a number passes its type.
 #[inline(always)]

@@ -1,7 +1,7 @@
 //! The numbers of the keys of fact rows in a view that does not group by ship mode.
 ghost use Rattle.std.specs.Prelude.{◌≡◌, ◌⊎◌, ◌<◌, [], All, IfErr, IfNone, IfOk, IfSome, false, true, length};
 ghost use Rattle.cube_model.specs.declared.fault.Fault.{Fault};
-ghost use Rattle.group_plan.specs.Rows.{row_at};
+ghost use Rattle.group_numbers.specs.Rows.{row_at};
 ghost use Rattle.cuboid_upkeep.specs.Grouping.{HasMembers};
 ghost use Rattle.cuboid_upkeep.specs.Keys.{AreRowNumbers, IsNumberOfRow};
 ghost use Rattle.cuboid_upkeep.specs.Members.{AreMembersOf};
@@ -12,7 +12,7 @@ use crate::member_codes::ViewMembers;
 use cube_model::Fault;
 use cuboid_cells::limits::ALL_CODE;
 use dimensions::Dims;
-use group_plan::FactRows;
+use group_numbers::FactRows;
 use lattice::View;
 use std::alloc::Global;
 

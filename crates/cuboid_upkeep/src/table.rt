@@ -1,7 +1,7 @@
 //! A table of the cells of a view, by the numbers of their keys.
 ghost use Rattle.std.specs.Prelude.{◌≡◌, ◌⊎◌, ◌<◌, ◌++◌, ℕ, [], List, IfErr, IfOk, IsTrue, OnOk, false, length};
 ghost use Rattle.std.specs.Prelude.{slice_index_or, true};
-ghost use Rattle.group_plan.specs.Rows.{row_at};
+ghost use Rattle.group_numbers.specs.Rows.{row_at};
 ghost use Rattle.cuboid_cells.specs.declared.cell.Cell.{Cell};
 ghost use Rattle.cube_model.specs.declared.fault.Fault.{Fault};
 ghost use Rattle.cube_model.specs.declared.rows.DimRows.{DimRows};
@@ -25,7 +25,7 @@ use cube_model::Fault;
 use cuboid_cells::limits::ALL_CODE;
 use cuboid_cells::{Cell, Cells, Key, Summaries, Summary};
 use dimensions::Dims;
-use group_plan::FactRows;
+use group_numbers::FactRows;
 use lattice::View;
 use std::alloc::{AllocError, Global};
 

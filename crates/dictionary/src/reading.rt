@@ -1,5 +1,5 @@
 //! Reading texts from the front of bytes.
-ghost use Rattle.std.specs.Prelude.{◌≡◌, ◌⊎◌, ℕ, List, [], IfErr, IfOk, IsErr, IsOkUnless, OnOk};
+ghost use Rattle.std.specs.Prelude.{◌≡◌, ◌⊎◌, [], IfErr, IfOk, IsErr, IsOkUnless, OnOk};
 ghost use Rattle.cube_model.specs.declared.fault.Fault.{Fault};
 ghost use Rattle.dictionary.specs.Reading.{BeginsWithNew, BeginsWithShort, BeginsWithSome, ReadsEach, ReadsNew};
 ghost use Rattle.dictionary.specs.Reading.{ReadsShort};

@@ -1,7 +1,6 @@
 //! The columns of a dimension, while they are read.
-ghost use Rattle.std.specs.Prelude.{◌≡◌, ◌<◌, ◌^◌, ◌≤◌, length, vec_len, IfSome, IfErr, IfOk};
+ghost use Rattle.std.specs.Prelude.{◌≡◌, ◌<◌, length, IfSome, IfErr, IfOk};
 ghost use Rattle.cube_model.specs.declared.fault.Fault.{Fault};
-ghost use Rattle.cube_model.specs.Limits.{most_members};
 ghost use Rattle.dimensions.specs.Shapes.{lowers_of, lower_of};
 ghost use Rattle.dimensions.specs.Coded.{ColumnsHaveTexts};
 ghost use Rattle.dimension_objects.specs.Columns.{places_of};

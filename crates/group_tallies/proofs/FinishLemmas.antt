@@ -12,7 +12,7 @@ use Rattle.cube_model.specs.declared.query.Kind.TheVariants.{Plain}
 use Rattle.cube_model.specs.declared.query.Query.{Query}
 use Rattle.cube_model.specs.declared.rows.DimRows.{DimRows}
 use Rattle.cube_model.specs.declared.rows.LineOrder.{LineOrder}
-use Rattle.group_plan.specs.Numbers.{group_key_at}
+use Rattle.group_numbers.specs.Numbers.{group_key_at}
 use Rattle.group_tallies.specs.Coarser.{rows_from, AreTalliedFrom}
 use Rattle.group_tallies.specs.Columns.{tallies_at}
 use Rattle.group_tallies.specs.Groups.{finest, groups_of, rows_at}

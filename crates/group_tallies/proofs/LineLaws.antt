@@ -35,7 +35,7 @@ use Rattle.group_tallies.specs.GroupLines.{HaveLines}
 use Rattle.group_tallies.specs.Slots.{slot_of, AreSlots}
 use Rattle.group_tallies.specs.Tallies.{value_of, values_of}
 use Rattle.group_tallies.specs.declared.tally.Tally.{Tally}
-use Rattle.group_plan.specs.Numbers.{group_count}
+use Rattle.group_numbers.specs.Numbers.{group_count}
 use Rattle.group_tallies.proofs.Seen.{each_number, All-numbers}
 
 recursion_from : {X : Type 0} (P : X → Type 0) (xs : List X) → All P xs → AllByRecursion P xs

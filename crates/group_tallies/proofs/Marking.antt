@@ -17,7 +17,7 @@ use Rattle.cube_model.specs.declared.rows.LineOrder.{LineOrder}
 use Rattle.cube_model.specs.Keys.{key_cmp}
 use Rattle.cube_model.proofs.KeyOrder.{key_cmp_total, key_cmp-IsAntisymmetric}
 use Rattle.group_tallies.specs.Columns.{slotted}
-use Rattle.group_plan.specs.Numbers.{group_count, group_key_at, KeysRise}
+use Rattle.group_numbers.specs.Numbers.{group_count, group_key_at, KeysRise}
 use Rattle.group_tallies.specs.Slots.{slot_of, AreSlots}
 use Rattle.group_tallies.specs.Groups.{rows_at}
 use Rattle.group_tallies.specs.FoldInvariant.{IsGroupSlot, AreGroupSlots}

@@ -21,9 +21,9 @@ use Rattle.cube_model.specs.declared.answer.Value.TheVariants.{Whole}
 use Rattle.cube_model.specs.declared.attr.Attr.{Attr}
 use Rattle.cube_model.specs.declared.query.Order.{Order}
 use Rattle.cube_model.specs.declared.rows.DimRows.{DimRows}
-use Rattle.group_plan.specs.Columns.{attr_at}
-use Rattle.group_plan.specs.Numbers.{group_key_at, digit_member, KeysRise}
-use Rattle.group_plan.proofs.Numbers.{member_rises}
+use Rattle.group_numbers.specs.Columns.{attr_at}
+use Rattle.group_numbers.specs.Numbers.{group_key_at, digit_member, KeysRise}
+use Rattle.group_numbers.proofs.Numbers.{member_rises}
 use Rattle.group_tallies.specs.Ranks.{Rank, rank_cmp, IsRank}
 use Rattle.group_tallies.proofs.Lists.{ascending_from, get_or-map, IsAscending-map, length_same, map-twice}
 use Rattle.group_tallies.proofs.Lists.{numbers_apart}

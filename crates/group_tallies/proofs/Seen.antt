@@ -24,7 +24,7 @@ use Rattle.cube_model.specs.declared.rows.LineOrder.{LineOrder}
 use Rattle.cube_model.specs.Keys.{key_cmp}
 use Rattle.group_tallies.specs.Columns.{tallies_at, is_seen, seen_groups, line_with}
 use Rattle.group_tallies.specs.Groups.{groups_of, rows_at}
-use Rattle.group_plan.specs.Numbers.{group_count, group_key_at, KeysRise}
+use Rattle.group_numbers.specs.Numbers.{group_count, group_key_at, KeysRise}
 use Rattle.group_tallies.specs.Slots.{slot_of, AreSlots}
 use Rattle.group_tallies.specs.FoldInvariant.{AreTallied}
 use Rattle.group_tallies.specs.Tallies.{aggregated, tallies_of, tallies_if_any}

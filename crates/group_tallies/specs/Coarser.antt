@@ -17,10 +17,10 @@ use Rattle.cube_model.specs.declared.query.Kind.TheVariants.{Plain, Rollup, Cube
 use Rattle.cube_model.specs.declared.query.Query.{Query}
 use Rattle.cube_model.specs.declared.rows.DimRows.{DimRows}
 use Rattle.cube_model.specs.declared.rows.LineOrder.{LineOrder}
-use Rattle.group_plan.specs.Columns.{is_all}
+use Rattle.group_numbers.specs.Columns.{is_all}
 use Rattle.cube_model.specs.Proper.{IsProper}
 use Rattle.group_tallies.specs.declared.slots.Slots.{Slots}
-use Rattle.group_plan.specs.Numbers.{group_count, group_key_at, KeysRise}
+use Rattle.group_numbers.specs.Numbers.{group_count, group_key_at, KeysRise}
 use Rattle.group_tallies.specs.Columns.{is_seen, tallies_at, tally_at, IsCountable}
 use Rattle.group_tallies.specs.Slots.{entries_of, slot_of, AreSlots, Cover}
 use Rattle.group_tallies.specs.Tallies.{aggregated, tally_of, tallies_of}

@@ -13,9 +13,9 @@ use Rattle.cube_model.specs.Proper.{IsProper}
 use Rattle.cube_model.specs.Selection.{is_selected}
 use Rattle.group_tallies.specs.Columns.{tallies_at, slotted, HasRoom}
 use Rattle.group_tallies.specs.Groups.{rows_at}
-use Rattle.group_plan.specs.Numbers.{group_count, group_key_at, KeysRise, IsGroupNumber}
-use Rattle.group_plan.specs.Plans.{count_of, query_of}
-use Rattle.group_plan.specs.declared.plan.GroupPlan.{GroupPlan}
+use Rattle.group_numbers.specs.Numbers.{group_count, group_key_at, KeysRise, IsGroupNumber}
+use Rattle.group_numbers.specs.GroupNumbers.{count_of, query_of}
+use Rattle.group_numbers.specs.declared.group_numbers.GroupNumbers.{GroupNumbers}
 use Rattle.group_tallies.specs.Slots.{slot_of, entries_of, AreSlots, Cover}
 use Rattle.group_tallies.specs.Tallies.{tallies_of}
 use Rattle.group_tallies.specs.declared.slots.Slots.{Slots}
@@ -70,16 +70,17 @@ abbrev pub tallies_in : Query → Slots → List (Vec Tally Global) → ℕ → 
 tallies_in query slots columns number = tallies_or_none query columns (slot_of (entries_of slots) number)
 
 -- the tallies at the number of each group
-abbrev pub all_tallies : GroupPlan → Slots → List (Vec Tally Global) → List (List Tally)
-all_tallies plan slots columns = map (tallies_in (query_of plan) slots columns) (range_with_len 0 (count_of plan))
+abbrev pub all_tallies : GroupNumbers → Slots → List (Vec Tally Global) → List (List Tally)
+all_tallies grouping slots columns =
+    map (tallies_in (query_of grouping) slots columns) (range_with_len 0 (count_of grouping))
 
--- what a fold keeps, over any dimensions: slots for numbers below the plan's count, and no row after the last slot
-pub record IsKept (plan : GroupPlan) (slots : Slots) (columns : List (Vec Tally Global)) : Type 0 where
-  pub proper : IsProper (query_of plan)
-  pub numbers : AreSlots (count_of plan) (entries_of slots)
-  pub cover : Cover (count_of plan) slots
+-- what a fold keeps, over any dimensions: slots for numbers below the count of groups, and no row after the last slot
+pub record IsKept (grouping : GroupNumbers) (slots : Slots) (columns : List (Vec Tally Global)) : Type 0 where
+  pub proper : IsProper (query_of grouping)
+  pub numbers : AreSlots (count_of grouping) (entries_of slots)
+  pub cover : Cover (count_of grouping) slots
   pub fresh : (slot : ℕ) → length (entries_of slots) ≤ slot
-      → tallies_at columns slot ≡ tallies_of (query_of plan).aggregates []
+      → tallies_at columns slot ≡ tallies_of (query_of grouping).aggregates []
 
 -- what holds of each fold over its dimensions
 pub record IsFold (dimensions : DimRows) (query : Query) (slots : Slots) (columns : List

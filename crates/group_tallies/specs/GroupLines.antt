@@ -10,8 +10,8 @@ use Rattle.cube_model.specs.declared.rows.DimRows.{DimRows}
 use Rattle.group_tallies.specs.Columns.{entry_line, is_seen, tallies_at}
 use Rattle.group_tallies.specs.declared.finished.Groups.{Groups}
 use Rattle.group_tallies.specs.declared.tally.Tally.{Tally}
-use Rattle.group_plan.specs.Numbers.{group_count, group_key_at}
-use Rattle.group_plan.specs.Plans.{IsGroupPlanOver, query_of}
+use Rattle.group_numbers.specs.Numbers.{group_count, group_key_at}
+use Rattle.group_numbers.specs.GroupNumbers.{IsGroupNumbersOver, query_of}
 
 -- the line of a group, by its number and its slot
 abbrev pub line_by : DimRows → Query → List (Vec Tally Global) → ℕ × ℕ → Line
@@ -37,13 +37,13 @@ line_at lines place = slice_index_or lines place (record { key = []; values = []
 
 -- groups of a fold over dimensions
 pub record AreGroupsOver (dimensions : DimRows) (groups : Groups) : Type 0 where
-  pub over : IsGroupPlanOver dimensions groups.plan
-  pub count : length groups.columns.items ≡ length (query_of groups.plan).aggregates
-  pub lines : HaveLines dimensions (query_of groups.plan) groups.columns.items groups.order.items
+  pub over : IsGroupNumbersOver dimensions groups.grouping
+  pub count : length groups.columns.items ≡ length (query_of groups.grouping).aggregates
+  pub lines : HaveLines dimensions (query_of groups.grouping) groups.columns.items groups.order.items
 
 -- the lines of groups over dimensions
 abbrev pub lines_over : DimRows → Groups → List Line
-lines_over dimensions groups = lines_by dimensions (query_of groups.plan) groups.columns.items groups.order.items
+lines_over dimensions groups = lines_by dimensions (query_of groups.grouping) groups.columns.items groups.order.items
 
 -- the answer that has these lines
 abbrev pub answer_over : DimRows → Groups → Answer

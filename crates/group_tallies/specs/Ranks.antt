@@ -9,8 +9,8 @@ use Rattle.cube_model.specs.declared.answer.Value.TheVariants.{Whole}
 use Rattle.cube_model.specs.declared.attr.Attr.{Attr}
 use Rattle.cube_model.specs.declared.query.Order.{Order}
 use Rattle.cube_model.specs.declared.rows.DimRows.{DimRows}
-use Rattle.group_plan.specs.Columns.{attr_at}
-use Rattle.group_plan.specs.Numbers.{digit_count, group_count, digit_member}
+use Rattle.group_numbers.specs.Columns.{attr_at}
+use Rattle.group_numbers.specs.Numbers.{digit_count, group_count, digit_member}
 
 -- a group with the digit of the order's column and the order's value
 abbrev pub Rank : Type 0

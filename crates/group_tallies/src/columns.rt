@@ -1,5 +1,5 @@
 //! The tallies of groups in columns, one column for each aggregate, each with a tally at each slot.
-ghost use Rattle.std.specs.Prelude.{◌≡◌, ℕ, pos, ◌≤◌, ◌<◌, true, [], ◌∷◌, length, slice_get, slice_index_or, IfOk};
+ghost use Rattle.std.specs.Prelude.{◌≡◌, ℕ, pos, ◌≤◌, ◌<◌, true, [], ◌∷◌, length, slice_index_or, IfOk};
 ghost use Rattle.std.specs.Prelude.{OnErr, OnOk, FitsSigned, nat_lt, slice_set, List, ◌+◌, ◌^◌, ◌+ℤ◌};
 ghost use Rattle.std.specs.List.{AllByRecursion, list_all};
 ghost use Rattle.std.specs.Int.{w64};
@@ -12,13 +12,13 @@ ghost use Rattle.group_tallies.specs.Coarser.{MergesIn};
 ghost use Rattle.group_tallies.specs.Columns.{tally_at, tallies_at, is_seen, CountsIn, HasRoom, IsBounded};
 ghost use Rattle.group_tallies.specs.FoldInvariant.{CountIn, HaveRoom};
 ghost use Rattle.group_tallies.specs.Slots.{entries_of};
-ghost use Rattle.group_plan.specs.Rows.{row_at};
+ghost use Rattle.group_numbers.specs.Rows.{row_at};
 ghost use Rattle.group_tallies.specs.Tallies.{merged_tally, aggregated, tallies_of, values_of};
 
 use crate::slots::Slots;
 use crate::tally::{Tally, TooLarge};
 use cube_model::{Agg, Items, Value};
-use group_plan::FactRows;
+use group_numbers::FactRows;
 use std::alloc::{AllocError, Global};
 
 /// What an aggregate is taken of, at the row at a place.

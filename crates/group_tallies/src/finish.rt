@@ -9,7 +9,7 @@ ghost use Rattle.group_tallies.specs.GroupLines.{HaveLines, lines_by};
 ghost use Rattle.group_tallies.specs.Groups.{finest, groups_of};
 ghost use Rattle.group_tallies.specs.Limits.{AreFoldable};
 ghost use Rattle.group_tallies.specs.Slots.{entries_of, AreSlots};
-ghost use Rattle.group_plan.specs.Numbers.{group_count, group_key_at};
+ghost use Rattle.group_numbers.specs.Numbers.{group_count, group_key_at};
 ghost use Rattle.group_tallies.specs.FoldInvariant.{AreTallied, IsFold};
 
 use crate::coarser::coarsen_all;
@@ -18,139 +18,150 @@ use crate::lines::{lines_among, ordered_groups};
 use crate::slots::Slots;
 use crate::tally::Tally;
 use cube_model::{Fault, Items, Kind, Line, Query};
-use group_plan::GroupPlanOver;
+use group_numbers::GroupNumbersOver;
 use std::alloc::Global;
 
 // The lines of a rollup or a cube. What the fold has stays as it is.
 fn coarser_lines(
     alloc: Global,
-    plan: &GroupPlanOver,
+    grouping: &GroupNumbersOver,
     query: &Query,
     columns: &[Vec<Tally>],
     slots: &Slots,
 ) -> Result<Items<Line>, Fault>
-    requires query { query.now ≡ plan.now.query }
-    requires fold { IsFold plan.now.dimensions plan.now.query slots.now columns.now }
+    requires query { query.now ≡ grouping.now.query }
+    requires fold { IsFold grouping.now.dimensions grouping.now.query slots.now columns.now }
     ensures lines { IfOk result (λ lines. (rows : List LineOrder)
-        → AreTallied plan.now.dimensions (finest plan.now.query) (entries_of slots.now) columns.now rows
-        → lines ≡ (answer plan.now.query plan.now.dimensions rows).lines) }
+        → AreTallied grouping.now.dimensions (finest grouping.now.query) (entries_of slots.now) columns.now rows
+        → lines ≡ (answer grouping.now.query grouping.now.dimensions rows).lines) }
     ensures refused { result ≡ Err Fault.BadLayout → (rows : List LineOrder)
-        → AreTallied plan.now.dimensions (finest plan.now.query) (entries_of slots.now) columns.now rows
-        → AreFoldable plan.now.dimensions rows → ⊥ }
+        → AreTallied grouping.now.dimensions (finest grouping.now.query) (entries_of slots.now) columns.now rows
+        → AreFoldable grouping.now.dimensions rows → ⊥ }
     ensures only { IfErr result (λ fault. (fault ≡ Fault.Memory) ⊎ (fault ≡ Fault.BadLayout)) }
 {
     let mut slots = slots.copy()?;
     let mut columns = copy_columns(alloc, columns)?;
-    all_lines(alloc, plan, query, &mut slots, &mut columns)
+    all_lines(alloc, grouping, query, &mut slots, &mut columns)
 }
 
 // The lines of all groups of the query's kind, which are added to those by all columns.
 fn all_lines(
     alloc: Global,
-    plan: &GroupPlanOver,
+    grouping: &GroupNumbersOver,
     query: &Query,
     slots: &mut Slots,
     columns: &mut Vec<Vec<Tally>>,
 ) -> Result<Items<Line>, Fault>
-    requires query { query.now ≡ plan.now.query }
-    requires can { CanCoarsen plan.now.dimensions plan.now.query slots.old columns.old.items }
+    requires query { query.now ≡ grouping.now.query }
+    requires can { CanCoarsen grouping.now.dimensions grouping.now.query slots.old columns.old.items }
     ensures lines { IfOk result (λ lines. (rows : List LineOrder)
-        → AreTalliedFrom plan.now.dimensions plan.now.query (length plan.now.query.columns) (entries_of slots.old)
+        → AreTalliedFrom grouping.now.dimensions grouping.now.query (length grouping.now.query.columns)
+        (entries_of slots.old)
         columns.old.items rows
-        → lines ≡ (answer plan.now.query plan.now.dimensions rows).lines) }
+        → lines ≡ (answer grouping.now.query grouping.now.dimensions rows).lines) }
     ensures refused { result ≡ Err Fault.BadLayout → (rows : List LineOrder)
-        → AreTalliedFrom plan.now.dimensions plan.now.query (length plan.now.query.columns) (entries_of slots.old)
+        → AreTalliedFrom grouping.now.dimensions grouping.now.query (length grouping.now.query.columns)
+        (entries_of slots.old)
         columns.old.items rows
-        → AreFoldable plan.now.dimensions rows → ⊥ }
+        → AreFoldable grouping.now.dimensions rows → ⊥ }
     ensures only { IfErr result (λ fault. (fault ≡ Fault.Memory) ⊎ (fault ≡ Fault.BadLayout)) }
 {
-    let groups = all_groups(alloc, plan, query, slots, columns)?;
-    let lines = lines_among(alloc, plan, query, columns.as_slice(), groups.as_slice())?;
+    let groups = all_groups(alloc, grouping, query, slots, columns)?;
+    let lines = lines_among(
+        alloc,
+        grouping,
+        query,
+        columns.as_slice(),
+        groups.as_slice(),
+    )?;
     Ok(lines)
 }
 
 // All groups of the query's kind, which are added to those by all columns, in the order of their lines.
 fn all_groups(
     alloc: Global,
-    plan: &GroupPlanOver,
+    grouping: &GroupNumbersOver,
     query: &Query,
     slots: &mut Slots,
     columns: &mut Vec<Vec<Tally>>,
 ) -> Result<Vec<(u128, u32)>, Fault>
-    requires query { query.now ≡ plan.now.query }
-    requires can { CanCoarsen plan.now.dimensions plan.now.query slots.old columns.old.items }
-    ensures count { OnOk result (length columns.new.items ≡ length plan.now.query.aggregates) }
+    requires query { query.now ≡ grouping.now.query }
+    requires can { CanCoarsen grouping.now.dimensions grouping.now.query slots.old columns.old.items }
+    ensures count { OnOk result (length columns.new.items ≡ length grouping.now.query.aggregates) }
     ensures groups { IfOk result
-        (λ groups. HaveLines plan.now.dimensions plan.now.query columns.new.items groups.items) }
+        (λ groups. HaveLines grouping.now.dimensions grouping.now.query columns.new.items groups.items) }
     ensures lines { IfOk result (λ groups. (rows : List LineOrder)
-        → AreTalliedFrom plan.now.dimensions plan.now.query (length plan.now.query.columns) (entries_of slots.old)
+        → AreTalliedFrom grouping.now.dimensions grouping.now.query (length grouping.now.query.columns)
+        (entries_of slots.old)
         columns.old.items rows
-        → lines_by plan.now.dimensions plan.now.query columns.new.items groups.items
-        ≡ (answer plan.now.query plan.now.dimensions rows).lines) }
+        → lines_by grouping.now.dimensions grouping.now.query columns.new.items groups.items
+        ≡ (answer grouping.now.query grouping.now.dimensions rows).lines) }
     ensures refused { result ≡ Err Fault.BadLayout → (rows : List LineOrder)
-        → AreTalliedFrom plan.now.dimensions plan.now.query (length plan.now.query.columns) (entries_of slots.old)
+        → AreTalliedFrom grouping.now.dimensions grouping.now.query (length grouping.now.query.columns)
+        (entries_of slots.old)
         columns.old.items rows
-        → AreFoldable plan.now.dimensions rows → ⊥ }
+        → AreFoldable grouping.now.dimensions rows → ⊥ }
     ensures only { IfErr result (λ fault. (fault ≡ Fault.Memory) ⊎ (fault ≡ Fault.BadLayout)) }
 {
     let count = query.columns.len();
-    coarsen_all(alloc, plan, query.kind, count, slots, columns)?;
-    let groups = ordered_groups(alloc, plan, query, columns.as_slice(), slots)?;
+    coarsen_all(alloc, grouping, query.kind, count, slots, columns)?;
+    let groups = ordered_groups(alloc, grouping, query, columns.as_slice(), slots)?;
     Ok(groups)
 }
 
 // The lines of the groups that there are.
 fn finest_lines(
     alloc: Global,
-    plan: &GroupPlanOver,
+    grouping: &GroupNumbersOver,
     query: &Query,
     columns: &[Vec<Tally>],
     slots: &Slots,
 ) -> Result<Items<Line>, Fault>
-    requires query { query.now ≡ plan.now.query }
-    requires proper { IsProper plan.now.query }
-    requires numbers { AreSlots (group_count plan.now.dimensions plan.now.query.columns) (entries_of slots.now) }
-    requires columns { length columns.now ≡ length plan.now.query.aggregates }
+    requires query { query.now ≡ grouping.now.query }
+    requires proper { IsProper grouping.now.query }
+    requires numbers { AreSlots (group_count grouping.now.dimensions grouping.now.query.columns)
+        (entries_of slots.now) }
+    requires columns { length columns.now ≡ length grouping.now.query.aggregates }
     ensures lines { IfOk result (λ lines. (rows : List LineOrder)
-        → seen_groups (group_key_at plan.now.dimensions plan.now.query.columns) (tallies_at columns.now)
+        → seen_groups (group_key_at grouping.now.dimensions grouping.now.query.columns) (tallies_at columns.now)
         (entries_of slots.now)
-        ≡ groups_of plan.now.dimensions plan.now.query rows
-        → lines ≡ (answer plan.now.query plan.now.dimensions rows).lines) }
+        ≡ groups_of grouping.now.dimensions grouping.now.query rows
+        → lines ≡ (answer grouping.now.query grouping.now.dimensions rows).lines) }
     ensures only { IfErr result (λ fault. fault ≡ Fault.Memory) }
 {
-    let groups = ordered_groups(alloc, plan, query, columns, slots)?;
-    let lines = lines_among(alloc, plan, query, columns, groups.as_slice())?;
+    let groups = ordered_groups(alloc, grouping, query, columns, slots)?;
+    let lines = lines_among(alloc, grouping, query, columns, groups.as_slice())?;
     Ok(lines)
 }
 
 /// The groups of the query, made of those by all columns, in the order of the answer's lines.
 pub fn groups_of_kind(
     alloc: Global,
-    plan: &GroupPlanOver,
+    grouping: &GroupNumbersOver,
     query: &Query,
     slots: &mut Slots,
     columns: &mut Vec<Vec<Tally>>,
 ) -> Result<Vec<(u128, u32)>, Fault>
-    requires query { query.now ≡ plan.now.query }
-    requires fold { IsFold plan.now.dimensions plan.now.query slots.old columns.old.items }
-    ensures count { OnOk result (length columns.new.items ≡ length plan.now.query.aggregates) }
+    requires query { query.now ≡ grouping.now.query }
+    requires fold { IsFold grouping.now.dimensions grouping.now.query slots.old columns.old.items }
+    ensures count { OnOk result (length columns.new.items ≡ length grouping.now.query.aggregates) }
     ensures groups { IfOk result
-        (λ groups. HaveLines plan.now.dimensions plan.now.query columns.new.items groups.items) }
+        (λ groups. HaveLines grouping.now.dimensions grouping.now.query columns.new.items groups.items) }
     ensures lines { IfOk result (λ groups. (rows : List LineOrder)
-        → AreTallied plan.now.dimensions (finest plan.now.query) (entries_of slots.old) columns.old.items rows
-        → lines_by plan.now.dimensions plan.now.query columns.new.items groups.items
-        ≡ (answer plan.now.query plan.now.dimensions rows).lines) }
+        → AreTallied grouping.now.dimensions (finest grouping.now.query) (entries_of slots.old) columns.old.items rows
+        → lines_by grouping.now.dimensions grouping.now.query columns.new.items groups.items
+        ≡ (answer grouping.now.query grouping.now.dimensions rows).lines) }
     ensures refused { result ≡ Err Fault.BadLayout → (rows : List LineOrder)
-        → AreTallied plan.now.dimensions (finest plan.now.query) (entries_of slots.old) columns.old.items rows
-        → AreFoldable plan.now.dimensions rows → ⊥ }
+        → AreTallied grouping.now.dimensions (finest grouping.now.query) (entries_of slots.old) columns.old.items rows
+        → AreFoldable grouping.now.dimensions rows → ⊥ }
     ensures only { IfErr result (λ fault. (fault ≡ Fault.Memory) ⊎ (fault ≡ Fault.BadLayout)) }
 {
     match query.kind {
         Kind::Plain => {
-            let groups = ordered_groups(alloc, plan, query, columns.as_slice(), slots)?;
+            let groups = ordered_groups(alloc, grouping, query, columns.as_slice(), slots)?;
             Ok(groups)
         }
-        Kind::Rollup | Kind::Cube => all_groups(alloc, plan, query, slots, columns),
+        Kind::Rollup | Kind::Cube => all_groups(alloc, grouping, query, slots, columns),
     }
 }
 
@@ -160,23 +171,23 @@ pub fn groups_of_kind(
 /// `BadLayout` says that a count or a sum over some of the rows would pass its limit.
 pub fn answer_lines(
     alloc: Global,
-    plan: &GroupPlanOver,
+    grouping: &GroupNumbersOver,
     query: &Query,
     columns: &[Vec<Tally>],
     slots: &Slots,
 ) -> Result<Items<Line>, Fault>
-    requires query { query.now ≡ plan.now.query }
-    requires fold { IsFold plan.now.dimensions plan.now.query slots.now columns.now }
+    requires query { query.now ≡ grouping.now.query }
+    requires fold { IsFold grouping.now.dimensions grouping.now.query slots.now columns.now }
     ensures lines { IfOk result (λ lines. (rows : List LineOrder)
-        → AreTallied plan.now.dimensions (finest plan.now.query) (entries_of slots.now) columns.now rows
-        → lines ≡ (answer plan.now.query plan.now.dimensions rows).lines) }
+        → AreTallied grouping.now.dimensions (finest grouping.now.query) (entries_of slots.now) columns.now rows
+        → lines ≡ (answer grouping.now.query grouping.now.dimensions rows).lines) }
     ensures refused { result ≡ Err Fault.BadLayout → (rows : List LineOrder)
-        → AreTallied plan.now.dimensions (finest plan.now.query) (entries_of slots.now) columns.now rows
-        → AreFoldable plan.now.dimensions rows → ⊥ }
+        → AreTallied grouping.now.dimensions (finest grouping.now.query) (entries_of slots.now) columns.now rows
+        → AreFoldable grouping.now.dimensions rows → ⊥ }
     ensures only { IfErr result (λ fault. (fault ≡ Fault.Memory) ⊎ (fault ≡ Fault.BadLayout)) }
 {
     match query.kind {
-        Kind::Plain => finest_lines(alloc, plan, query, columns, slots),
-        Kind::Rollup | Kind::Cube => coarser_lines(alloc, plan, query, columns, slots),
+        Kind::Plain => finest_lines(alloc, grouping, query, columns, slots),
+        Kind::Rollup | Kind::Cube => coarser_lines(alloc, grouping, query, columns, slots),
     }
 }

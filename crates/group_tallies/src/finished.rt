@@ -8,7 +8,7 @@ ghost use Rattle.group_tallies.specs.FoldInvariant.{AreTallied, IsFold};
 ghost use Rattle.group_tallies.specs.Groups.{finest};
 ghost use Rattle.group_tallies.specs.Limits.{AreFoldable};
 ghost use Rattle.group_tallies.specs.Slots.{entries_of};
-ghost use Rattle.group_plan.specs.Plans.{IsGroupPlanOver, query_of};
+ghost use Rattle.group_numbers.specs.GroupNumbers.{IsGroupNumbersOver, query_of};
 
 use crate::columns::value_at;
 use crate::finish::groups_of_kind;
@@ -17,14 +17,14 @@ use crate::slots::Slots;
 use crate::tally::Tally;
 use cube_model::{Answer, Fault, Value};
 use dimensions::Dims;
-use group_plan::GroupPlan;
+use group_numbers::GroupNumbers;
 use std::alloc::{AllocError, Global};
 use std::marker::Model;
 
 /// The groups of a fold that is done, in the order of the answer's lines. They have no texts: each line's are those of
 /// the dimensions.
 pub struct Groups {
-    plan: GroupPlan,
+    grouping: GroupNumbers,
     columns: Vec<Vec<Tally>>,
     order: Vec<(u128, u32)>,
 }
@@ -33,7 +33,7 @@ pub struct Groups {
 impl Drop for Groups {
     fn drop(self) {
         let Groups {
-            plan: _,
+            grouping: _,
             columns: _,
             order: _,
         } = self;
@@ -43,25 +43,25 @@ impl Drop for Groups {
 impl Groups {
     ghost use Rattle.group_tallies.specs.GroupLines.{AreGroupsOver, answer_over, lines_over};
 
-    /// The groups of what a fold has: the plan of its query, the slots of the numbers of groups, and a column for
-    /// each aggregate with a tally at each slot. It takes no copy of it.
+    /// The groups of what a fold has: the group numbers of its query, the slots of the numbers of groups, and a column
+    /// for each aggregate with a tally at each slot. It takes no copy of it.
     ///
     /// `BadLayout` says that a count or a sum over some of the rows would pass its limit.
     pub fn of(
         alloc: Global,
         dims: &Dims,
-        plan: GroupPlan,
+        grouping: GroupNumbers,
         slots: Slots,
         columns: Vec<Vec<Tally>>,
     ) -> Result<Groups, Fault>
-        requires over { IsGroupPlanOver dims.now plan }
-        requires fold { IsFold dims.now (query_of plan) slots columns.items }
+        requires over { IsGroupNumbersOver dims.now grouping }
+        requires fold { IsFold dims.now (query_of grouping) slots columns.items }
         ensures over { IfOk result (AreGroupsOver dims.now) }
         ensures answer { IfOk result (λ groups. (rows : List LineOrder)
-            → AreTallied dims.now (finest (query_of plan)) (entries_of slots) columns.items rows
-            → answer_over dims.now groups ≡ answer (query_of plan) dims.now rows) }
+            → AreTallied dims.now (finest (query_of grouping)) (entries_of slots) columns.items rows
+            → answer_over dims.now groups ≡ answer (query_of grouping) dims.now rows) }
         ensures refused { result ≡ Err Fault.BadLayout → (rows : List LineOrder)
-            → AreTallied dims.now (finest (query_of plan)) (entries_of slots) columns.items rows
+            → AreTallied dims.now (finest (query_of grouping)) (entries_of slots) columns.items rows
             → AreFoldable dims.now rows → ⊥ }
         ensures only { IfErr result (λ fault. (fault ≡ Fault.Memory) ⊎ (fault ≡ Fault.BadLayout)) }
     {
@@ -69,13 +69,13 @@ impl Groups {
         let mut columns = columns;
         let order = groups_of_kind(
             alloc,
-            &plan.over(dims),
-            plan.query(),
+            &grouping.over(dims),
+            grouping.query(),
             &mut slots,
             &mut columns,
         )?;
         Ok(Groups {
-            plan,
+            grouping,
             columns,
             order,
         })
@@ -94,12 +94,12 @@ impl Groups {
         requires { AreGroupsOver dims.now self.now }
         ensures { IfOk result (λ answer. answer ≡ answer_over dims.now self.now) }
     {
-        let plan = self.plan.over(dims);
+        let grouping = self.grouping.over(dims);
         let columns = self.columns.as_slice();
         let lines = lines_among(
             alloc,
-            &plan,
-            self.plan.query(),
+            &grouping,
+            self.grouping.query(),
             columns,
             self.order.as_slice(),
         )?;
@@ -144,7 +144,7 @@ impl<'a> GroupLines<'a> {
         let (number, slot) = self.groups.order[place];
         GroupLine {
             dims: self.dims,
-            plan: &self.groups.plan,
+            grouping: &self.groups.grouping,
             columns: self.groups.columns.as_slice(),
             number,
             slot,
@@ -156,7 +156,7 @@ impl<'a> GroupLines<'a> {
 #[derive(Drop)]
 pub struct GroupLine<'a> {
     dims: &'a Dims,
-    plan: &'a GroupPlan,
+    grouping: &'a GroupNumbers,
     columns: &'a [Vec<Tally>],
     number: u128,
     slot: u32,
@@ -166,15 +166,15 @@ impl<'a> Model for GroupLine<'a> {
     ghost use Rattle.std.specs.Prelude.{◌≡◌, length};
     ghost use Rattle.cube_model.specs.declared.answer.Line.{Line};
     ghost use Rattle.group_tallies.specs.GroupLines.{HasLine, line_by};
-    ghost use Rattle.group_plan.specs.Plans.{IsGroupPlanOver, query_of};
+    ghost use Rattle.group_numbers.specs.GroupNumbers.{IsGroupNumbersOver, query_of};
 
     ghost Value = { Line };
 
-    ghost view = { λ line. line_by line.dims.now (query_of line.plan.now) line.columns.now (line.number, line.slot) };
+    ghost view = { λ l. line_by l.dims.now (query_of l.grouping.now) l.columns.now (l.number, l.slot) };
 
-    ghost invariant = { λ line. IsGroupPlanOver line.dims.now line.plan.now
-        × (length line.columns.now ≡ length (query_of line.plan.now).aggregates)
-        × HasLine line.dims.now (query_of line.plan.now) line.columns.now (line.number, line.slot) };
+    ghost invariant = { λ line. IsGroupNumbersOver line.dims.now line.grouping.now
+        × (length line.columns.now ≡ length (query_of line.grouping.now).aggregates)
+        × HasLine line.dims.now (query_of line.grouping.now) line.columns.now (line.number, line.slot) };
 }
 
 impl<'a> GroupLine<'a> {
@@ -182,7 +182,7 @@ impl<'a> GroupLine<'a> {
     pub fn columns(&self) -> usize
         ensures { result ≡ length self.now.key }
     {
-        self.plan.query().columns.len()
+        self.grouping.query().columns.len()
     }
 
     /// Its text in a column, where it is: none for ALL.
@@ -191,14 +191,14 @@ impl<'a> GroupLine<'a> {
         ensures text { IfSome result (λ text. slice_index_or self.now.key column All ≡ Text text.now) }
         ensures all { IfNone result (slice_index_or self.now.key column All ≡ All) }
     {
-        self.plan.over(self.dims).text(column, self.number)
+        self.grouping.over(self.dims).text(column, self.number)
     }
 
     /// How many values it has.
     pub fn values(&self) -> usize
         ensures { result ≡ length self.now.values }
     {
-        self.plan.query().aggregates.len()
+        self.grouping.query().aggregates.len()
     }
 
     /// Its value of an aggregate.
@@ -206,7 +206,7 @@ impl<'a> GroupLine<'a> {
         requires { aggregate < length self.now.values }
         ensures { result ≡ slice_index_or self.now.values aggregate (Whole (pos 0)) }
     {
-        let aggregates = self.plan.query().aggregates.as_slice();
+        let aggregates = self.grouping.query().aggregates.as_slice();
         value_at(aggregates, self.columns, self.slot as usize, aggregate)
     }
 }

@@ -1,5 +1,5 @@
 //! Numbers in the order that they came.
-ghost use Rattle.std.specs.Prelude.{◌≡◌, ◌==◌, ◌<◌, ◌^◌, [], length, map, nat_eq, IfOk, IfSome, OnErr};
+ghost use Rattle.std.specs.Prelude.{◌≡◌, ◌<◌, ◌^◌, [], length, map, nat_eq, IfOk, OnErr};
 ghost use Rattle.std.specs.List.{IsDistinct, position_or_len};
 ghost use Rattle.group_tallies.specs.Numbered.{TakesPlace, entries_in};
 

@@ -4,12 +4,12 @@ ghost use Rattle.std.specs.List.{list_all};
 ghost use Rattle.group_tallies.specs.Columns.{can_add, rows_with_slots, aggregate_size, HasRoom};
 ghost use Rattle.group_tallies.specs.FoldInvariant.{HaveRoom};
 ghost use Rattle.group_tallies.specs.Room.{can_take};
-ghost use Rattle.group_plan.specs.Rows.{row_at};
+ghost use Rattle.group_numbers.specs.Rows.{row_at};
 
 use crate::columns::number_at;
 use crate::tally::{LIMIT, Tally};
 use cube_model::Agg;
-use group_plan::FactRows;
+use group_numbers::FactRows;
 
 /// Whether each column has room for rows at the slots of their groups: there is a column for each aggregate, and for
 /// each row the slot of its group, or none where it is not selected. It takes no memory.

@@ -1,5 +1,5 @@
 //! The slots of groups.
-ghost use Rattle.std.specs.Prelude.{◌≡◌, ℕ, ◌<◌, ◌^◌, length, IfOk, OnErr};
+ghost use Rattle.std.specs.Prelude.{◌≡◌, ℕ, ◌<◌, length, IfOk, OnErr};
 ghost use Rattle.group_tallies.specs.Slots.{entries_of, numbers_from, AreSlots, CanPlace, Cover, Places};
 
 use crate::numbers::Numbers;

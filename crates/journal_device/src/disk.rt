@@ -1,5 +1,5 @@
 // A device over the bytes of a file, whose changes are kept in memory and recorded.
-ghost use Rattle.std.specs.Prelude.{◌≡◌, ◌≢◌, ◌++◌, ◌∷◌, ◌%◌, ◌/◌, ◌^◌, ◌<◌, ℕ, [], IsOk, IsSome, IfSome, OnOk, OnErr};
+ghost use Rattle.std.specs.Prelude.{◌≡◌, ◌++◌, ◌∷◌, ◌%◌, ◌/◌, ◌^◌, ◌<◌, ℕ, [], IsOk, IsSome, IfSome, OnOk, OnErr};
 ghost use Rattle.std.specs.Prelude.{length, is_ok, nat_eq, if◌then◌else◌, Some, refl, All};
 ghost use Rattle.sector_device.specs.Device.{CountsFailure, IsSettled, CandidatesStay, Syncs, WritesSector};
 ghost use Rattle.sector_device.specs.Memory.{content};

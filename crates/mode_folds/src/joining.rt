@@ -1,5 +1,5 @@
 //! The answer to a query with a column of ship modes, made of the answers of folds of the query without it.
-ghost use Rattle.std.specs.Prelude.{◌≡◌, ◌⊎◌, ◌++◌, [], ℕ, Err, List, Some, map, not, IfErr, IfOk, OnOk};
+ghost use Rattle.std.specs.Prelude.{◌≡◌, ◌⊎◌, ◌++◌, Err, List, Some, not, IfErr, IfOk, OnOk};
 ghost use Rattle.std.specs.List.{AllByRecursion, insert, list_all};
 ghost use Rattle.std.specs.BTreeMap.{IsOrdered};
 ghost use Rattle.std.specs.Option.{option_map};

@@ -5,7 +5,7 @@ ghost use Rattle.std.specs.declared.alloc.Global.{Global};
 ghost use Rattle.std.specs.declared.vec.Vec.{Vec};
 ghost use Rattle.cube_model.specs.declared.query.Query.{Query};
 ghost use Rattle.cube_model.specs.declared.rows.LineOrder.{LineOrder};
-ghost use Rattle.cube_query.specs.Groups.{Begins, CanTake, FoldState, IsOver, Takes};
+ghost use Rattle.cube_query.specs.Groups.{IsOver};
 ghost use Rattle.group_tallies.specs.Limits.{AreFoldable};
 ghost use Rattle.mode_folds.specs.Parts.{AreGrown, CanTakeEach, HaveQuery, RepresentByMode, TakeByMode, TakeEach};
 

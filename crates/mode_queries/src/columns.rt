@@ -1,8 +1,6 @@
 //! The columns of a query by their names.
 ghost use Rattle.std.specs.Prelude.{◌≡◌, ◌<◌, ◌+◌, [], Some, length, slice_index_or};
-ghost use Rattle.std.specs.List.{insert};
-ghost use Rattle.cube_model.specs.Names.{attr_name};
-ghost use Rattle.mode_queries.specs.Names.{column_names, names_with, ship_mode_name};
+ghost use Rattle.mode_queries.specs.Names.{column_names, names_with};
 
 use crate::query::{ModeQuery, SHIP_MODE};
 use cube_model::Attr;

@@ -1,6 +1,5 @@
 //! Queries that look at ship modes, and which of them are proper.
 ghost use Rattle.std.specs.Prelude.{◌≡◌, ◌↔◌, ◌+◌, ◌≤◌, None, IfErr, IfNone, IfOk, IfSome, IsTrue, OnErr, OnOk, length};
-ghost use Rattle.std.specs.List.{AllByRecursion};
 ghost use Rattle.cube_model.specs.Limits.{most_columns};
 ghost use Rattle.cube_model.specs.declared.query.Query.{Query};
 ghost use Rattle.mode_queries.specs.Lawful.{without_modes};

@@ -206,3 +206,8 @@ pub leaves_now : {D : Type 0} (g : Ghosts D)
     → IsImage (g.state d) image) → (store : Store D g) → has_failed store ≡ false
     → Leaves (disk_of g store) (disk_of g store) (λ c. c ≡ content_of g store)
 leaves_now g only store = (none_read g only store).leaves
+
+-- what all images show may be said more weakly
+pub all_weaker : (P Q : Content → Type 0) (now : Disk) → (now.keeps_word → (c : Content) → P c → Q c) → AllShow now P
+    → AllShow now Q
+all_weaker P Q now so all w image is = let shown = all w image is in (shown.0, shown.1, so w shown.0 shown.2)

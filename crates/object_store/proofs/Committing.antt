@@ -9,7 +9,7 @@ use Rattle.superblock.specs.declared.superblock.Super.{Super}
 use Rattle.superblock.specs.Superblock.{IsSuperblock}
 use Rattle.object_store.specs.declared.catalogue.entry.Entry.{Entry}
 use Rattle.object_store.specs.Catalogue as catalogues
-use Rattle.object_store.specs.declared.plan.CommitPlan.{CommitPlan}
+use Rattle.object_store.specs.declared.staged.Staged.{Staged}
 use Rattle.object_store.specs.Content.{Content}
 use Rattle.object_store.specs.Commit.{IsFew, committed, put_all, drop_all, put_each, drop_each, put_size}
 use Rattle.object_store.specs.Places.{extents_of, object_at, objects_at, size_at, sizes_at, used_by}
@@ -19,7 +19,8 @@ use Rattle.object_store.specs.Room.{LacksPlaces, LacksRoom, sectors_asked_for, e
 use Rattle.wire.specs.Limits.{most_objects}
 use Rattle.extents.specs.declared.extent.Extent.{Extent}
 use Rattle.object_store.specs.Ready.{content_from, KeepsLayout, IsReady}
-use Rattle.object_store.specs.Publish.{written_by, plan_slot, IsPlanForPuts, IsUnchangedOutside, HasWritten, IsEither}
+use Rattle.object_store.specs.Publish.{written_by, staged_slot, IsStagedForPuts, IsUnchangedOutside, HasWritten}
+use Rattle.object_store.specs.Publish.{IsEither}
 use Rattle.object_store.specs.Store.{IsOneOf}
 use Rattle.object_store.proofs.Lists.{map-put_each, map-drop_each}
 use Rattle.object_store.proofs.Extents.{held_drop_each}
@@ -92,17 +93,17 @@ few_same image entries puts drops =
 -- a commit, from a device that shows a content
 module _ (s0 : DeviceState) (super : Super) (entries : List Entry) (root0 : List ℕ)
     (kept : KeepsLayout s0.size super entries root0)
-    (puts : List (ℕ × List ℕ)) (drops root : List ℕ) (layout : ℕ) (plan : CommitPlan)
-    (planned : IsPlanForPuts super.sectors (used_by super entries) (drop_each (λ e. e.id) drops entries) puts root
-    (super.generation + 1) layout plan) where
+    (puts : List (ℕ × List ℕ)) (drops root : List ℕ) (layout : ℕ) (staged : Staged)
+    (is_staged : IsStagedForPuts super.sectors (used_by super entries) (drop_each (λ e. e.id) drops entries) puts root
+    (super.generation + 1) layout staged) where
   abbrev pub c0 : Content
   c0 = content_from s0.reads super entries root0
 
-  plan_here : IsPlanForPuts s0.size (used_by super entries) (drop_each (λ e. e.id) drops entries) puts root
-      (super.generation + 1) layout plan
-  plan_here =
-      subst (λ (n : ℕ). IsPlanForPuts n (used_by super entries) (drop_each (λ e. e.id) drops entries) puts root
-      (super.generation + 1) layout plan) kept.sized planned
+  staged_here : IsStagedForPuts s0.size (used_by super entries) (drop_each (λ e. e.id) drops entries) puts root
+      (super.generation + 1) layout staged
+  staged_here =
+      subst (λ (n : ℕ). IsStagedForPuts n (used_by super entries) (drop_each (λ e. e.id) drops entries) puts root
+      (super.generation + 1) layout staged) kept.sized is_staged
 
   in_use : (i : ℕ) → SomeHolds (extents_of (drop_each (λ e. e.id) drops entries)) i
       → SomeHolds (used_by super entries) i
@@ -112,82 +113,86 @@ module _ (s0 : DeviceState) (super : Super) (entries : List Entry) (root0 : List
   left = map-drop_each (object_at s0.reads) (λ (e : Entry). e.id) (λ (o : ℕ × List ℕ). o.0) (λ e. refl) drops entries
 
   -- what is kept in memory afterwards
-  pub kept_after : (size : ℕ) → size ≡ s0.size → KeepsLayout size plan.superblock plan.entries.items plan.root.items
-  kept_after size same = subst (λ (n : ℕ). KeepsLayout n plan.superblock plan.entries.items plan.root.items) (sym same)
+  pub kept_after : (size : ℕ) → size ≡ s0.size
+      → KeepsLayout size staged.superblock staged.entries.items staged.root.items
+  kept_after size same = subst (λ (n : ℕ). KeepsLayout n staged.superblock staged.entries.items staged.root.items)
+      (sym same)
       (record {
-        sized = plan_here.sized;
-        proper = plan_here.proper;
+        sized = staged_here.sized;
+        proper = staged_here.proper;
         proper_catalogue =
-            subst (λ (r : List ℕ). catalogues.IsProperCatalogue plan.entries.items r) (sym plan_here.same_root)
-            plan_here.spelled.proper;
-        laid_out = plan_here.laid_out;
+            subst (λ (r : List ℕ). catalogues.IsProperCatalogue staged.entries.items r) (sym staged_here.same_root)
+            staged_here.spelled.proper;
+        laid_out = staged_here.laid_out;
       })
 
   module _ (ready : IsReady s0 super entries root0) where
-    older : (slot : ℕ) → slot < 2 → slot ≢ plan_slot plan → (other : Super) → IsSuperblock slot (s0.reads slot) other
-        → other.generation ≤ plan.superblock.generation
+    older : (slot : ℕ) → slot < 2 → slot ≢ staged_slot staged → (other : Super)
+        → IsSuperblock slot (s0.reads slot) other
+        → other.generation ≤ staged.superblock.generation
     older slot lt ne other is =
         let before : other.generation ≤ super.generation = ready.shows.newest slot lt other is in
-        let numbered : plan.superblock.generation ≡ super.generation + 1 = planned.numbered in
+        let numbered : staged.superblock.generation ≡ super.generation + 1 = is_staged.numbered in
         omega (arith, before, numbered)
 
-    before_shows : (image : Image) → IsUnchangedOutside (written_by plan) s0.reads image
+    before_shows : (image : Image) → IsUnchangedOutside (written_by staged) s0.reads image
         → ShowsBy s0.size image c0 super entries
-    before_shows image outside = shows_outside s0.size s0.reads image c0 super entries (written_by plan) ready.shows
-        plan_here.written plan_here.apart outside
+    before_shows image outside = shows_outside s0.size s0.reads image c0 super entries (written_by staged) ready.shows
+        staged_here.written staged_here.apart outside
 
-    after_shows : (image : Image) → HasWritten plan puts s0.reads image
-        → ShowsBy s0.size image (committed puts drops root layout c0) plan.superblock plan.entries.items
+    after_shows : (image : Image) → HasWritten staged puts s0.reads image
+        → ShowsBy s0.size image (committed puts drops root layout c0) staged.superblock staged.entries.items
     after_shows image has =
         after.shows s0.size s0.reads image (used_by super entries) (drop_each (λ e. e.id) drops entries) puts root
-        (super.generation + 1) layout plan plan_here has kept.laid_out.in_range in_use
+        (super.generation + 1) layout staged staged_here has kept.laid_out.in_range in_use
         (committed puts drops root layout c0) (generation_is puts drops root layout c0)
         (layout_is puts drops root layout c0)
         (objects_is puts drops root layout c0 ∙ ap (λ (l : List (ℕ × List ℕ)). put_all puts l) (sym left))
         (root_is puts drops root layout c0) older
 
     -- what a crash at any point leaves
-    pub either_shows : (image : Image) → IsEither plan puts s0.reads image
+    pub either_shows : (image : Image) → IsEither staged puts s0.reads image
         → ShowsSome (IsOneOf c0 (committed puts drops root layout c0)) s0.size image
     either_shows image either =
         ⊎_elim (λ outside. (c0, (super, entries, before_shows image outside), inl refl))
         (λ has. (
           committed puts drops root layout c0,
-          (plan.superblock, plan.entries.items, after_shows image has),
+          (staged.superblock, staged.entries.items, after_shows image has),
           inr refl,
         )) either
 
     -- and what is at the end
     module _ (s1 : DeviceState) (size : s1.size ≡ s0.size) (settled : IsSettled s1)
-        (has : HasWritten plan puts s0.reads s1.reads) where
-      objects_after : objects_at s1.reads plan.entries.items
+        (has : HasWritten staged puts s0.reads s1.reads) where
+      objects_after : objects_at s1.reads staged.entries.items
           ≡ put_all puts (objects_at s0.reads (drop_each (λ e. e.id) drops entries))
       objects_after =
           after.objects_are s0.size s0.reads s1.reads (used_by super entries) (drop_each (λ e. e.id) drops entries) puts
-          root (super.generation + 1) layout plan plan_here has kept.laid_out.in_range in_use
+          root (super.generation + 1) layout staged staged_here has kept.laid_out.in_range in_use
 
-      pub ready_after : IsReady s1 plan.superblock plan.entries.items plan.root.items
+      pub ready_after : IsReady s1 staged.superblock staged.entries.items staged.root.items
       ready_after = record {
         settled = settled;
         shows = subst
-            (λ (n : ℕ). ShowsBy n s1.reads (content_from s1.reads plan.superblock plan.entries.items plan.root.items)
-            plan.superblock plan.entries.items) (sym size)
+            (λ (n : ℕ). ShowsBy n s1.reads
+            (content_from s1.reads staged.superblock staged.entries.items staged.root.items)
+            staged.superblock staged.entries.items) (sym size)
             (after.shows s0.size s0.reads s1.reads (used_by super entries) (drop_each (λ e. e.id) drops entries) puts
-            root (super.generation + 1) layout plan plan_here has kept.laid_out.in_range in_use
-            (content_from s1.reads plan.superblock plan.entries.items plan.root.items) plan_here.numbered
-            plan_here.of_layout objects_after plan_here.same_root older);
+            root (super.generation + 1) layout staged staged_here has kept.laid_out.in_range in_use
+            (content_from s1.reads staged.superblock staged.entries.items staged.root.items) staged_here.numbered
+            staged_here.of_layout objects_after staged_here.same_root older);
       }
 
-      pub content_after : content_from s1.reads plan.superblock plan.entries.items plan.root.items
+      pub content_after : content_from s1.reads staged.superblock staged.entries.items staged.root.items
           ≡ committed puts drops root layout c0
       content_after =
-          content_is (content_from s1.reads plan.superblock plan.entries.items plan.root.items)
+          content_is (content_from s1.reads staged.superblock staged.entries.items staged.root.items)
           (committed puts drops root layout c0)
-          (plan_here.numbered ∙ sym (generation_is puts drops root layout c0))
-          (plan_here.of_layout ∙ sym (layout_is puts drops root layout c0))
+          (staged_here.numbered ∙ sym (generation_is puts drops root layout c0))
+          (staged_here.of_layout ∙ sym (layout_is puts drops root layout c0))
           (objects_after ∙ ap (λ (l : List (ℕ × List ℕ)). put_all puts l) left
           ∙ sym (objects_is puts drops root layout c0))
-          (plan_here.same_root ∙ sym (root_is puts drops root layout c0))
+          (staged_here.same_root ∙ sym (root_is puts drops root layout c0))
 
 -- as many objects as sizes
 pub few_commit : (image : Image) (super : Super) (entries : List Entry) (root0 : List ℕ) (puts : List (ℕ × List ℕ))
@@ -205,19 +210,20 @@ few_commit image super entries root0 puts drops root layout few =
 -- the calls of a commit, as moments
 pub commit_leaves : (d0 d1 : Disk) (super : Super) (entries : List Entry) (root0 : List ℕ)
     → KeepsLayout d0.state.size super entries root0
-    → (puts : List (ℕ × List ℕ)) (drops root : List ℕ) (layout : ℕ) (plan : CommitPlan)
-    → IsPlanForPuts super.sectors (used_by super entries) (drop_each (λ e. e.id) drops entries) puts root
-    (super.generation + 1) layout plan → (d1.keeps_word → d0.keeps_word) → d1.state.size ≡ d0.state.size
+    → (puts : List (ℕ × List ℕ)) (drops root : List ℕ) (layout : ℕ) (staged : Staged)
+    → IsStagedForPuts super.sectors (used_by super entries) (drop_each (λ e. e.id) drops entries) puts root
+    (super.generation + 1) layout staged → (d1.keeps_word → d0.keeps_word) → d1.state.size ≡ d0.state.size
     → (d0.keeps_word → IsReady d0.state super entries root0)
-    → (d1.keeps_word → LeavesOnly d0.state d1.state (IsEither plan puts d0.state.reads))
+    → (d1.keeps_word → LeavesOnly d0.state d1.state (IsEither staged puts d0.state.reads))
     → Leaves d0 d1
     (IsOneOf (content_from d0.state.reads super entries root0)
     (committed puts drops root layout (content_from d0.state.reads super entries root0)))
-commit_leaves d0 d1 super entries root0 kept puts drops root layout plan planned word size ready moments = record {
+commit_leaves d0 d1 super entries root0 kept puts drops root layout staged is_staged word size ready moments = record {
   word = word;
   size = λ w. size;
   moments = λ w. leaves_also d0.state d1.state _ _
-      (either_shows d0.state super entries root0 kept puts drops root layout plan planned (ready (word w))) (moments w);
+      (either_shows d0.state super entries root0 kept puts drops root layout staged is_staged (ready (word w)))
+      (moments w);
 }
 
 -- the first fits fail

@@ -9,7 +9,7 @@ use Rattle.superblock.specs.declared.superblock.Super.{Super}
 use Rattle.superblock.specs.Superblock.{IsSuperblock}
 use Rattle.object_store.specs.Catalogue as catalogues
 use Rattle.wire.specs.Limits.{most_objects}
-use Rattle.object_store.specs.declared.plan.CommitPlan.{CommitPlan}
+use Rattle.object_store.specs.declared.staged.Staged.{Staged}
 use Rattle.object_store.specs.Content.{Content}
 use Rattle.object_store.specs.Commit.{IsFew, created, put_all, put_each, put_size}
 use Rattle.object_store.specs.Shows.{ShowsBy, HasNone}
@@ -18,7 +18,8 @@ use Rattle.object_store.specs.Disk.{disk, Each, IsBlank, LeavesOrNone, OnlyImage
 use Rattle.object_store.specs.Moments.{passes_then}
 use Rattle.object_store.proofs.CallerLemmas.{only_images}
 use Rattle.object_store.specs.Ready.{content_from, KeepsLayout, IsReady}
-use Rattle.object_store.specs.Publish.{written_by, plan_slot, IsPlanForPuts, IsUnchangedOutside, HasWritten, IsEither}
+use Rattle.object_store.specs.Publish.{written_by, staged_slot, IsStagedForPuts, IsUnchangedOutside, HasWritten}
+use Rattle.object_store.specs.Publish.{IsEither}
 use Rattle.object_store.proofs.Extents.{held_in_range}
 use Rattle.object_store.proofs.DeviceCalls.{images_of}
 use Rattle.object_store.proofs.Looking.{none_same}
@@ -51,71 +52,74 @@ module _ (puts : List (ℕ × List ℕ)) (root : List ℕ) (layout : ℕ) where
       few_same (λ i. []) [] puts [] in
       omega (arith, few, parts, same)
 
-  -- a plan that was written over slots without a superblock
-  module _ (s1 : DeviceState) (none : HasNone s1.reads) (plan : CommitPlan)
-      (planned : IsPlanForPuts s1.size [] [] puts root 1 layout plan) where
-    older : (slot : ℕ) → slot < 2 → slot ≢ plan_slot plan → (other : Super) → IsSuperblock slot (s1.reads slot) other
-        → other.generation ≤ plan.superblock.generation
+  -- a staged commit that was written over slots without a superblock
+  module _ (s1 : DeviceState) (none : HasNone s1.reads) (staged : Staged)
+      (is_staged : IsStagedForPuts s1.size [] [] puts root 1 layout staged) where
+    older : (slot : ℕ) → slot < 2 → slot ≢ staged_slot staged → (other : Super)
+        → IsSuperblock slot (s1.reads slot) other
+        → other.generation ≤ staged.superblock.generation
     older slot lt ne other is = absurd (none slot lt other is)
 
-    shows : (image : Image) → HasWritten plan puts s1.reads image
-        → ShowsBy s1.size image (created puts root layout) plan.superblock plan.entries.items
+    shows : (image : Image) → HasWritten staged puts s1.reads image
+        → ShowsBy s1.size image (created puts root layout) staged.superblock staged.entries.items
     shows image has =
-        after.shows s1.size s1.reads image [] [] puts root 1 layout plan planned has (All-nil (IsInRange s1.size))
+        after.shows s1.size s1.reads image [] [] puts root 1 layout staged is_staged has (All-nil (IsInRange s1.size))
         (λ i held. held)
         (created puts root layout) generation_is layout_is objects_is root_is older
 
-    none_outside : (image : Image) → IsUnchangedOutside (written_by plan) s1.reads image → HasNone image
+    none_outside : (image : Image) → IsUnchangedOutside (written_by staged) s1.reads image → HasNone image
     none_outside image outside =
         none_same s1.reads image (λ slot lt. sym (outside slot (λ held.
         let r : (2 ≤ slot) × (slot < s1.size) =
-        held_in_range s1.size (written_by plan) planned.written.in_range slot held in omega (arith, lt, r.0)))) none
+        held_in_range s1.size (written_by staged) is_staged.written.in_range slot held in omega (arith, lt, r.0)))) none
 
-    pub either_shows : (image : Image) → IsEither plan puts s1.reads image
+    pub either_shows : (image : Image) → IsEither staged puts s1.reads image
         → ShowsSomeOrNone (λ c. c ≡ created puts root layout) s1.size image
     either_shows image either =
         ⊎_elim (λ outside. inl (none_outside image outside))
-        (λ has. inr (created puts root layout, (plan.superblock, plan.entries.items, shows image has), refl)) either
+        (λ has. inr (created puts root layout, (staged.superblock, staged.entries.items, shows image has), refl)) either
 
     module _ (s2 : DeviceState) (size : s2.size ≡ s1.size) (settled : IsSettled s2)
-        (has : HasWritten plan puts s1.reads s2.reads) where
-      objects_after : (content_from s2.reads plan.superblock plan.entries.items plan.root.items).objects
+        (has : HasWritten staged puts s1.reads s2.reads) where
+      objects_after : (content_from s2.reads staged.superblock staged.entries.items staged.root.items).objects
           ≡ put_all puts []
-      objects_after = after.objects_are s1.size s1.reads s2.reads [] [] puts root 1 layout plan planned has
+      objects_after = after.objects_are s1.size s1.reads s2.reads [] [] puts root 1 layout staged is_staged has
           (All-nil (IsInRange s1.size)) (λ i held. held)
 
-      pub ready_created : IsReady s2 plan.superblock plan.entries.items plan.root.items
+      pub ready_created : IsReady s2 staged.superblock staged.entries.items staged.root.items
       ready_created = record {
         settled = settled;
         shows = subst
-            (λ (n : ℕ). ShowsBy n s2.reads (content_from s2.reads plan.superblock plan.entries.items plan.root.items)
-            plan.superblock plan.entries.items) (sym size)
-            (after.shows s1.size s1.reads s2.reads [] [] puts root 1 layout plan planned has
+            (λ (n : ℕ). ShowsBy n s2.reads
+            (content_from s2.reads staged.superblock staged.entries.items staged.root.items)
+            staged.superblock staged.entries.items) (sym size)
+            (after.shows s1.size s1.reads s2.reads [] [] puts root 1 layout staged is_staged has
             (All-nil (IsInRange s1.size)) (λ i held. held)
-            (content_from s2.reads plan.superblock plan.entries.items plan.root.items) planned.numbered
-            planned.of_layout objects_after planned.same_root older);
+            (content_from s2.reads staged.superblock staged.entries.items staged.root.items) is_staged.numbered
+            is_staged.of_layout objects_after is_staged.same_root older);
       }
 
-      pub content_created : content_from s2.reads plan.superblock plan.entries.items plan.root.items
+      pub content_created : content_from s2.reads staged.superblock staged.entries.items staged.root.items
           ≡ created puts root layout
       content_created =
-          content_is (content_from s2.reads plan.superblock plan.entries.items plan.root.items)
+          content_is (content_from s2.reads staged.superblock staged.entries.items staged.root.items)
           (created puts root layout)
-          (planned.numbered ∙ sym generation_is) (planned.of_layout ∙ sym layout_is) (objects_after ∙ sym objects_is)
-          (planned.same_root ∙ sym root_is)
+          (is_staged.numbered ∙ sym generation_is) (is_staged.of_layout ∙ sym layout_is)
+          (objects_after ∙ sym objects_is)
+          (is_staged.same_root ∙ sym root_is)
 
 -- what is kept in memory
-pub kept_created : (sectors size : ℕ) (puts : List (ℕ × List ℕ)) (root : List ℕ) (layout : ℕ) (plan : CommitPlan)
-    → sectors ≡ size → IsPlanForPuts sectors [] [] puts root 1 layout plan
-    → KeepsLayout size plan.superblock plan.entries.items plan.root.items
-kept_created sectors size puts root layout plan same planned =
-    subst (λ (n : ℕ). KeepsLayout n plan.superblock plan.entries.items plan.root.items) same (record {
-      sized = planned.sized;
-      proper = planned.proper;
+pub kept_created : (sectors size : ℕ) (puts : List (ℕ × List ℕ)) (root : List ℕ) (layout : ℕ) (staged : Staged)
+    → sectors ≡ size → IsStagedForPuts sectors [] [] puts root 1 layout staged
+    → KeepsLayout size staged.superblock staged.entries.items staged.root.items
+kept_created sectors size puts root layout staged same is_staged =
+    subst (λ (n : ℕ). KeepsLayout n staged.superblock staged.entries.items staged.root.items) same (record {
+      sized = is_staged.sized;
+      proper = is_staged.proper;
       proper_catalogue =
-          subst (λ (r : List ℕ). catalogues.IsProperCatalogue plan.entries.items r) (sym planned.same_root)
-          planned.spelled.proper;
-      laid_out = planned.laid_out;
+          subst (λ (r : List ℕ). catalogues.IsProperCatalogue staged.entries.items r) (sym is_staged.same_root)
+          is_staged.spelled.proper;
+      laid_out = is_staged.laid_out;
     })
 
 -- a device that was only read

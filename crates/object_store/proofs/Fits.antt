@@ -13,7 +13,7 @@ use Rattle.object_store.specs.declared.catalogue.entry.Entry.{Entry}
 use Rattle.object_store.specs.Commit.{put_size, puts_of, IsObject, ArePuts}
 use Rattle.object_store.specs.Places.{extent_of, extents_of, size_at}
 use Rattle.object_store.specs.Room.{AreFirstFits, FitsFail, lengths_of}
-use Rattle.object_store.specs.Planning.{ArePlaced}
+use Rattle.object_store.specs.Placing.{ArePlaced}
 use Rattle.object_store.proofs.Lists.{AllPairs-nil}
 use Rattle.object_store.proofs.Extents.{one_holds, in_either}
 

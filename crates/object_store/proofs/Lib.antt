@@ -8,7 +8,7 @@ pub mod After
 pub mod PublishLemmas
 pub mod Fits
 pub mod EntriesLemmas
-pub mod PlanLemmas
+pub mod StagedLemmas
 pub mod Pieces
 pub mod DeviceCalls
 pub mod Looking

@@ -17,5 +17,5 @@ pub mod Frames
 pub mod Moments
 pub mod Sourced
 pub mod Publish
-pub mod Planning
+pub mod Placing
 pub mod Lawful

@@ -4,7 +4,7 @@ use Rattle.std.proofs.Common.{◌∙◌, subst}
 use Rattle.sector_device.specs.Device.{Image, IsImage, LeavesOnly}
 use Rattle.sector_device.proofs.Moments.{started, join_runs, leaves_also}
 use Rattle.object_store.specs.Content.{Content}
-use Rattle.object_store.specs.Disk.{Disk, Each, AllShow, Passes, Leaves, ShowsSome, OnlyImagesOf}
+use Rattle.object_store.specs.Disk.{Disk, Each, Passes, Leaves, ShowsSome, OnlyImagesOf}
 
 -- before the first call
 pub begins : (P : ℕ → Image → Type 0) (now : Disk)
@@ -42,7 +42,3 @@ pub leaves_weaker : (P Q : Content → Type 0) (old new : Disk) → (old.keeps_w
     → Leaves old new P → Leaves old new Q
 leaves_weaker P Q old new so =
     passes_also (ShowsSome P) (ShowsSome Q) old new (λ w size image shown. (shown.0, shown.1, so w shown.0 shown.2))
-
-pub all_weaker : (P Q : Content → Type 0) (now : Disk) → (now.keeps_word → (c : Content) → P c → Q c) → AllShow now P
-    → AllShow now Q
-all_weaker P Q now so all w image is = let shown = all w image is in (shown.0, shown.1, so w shown.0 shown.2)

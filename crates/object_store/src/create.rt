@@ -10,8 +10,8 @@ ghost use Rattle.object_store.specs.Room.{LacksPlaces, sectors_asked_for};
 ghost use Rattle.object_store.specs.Shows.{HasNone};
 
 use crate::find::newest;
-use crate::plan::{CommitPlan, first_plan};
 use crate::publish::publish;
+use crate::staged::{Staged, stage_first};
 use cube_model::Fault;
 use sector_device::Sectors;
 use std::alloc::Global;
@@ -23,18 +23,18 @@ pub(crate) fn create<D: Sectors>(
     puts: &[(u32, &[u8])],
     root: &[u8],
     layout: u32,
-) -> Result<CommitPlan, Fault>
+) -> Result<Staged, Fault>
     requires least { 64 ≤ (D.state device.old).size }
     requires puts { ArePuts (puts_of puts.now) }
     requires root { FitsRoot root.now }
     requires layout { IsLayout layout }
     requires few { IsFew (created (puts_of puts.now) root.now layout) }
     ensures kept { IfOk result
-        (λ plan. KeepsLayout (D.state device.new).size plan.superblock plan.entries.items plan.root.items) }
-    ensures ready { IfOk result (λ plan. D.keeps_word device.new
-        → IsReady (D.state device.new) plan.superblock plan.entries.items plan.root.items) }
-    ensures content { IfOk result (λ plan. D.keeps_word device.new
-        → content_from (D.state device.new).reads plan.superblock plan.entries.items plan.root.items
+        (λ staged. KeepsLayout (D.state device.new).size staged.superblock staged.entries.items staged.root.items) }
+    ensures ready { IfOk result (λ staged. D.keeps_word device.new
+        → IsReady (D.state device.new) staged.superblock staged.entries.items staged.root.items) }
+    ensures content { IfOk result (λ staged. D.keeps_word device.new
+        → content_from (D.state device.new).reads staged.superblock staged.entries.items staged.root.items
         ≡ created (puts_of puts.now) root.now layout) }
     ensures failures { CountsFault result (D.failed device.old) (D.failed device.new) }
     ensures leaves { Each (disk D.Sectors device.old) IsBlank
@@ -70,7 +70,7 @@ fn publish_first<D: Sectors>(
     puts: &[(u32, &[u8])],
     root: &[u8],
     layout: u32,
-) -> Result<CommitPlan, Fault>
+) -> Result<Staged, Fault>
     requires least { 64 ≤ (D.state device.old).size }
     requires puts { ArePuts (puts_of puts.now) }
     requires root { FitsRoot root.now }
@@ -81,11 +81,11 @@ fn publish_first<D: Sectors>(
     ensures size { (D.state device.new).size ≡ (D.state device.old).size }
     ensures word { D.keeps_word device.new → D.keeps_word device.old }
     ensures kept { IfOk result
-        (λ plan. KeepsLayout (D.state device.new).size plan.superblock plan.entries.items plan.root.items) }
-    ensures ready { IfOk result (λ plan. D.keeps_word device.new
-        → IsReady (D.state device.new) plan.superblock plan.entries.items plan.root.items) }
-    ensures content { IfOk result (λ plan. D.keeps_word device.new
-        → content_from (D.state device.new).reads plan.superblock plan.entries.items plan.root.items
+        (λ staged. KeepsLayout (D.state device.new).size staged.superblock staged.entries.items staged.root.items) }
+    ensures ready { IfOk result (λ staged. D.keeps_word device.new
+        → IsReady (D.state device.new) staged.superblock staged.entries.items staged.root.items) }
+    ensures content { IfOk result (λ staged. D.keeps_word device.new
+        → content_from (D.state device.new).reads staged.superblock staged.entries.items staged.root.items
         ≡ created (puts_of puts.now) root.now layout) }
     ensures failures { CountsFault result (D.failed device.old) (D.failed device.new) }
     ensures moments { (device.new ≡ device.old)
@@ -97,9 +97,9 @@ fn publish_first<D: Sectors>(
         → LacksPlaces (D.state device.old).size [] (sectors_asked_for [] (puts_of puts.now) root.now)) }
     ensures causes { IfErr result (λ fault. (fault ≡ Fault.Device) ⊎ ((fault ≡ Fault.Memory) ⊎ (fault ≡ Fault.Full))) }
 {
-    let plan = first_plan(alloc, device.count(), puts, root, layout)?;
-    match publish(device, puts, &plan) {
-        Ok(()) => Ok(plan),
+    let staged = stage_first(alloc, device.count(), puts, root, layout)?;
+    match publish(device, puts, &staged) {
+        Ok(()) => Ok(staged),
         Err(_) => Err(Fault::Device),
     }
 }

@@ -1,5 +1,5 @@
 // Whether the extents of a catalogue keep the rules of the layout.
-ghost use Rattle.std.specs.Prelude.{◌≡◌, ◌⊎◌, ◌≤◌, ℕ, All, IfErr, IfOk, OnOk};
+ghost use Rattle.std.specs.Prelude.{◌≡◌, ◌⊎◌, ◌≤◌, All, IfErr, IfOk, OnOk};
 ghost use Rattle.cube_model.specs.declared.fault.Fault.{Fault};
 ghost use Rattle.extents.specs.Extents.{AreLaidOut};
 ghost use Rattle.superblock.specs.Superblock.{IsProperSuperblock};

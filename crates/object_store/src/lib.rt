@@ -9,10 +9,10 @@ mod find;
 pub mod laws;
 mod layout;
 mod place;
-mod plan;
 mod publish;
 mod read;
 mod source;
+mod staged;
 mod store;
 
 pub use store::Store;

@@ -1,12 +1,12 @@
 // Places for the puts of a commit.
-ghost use Rattle.std.specs.Prelude.{◌≡◌, ◌^◌, ◌<◌, ℕ, length, IfErr, IfOk};
+ghost use Rattle.std.specs.Prelude.{◌≡◌, ◌^◌, ◌<◌, length, IfErr, IfOk};
 ghost use Rattle.cube_model.specs.declared.fault.Fault.{Fault};
 ghost use Rattle.extents.specs.declared.extent.Extent.{Extent};
 ghost use Rattle.extents.specs.Extents.{AreLaidOut};
 ghost use Rattle.extents.specs.Runs.{IsFreeOutside};
 ghost use Rattle.object_store.specs.Commit.{ArePuts, puts_of};
 ghost use Rattle.object_store.specs.Room.{FitsFail, LacksPlaces, lengths_of};
-ghost use Rattle.object_store.specs.Planning.{ArePlaced, ArePlacedOutside, LacksMemoryOr};
+ghost use Rattle.object_store.specs.Placing.{ArePlaced, ArePlacedOutside, LacksMemoryOr};
 
 use crate::catalogue::Entry;
 use cube_model::Fault;

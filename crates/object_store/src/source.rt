@@ -1,5 +1,4 @@
 // A store as a source of its objects.
-ghost use Rattle.std.specs.Prelude.{◌≡◌};
 ghost use Rattle.object_store.specs.Content.{bytes_of};
 
 use crate::store::Store;

@@ -9,7 +9,7 @@ ghost use Rattle.wire.specs.Parts.{Gives};
 ghost use Rattle.object_store.specs.Content.{bytes_of};
 ghost use Rattle.object_store.specs.Commit.{ArePuts, IsFew, IsLayout, FitsRoot, committed, created, puts_of, find_by};
 ghost use Rattle.object_store.specs.Ready.{KeepsLayout, IsReady};
-ghost use Rattle.object_store.specs.Publish.{IsPlanOver, IsSomePlanOver};
+ghost use Rattle.object_store.specs.Publish.{IsStagedOver, IsSomeStagedOver};
 ghost use Rattle.object_store.specs.Room.{LacksRoom, empty_room};
 ghost use Rattle.object_store.specs.Disk.{disk, IsBlank, AllShow, Leaves, LeavesOrNone, Each, OnlyImagesOf, IsShown};
 ghost use Rattle.object_store.specs.Disk.{MayShowNothing, HasOneImage};
@@ -20,9 +20,9 @@ use crate::catalogue::Entry;
 use crate::create::create;
 use crate::entries::find as find_entry;
 use crate::find::find;
-use crate::plan::{CommitPlan, next_plan};
 use crate::publish::publish;
 use crate::read::{push_sectors, read_range};
+use crate::staged::{Staged, stage_next};
 use cube_model::Fault;
 use sector_device::Sectors;
 use std::alloc::Global;
@@ -117,11 +117,11 @@ impl<D: Sectors> Store<D> {
             return Err((Fault::DeviceSize, device));
         }
         match create(alloc, &mut device, puts, root, layout) {
-            Ok(plan) => Ok(Store {
+            Ok(staged) => Ok(Store {
                 device,
-                superblock: plan.superblock,
-                entries: plan.entries,
-                root: plan.root,
+                superblock: staged.superblock,
+                entries: staged.entries,
+                root: staged.root,
                 failed: false,
             }),
             Err(fault) => Err((fault, device)),
@@ -402,25 +402,25 @@ impl<D: Sectors> Store<D> {
             Refuses (content_of D.Sectors self.old) (room_of self.old) (puts_of puts.now) drops.now root.now fault) }
         ensures readable { IfErr result (λ fault. is_of_layout fault ≡ false) }
     {
-        let plan = self.plan(alloc, puts, drops, root, layout)?;
-        self.put_plan(puts, plan)
+        let staged = self.stage(alloc, puts, drops, root, layout)?;
+        self.put_staged(puts, staged)
     }
 
-    // The plan of a commit. Nothing is written yet.
-    fn plan(
+    // Stages a commit. Nothing is written yet.
+    fn stage(
         &self,
         alloc: Global,
         puts: &[(u32, &[u8])],
         drops: &[u32],
         root: &[u8],
         layout: u32,
-    ) -> Result<CommitPlan, Fault>
+    ) -> Result<Staged, Fault>
         requires puts { ArePuts (puts_of puts.now) }
         requires root { FitsRoot root.now }
         requires layout { IsLayout layout }
         requires few { IsFew (committed (puts_of puts.now) drops.now root.now layout (content_of D.Sectors self.now)) }
         ensures ok { IfOk result
-            (IsPlanOver self.now.superblock self.now.entries.items (puts_of puts.now) drops.now root.now layout) }
+            (IsStagedOver self.now.superblock self.now.entries.items (puts_of puts.now) drops.now root.now layout) }
         ensures fine { OnOk result (has_failed self.now ≡ false) }
         ensures failed { IsErrOf result Failed ↔ (has_failed self.now ≡ true) }
         ensures not_device { IsErrOf result Device → ⊥ }
@@ -434,7 +434,7 @@ impl<D: Sectors> Store<D> {
         if self.superblock.generation == u64::MAX {
             return Err(Fault::Worn);
         }
-        next_plan(
+        stage_next(
             alloc,
             &self.superblock,
             &self.entries,
@@ -445,17 +445,17 @@ impl<D: Sectors> Store<D> {
         )
     }
 
-    // Writes what a plan names, and takes the plan over. Where the device fails, the store has failed.
-    fn put_plan(&mut self, puts: &[(u32, &[u8])], plan: CommitPlan) -> Result<(), Fault>
+    // Writes what is staged, and makes it the content. Where the device fails, the store has failed.
+    fn put_staged(&mut self, puts: &[(u32, &[u8])], staged: Staged) -> Result<(), Fault>
         requires fine { has_failed self.old ≡ false }
-        requires planned { IsSomePlanOver self.old.superblock self.old.entries.items (puts_of puts.now) plan }
+        requires is_staged { IsSomeStagedOver self.old.superblock self.old.entries.items (puts_of puts.now) staged }
         ensures leaves { (drops root : List ℕ) (layout : ℕ)
-            → IsPlanOver self.old.superblock self.old.entries.items (puts_of puts.now) drops root layout plan
+            → IsStagedOver self.old.superblock self.old.entries.items (puts_of puts.now) drops root layout staged
             → Leaves (disk_of D.Sectors self.old) (disk_of D.Sectors self.new)
             (IsOneOf (content_of D.Sectors self.old)
             (committed (puts_of puts.now) drops root layout (content_of D.Sectors self.old))) }
         ensures ok { OnOk result ((drops root : List ℕ) (layout : ℕ)
-            → IsPlanOver self.old.superblock self.old.entries.items (puts_of puts.now) drops root layout plan
+            → IsStagedOver self.old.superblock self.old.entries.items (puts_of puts.now) drops root layout staged
             → (disk_of D.Sectors self.new).keeps_word
             → content_of D.Sectors self.new ≡ committed (puts_of puts.now) drops root layout
             (content_of D.Sectors self.old)) }
@@ -464,11 +464,11 @@ impl<D: Sectors> Store<D> {
         ensures device { OnErr result (Breaks D.Sectors self.old self.new) }
         ensures cause { IfErr result (λ fault. fault ≡ Device) }
     {
-        match publish(&mut self.device, puts, &plan) {
+        match publish(&mut self.device, puts, &staged) {
             Ok(()) => {
-                self.superblock = plan.superblock;
-                self.entries = plan.entries;
-                self.root = plan.root;
+                self.superblock = staged.superblock;
+                self.entries = staged.entries;
+                self.root = staged.root;
                 Ok(())
             }
             Err(_) => {

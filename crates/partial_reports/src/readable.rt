@@ -4,7 +4,7 @@ ghost use Rattle.std.specs.Bool.{OnFalse, OnTrue};
 ghost use Rattle.std.specs.List.{AllByRecursion, list_all};
 ghost use Rattle.cube_model.specs.Ascending.{IsAscending};
 ghost use Rattle.cube_model.specs.Orders.{answer_cmp};
-ghost use Rattle.partial_reports.specs.Readable.{IsPlainMember, IsReadableLine, IsWholeNumber};
+ghost use Rattle.partial_reports.specs.Readable.{IsReadableLine, IsWholeNumber};
 ghost use Rattle.partial_reports.specs.Members.{is_plain_member};
 
 use crate::members::is_plain_text;

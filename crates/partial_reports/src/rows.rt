@@ -1,5 +1,5 @@
 //! The rows of a report, as they are spelled.
-ghost use Rattle.std.specs.Prelude.{◌≡◌, ◌++◌, ◌↔◌, ℕ, List, IfErr, IfSome, IsOk, IsSomeAnd, OnOk, length};
+ghost use Rattle.std.specs.Prelude.{◌≡◌, ◌++◌, ◌↔◌, ℕ, List, IfErr, IfSome, IsOk, IsSomeAnd, OnOk};
 ghost use Rattle.ssb_reports.specs.Report.{count_text, row_text};
 
 use cube_model::Fault;

@@ -1,5 +1,5 @@
 //! Lines of partial answers while they are merged.
-ghost use Rattle.std.specs.Prelude.{◌≡◌, map, IfErr, IfOk};
+ghost use Rattle.std.specs.Prelude.{◌≡◌, map, IfOk};
 ghost use Rattle.cube_model.specs.declared.answer.Member.{Member};
 ghost use Rattle.cube_model.specs.declared.answer.Value.TheVariants.{Whole};
 ghost use Rattle.partial_reports.specs.Wide.{narrow_line, narrow_lines};

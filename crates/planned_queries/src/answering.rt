@@ -6,7 +6,7 @@ ghost use Rattle.cube_model.specs.Answers.{answer};
 ghost use Rattle.cube_query.specs.Groups.{Begins, IsOver, RepresentsRows};
 ghost use Rattle.object_store.specs.Store.{content_of, device_of, has_failed};
 ghost use Rattle.warehouse_objects.specs.Warehouse.{Warehouse};
-ghost use Rattle.warehouse_objects.specs.Reads.{ReadsOnly};
+ghost use Rattle.warehouse_objects.specs.Reads.{HoldsNoWarehouse, ReadsOnly};
 ghost use Rattle.warehouse_objects.specs.Represents.{AreItsMembers, Represents, root_of};
 ghost use Rattle.planner.specs.declared.price.Plan.{Plan};
 ghost use Rattle.planned_queries.specs.Planned.{IsPlanOf, mark_of};
@@ -45,9 +45,8 @@ pub fn groups_by_plan<D: Sectors>(
         → Represents (content_of D.Sectors store.old) w
         → root.now ≡ root_of w → AreItsMembers w dims.now.value modes.now
         → found ≡ answer query.now dims.now.value (all_rows (take as_of w.batches))) }
-    ensures refused { IsErrOf result BadLayout → D.keeps_word (device_of store.new) → (w : Warehouse)
-        → Represents (content_of D.Sectors store.old) w
-        → root.now ≡ root_of w → AreItsMembers w dims.now.value modes.now → ⊥ }
+    ensures refused { IsErrOf result BadLayout
+        → HoldsNoWarehouse D.Sectors store.old store.new root.now dims.now.value modes.now }
 
     // The content stays, at each moment.
     ensures reads { ReadsOnly D.Sectors store.old store.new result }
@@ -80,9 +79,8 @@ fn fold_by_plan<D: Sectors>(
         → RepresentsRows dims.now fold.new (all_rows (take as_of w.batches))) }
     ensures over { IsOver dims.now fold.new }
     ensures query { fold.new.query ≡ query.now }
-    ensures refused { IsErrOf result BadLayout → D.keeps_word (device_of store.new) → (w : Warehouse)
-        → Represents (content_of D.Sectors store.old) w
-        → root.now ≡ root_of w → AreItsMembers w dims.now modes.now → ⊥ }
+    ensures refused { IsErrOf result BadLayout
+        → HoldsNoWarehouse D.Sectors store.old store.new root.now dims.now modes.now }
     ensures reads { ReadsOnly D.Sectors store.old store.new result }
     ensures causes { IfErr result (λ fault. (fault ≡ Memory) ⊎ ((fault ≡ Device) ⊎ (fault ≡ BadLayout))) }
 {
@@ -114,9 +112,8 @@ pub(crate) fn begin_fold<D: Sectors>(
     ensures in_time { IfOk result (λ done. done ≤ as_of) }
     ensures over { IsOver dims.now fold.new }
     ensures query { fold.new.query ≡ query.now }
-    ensures refused { IsErrOf result BadLayout → D.keeps_word (device_of store.new) → (w : Warehouse)
-        → Represents (content_of D.Sectors store.old) w
-        → root.now ≡ root_of w → AreItsMembers w dims.now modes.now → ⊥ }
+    ensures refused { IsErrOf result BadLayout
+        → HoldsNoWarehouse D.Sectors store.old store.new root.now dims.now modes.now }
     ensures reads { ReadsOnly D.Sectors store.old store.new result }
     ensures causes { IfErr result (λ fault. (fault ≡ Memory) ⊎ ((fault ≡ Device) ⊎ (fault ≡ BadLayout))) }
 {

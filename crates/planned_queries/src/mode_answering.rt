@@ -5,7 +5,7 @@ ghost use Rattle.cube_model.specs.Admission.{all_rows};
 ghost use Rattle.mode_folds.specs.States.{BeginsByModes, IsOverByModes, RepresentsModeRows};
 ghost use Rattle.object_store.specs.Store.{content_of, device_of, has_failed};
 ghost use Rattle.warehouse_objects.specs.Warehouse.{Warehouse};
-ghost use Rattle.warehouse_objects.specs.Reads.{ReadsOnly};
+ghost use Rattle.warehouse_objects.specs.Reads.{HoldsNoWarehouse, ReadsOnly};
 ghost use Rattle.warehouse_objects.specs.Represents.{AreItsMembers, Represents, root_of};
 ghost use Rattle.planned_queries.specs.ModeAnswers.{moded_answer_as_of};
 ghost use Rattle.planned_queries.specs.ModesPlanned.{looks_at_modes};
@@ -48,9 +48,8 @@ pub fn answer_by_plan<D: Sectors>(
         → Represents (content_of D.Sectors store.old) w
         → root.now ≡ root_of w → AreItsMembers w dims.now.value modes.now
         → found ≡ moded_answer_as_of asked.entry as_of dims.now.value w.batches) }
-    ensures refused { IsErrOf result BadLayout → D.keeps_word (device_of store.new) → (w : Warehouse)
-        → Represents (content_of D.Sectors store.old) w
-        → root.now ≡ root_of w → AreItsMembers w dims.now.value modes.now → ⊥ }
+    ensures refused { IsErrOf result BadLayout
+        → HoldsNoWarehouse D.Sectors store.old store.new root.now dims.now.value modes.now }
 
     // The content stays, at each moment.
     ensures reads { ReadsOnly D.Sectors store.old store.new result }
@@ -87,9 +86,8 @@ fn fold_by_plan<D: Sectors>(
         → RepresentsModeRows dims.now fold.new (all_rows (take as_of w.batches))) }
     ensures over { IsOverByModes dims.now fold.new }
     ensures query { OnOk result (fold.new.asked ≡ asked.now) }
-    ensures refused { IsErrOf result BadLayout → D.keeps_word (device_of store.new) → (w : Warehouse)
-        → Represents (content_of D.Sectors store.old) w
-        → root.now ≡ root_of w → AreItsMembers w dims.now modes.now → ⊥ }
+    ensures refused { IsErrOf result BadLayout
+        → HoldsNoWarehouse D.Sectors store.old store.new root.now dims.now modes.now }
     ensures reads { ReadsOnly D.Sectors store.old store.new result }
     ensures causes { IfErr result (λ fault. (fault ≡ Memory) ⊎ ((fault ≡ Device) ⊎ (fault ≡ BadLayout))) }
 {

@@ -3,7 +3,7 @@ ghost use Rattle.std.specs.Prelude.{◌≡◌, ◌⊎◌, ◌≤◌, false, leng
 ghost use Rattle.cube_model.specs.declared.fault.Fault.TheVariants.{BadLayout, Device, Memory};
 ghost use Rattle.object_store.specs.Store.{content_of, device_of, has_failed};
 ghost use Rattle.warehouse_objects.specs.Warehouse.{Warehouse};
-ghost use Rattle.warehouse_objects.specs.Reads.{ReadsOnly};
+ghost use Rattle.warehouse_objects.specs.Reads.{HoldsNoWarehouse, ReadsOnly};
 ghost use Rattle.warehouse_objects.specs.Represents.{AreItsMembers, Represents, root_of};
 
 use crate::answering::begin_fold;
@@ -79,9 +79,8 @@ impl Running {
             → Represents (content_of D.Sectors store.old) w
             → root.now ≡ root_of w → AreItsMembers w dims.now.value modes.now
             → (s : Started) × Starts w as_of query.now s × IsRunning running s) }
-        ensures refused { IsErrOf result BadLayout → D.keeps_word (device_of store.new) → (w : Warehouse)
-            → Represents (content_of D.Sectors store.old) w
-            → root.now ≡ root_of w → AreItsMembers w dims.now.value modes.now → ⊥ }
+        ensures refused { IsErrOf result BadLayout
+            → HoldsNoWarehouse D.Sectors store.old store.new root.now dims.now.value modes.now }
 
         // The content stays, at each moment.
         ensures reads { ReadsOnly D.Sectors store.old store.new result }

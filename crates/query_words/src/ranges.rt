@@ -1,5 +1,5 @@
 //! The words of ranges.
-ghost use Rattle.std.specs.Prelude.{◌≡◌, ◌≢◌, ℕ, List, length, [], ◌∷◌, IfOk, IfErr};
+ghost use Rattle.std.specs.Prelude.{◌≡◌, ◌≢◌, ℕ, List, length, [], ◌∷◌, IfOk};
 ghost use Rattle.query_words.specs.Mistakes.{IsCountMistake, IsEndMistake, IsRangeMistake};
 ghost use Rattle.query_words.specs.Reading.{Finds, Reads};
 ghost use Rattle.query_words.specs.Spelled.{SpellsAfter, between};

@@ -1,6 +1,5 @@
 //! The words of a query.
-ghost use Rattle.std.specs.Prelude.{◌≡◌, ◌↔◌, [], None, Some, map, IsTrue};
-ghost use Rattle.std.specs.List.{AllZip};
+ghost use Rattle.std.specs.Prelude.{◌≡◌, ◌↔◌, None, Some, map, IsTrue};
 ghost use Rattle.std.specs.Option.{option_map, IsSomeAnd};
 ghost use Rattle.query_words.specs.Mistakes.{IsAskedMistake, IsMistakeOf, IsPartMistake, IsSetMistake};
 ghost use Rattle.query_words.specs.Reading.{Reads};

@@ -1,5 +1,5 @@
 //! The report that is asked for.
-ghost use Rattle.std.specs.Prelude.{◌≡◌, slice_index_or, map, None, IfErr, IfOk, IsOk};
+ghost use Rattle.std.specs.Prelude.{◌≡◌, slice_index_or, None, IfErr, IfOk, IsOk};
 ghost use Rattle.std.specs.List.{list_any};
 ghost use Rattle.cube_model.specs.Proper.{is_average};
 ghost use Rattle.cube_model.specs.declared.measure.Agg.TheVariants.{Count};

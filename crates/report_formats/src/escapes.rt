@@ -1,5 +1,5 @@
 //! Texts in csv, tsv and json.
-ghost use Rattle.std.specs.Prelude.{◌≡◌, ◌↔◌, ◌≤◌, ◌∷◌, ◌++◌, [], true, codes, length, take, IsTrue};
+ghost use Rattle.std.specs.Prelude.{◌≡◌, ◌≤◌, ◌∷◌, ◌++◌, [], true, length, take, IsTrue};
 ghost use Rattle.std.specs.List.{list_any};
 ghost use Rattle.report_formats.specs.Escapes.{byte_text, csv_text, escaped, hex, hex_digit, is_mark, json_byte};
 ghost use Rattle.report_formats.specs.Escapes.{json_text, needs_marks, quoted_byte, tabbed_byte};

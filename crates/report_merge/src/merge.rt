@@ -1,5 +1,5 @@
 //! Partial reports merged.
-ghost use Rattle.std.specs.Prelude.{◌≡◌, ◌++◌, IfErr, IfNone, IfOk, IfSome, OnErr, OnOk};
+ghost use Rattle.std.specs.Prelude.{◌≡◌, ◌++◌, IfErr, IfNone, IfOk, IfSome, OnOk};
 ghost use Rattle.partial_reports.specs.Finishing.{CanBeFinished, FinishRefuses};
 ghost use Rattle.partial_reports.specs.Parts.{partial_query};
 ghost use Rattle.partial_reports.specs.Wide.{narrow_lines};

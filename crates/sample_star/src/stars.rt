@@ -1,5 +1,5 @@
 //! Dimension rows, as constants can hold them.
-ghost use Rattle.std.specs.Prelude.{◌≡◌, ◌≤◌, IfOk, length};
+ghost use Rattle.std.specs.Prelude.{◌≤◌, IfOk, length};
 ghost use Rattle.cube_model.specs.Limits.{longest_text};
 ghost use Rattle.cube_model.specs.Validity.{RowsHaveShortTexts, HaveShortTexts, HasShortTexts, customer_rules};
 ghost use Rattle.cube_model.specs.Validity.{supplier_rules};

@@ -1,5 +1,5 @@
 //! A writer that takes some bytes, and then fails.
-ghost use Rattle.std.specs.Prelude.{◌≡◌, [], vec_len};
+ghost use Rattle.std.specs.Prelude.{◌≡◌, []};
 
 use std::alloc::Global;
 use std::io::{self, Write};

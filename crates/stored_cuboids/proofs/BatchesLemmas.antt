@@ -24,7 +24,7 @@ use Rattle.cube_model.specs.ShipModes.{modes_in}
 use Rattle.dictionary.specs.Dictionary.{firsts}
 use Rattle.dictionary.specs.Columns.{place_of}
 use Rattle.dictionary.proofs.CallerLemmas.{bytes_eq-refl, list_any_here, list_any-firsts, place_within}
-use Rattle.group_plan.specs.Numbers.{IsKnown}
+use Rattle.group_numbers.specs.Numbers.{IsKnown}
 use Rattle.cuboid_upkeep.specs.Codes.{IsMode}
 use Rattle.cuboid_upkeep.specs.Grouping.{HasMembers, PassType, RepresentRows}
 use Rattle.cuboid_upkeep.specs.Lawful.{MoreRowsHaveNoFewerCells, RowsHaveCells, RowsInRangeFit}

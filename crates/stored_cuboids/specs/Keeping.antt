@@ -1,6 +1,7 @@
 -- Keeping the stored cuboids of a warehouse up with its batches. Our own.
 use Rattle.std.specs.Prelude.{◌≡◌, ◌⊎◌, ◌≤◌, ℕ, false, Option, Some, None, List, [], ◌∷◌, take, All}
 use Rattle.sector_device.specs.declared.device.Sectors.{Ghosts}
+use Rattle.cube_model.specs.declared.rows.DimRows.{DimRows}
 use Rattle.cube_model.specs.Admission.{all_rows}
 use Rattle.object_store.specs.Store as stores
 use Rattle.object_store.specs.declared.store.Store.{Store}
@@ -9,6 +10,7 @@ use Rattle.lattice.specs.Views.{index_of}
 use Rattle.cuboid_upkeep.specs.Steps.{HaveTooMany}
 use Rattle.warehouse_root.specs.Root.{PlainRoot}
 use Rattle.warehouse_objects.specs.Facts.{facts_in}
+use Rattle.warehouse_objects.specs.Loaded.{IsLoaded}
 use Rattle.warehouse_objects.specs.Warehouse.{Cuboid, Warehouse, cuboid_at, ship_modes_of}
 use Rattle.warehouse_objects.specs.Represents.{Represents, root_of}
 
@@ -17,6 +19,12 @@ pub record StoreAt {D : Type 0} (g : Ghosts D) (store : Store D g) (root : Plain
   pub fine : stores.has_failed store ≡ false
   pub represents : (stores.disk_of g store).keeps_word → Represents (stores.content_of g store) w
   pub root_is : (stores.disk_of g store).keeps_word → root_of w ≡ root
+
+-- what was loaded of the content of a store, with its root, is still loaded of it, with the root of now
+abbrev pub StaysLoaded : {D : Type 0} (g : Ghosts D) → (old new : Store D g) → (before now : PlainRoot) → Type 0
+StaysLoaded g old new before now = stores.has_failed new ≡ false → g.keeps_word (stores.device_of new)
+    → (rows : DimRows) (modes : List (List ℕ)) → IsLoaded (stores.content_of g old) rows modes before
+    → IsLoaded (stores.content_of g new) rows modes now
 
 -- the same views, and no mark is less
 abbrev pub AreKeptOn : List Cuboid → List Cuboid → Type 0

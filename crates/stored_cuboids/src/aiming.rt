@@ -1,15 +1,13 @@
 //! The commit that sets the target of the stored cuboids.
-ghost use Rattle.std.specs.Prelude.{◌≡◌, ◌≢◌, ◌⊎◌, ◌+◌, [], false, IfErr, IsErrOf, OnErr, OnOk, List, ℕ};
+ghost use Rattle.std.specs.Prelude.{◌≡◌, ◌≢◌, ◌⊎◌, ◌+◌, [], false, IfErr, IsErrOf, OnErr, OnOk};
 ghost use Rattle.cube_model.specs.declared.fault.Fault.TheVariants.{Device, Failed};
-ghost use Rattle.cube_model.specs.declared.rows.DimRows.{DimRows};
 ghost use Rattle.object_store.specs.Disk.{Leaves};
 ghost use Rattle.object_store.specs.Store.{Breaks, IsAsBefore, Refuses, content_of, device_of, disk_of, has_failed};
 ghost use Rattle.object_store.specs.Store.{room_of};
 ghost use Rattle.warehouse_root.specs.Root as roots;
-ghost use Rattle.warehouse_objects.specs.Loaded.{IsLoaded};
 ghost use Rattle.warehouse_objects.specs.Represents.{Represents, root_of};
 ghost use Rattle.warehouse_objects.specs.Warehouse.{Warehouse, aimed};
-ghost use Rattle.stored_cuboids.specs.Keeping.{StoreAt};
+ghost use Rattle.stored_cuboids.specs.Keeping.{StaysLoaded, StoreAt};
 
 use crate::replacing::replace_root;
 use cube_model::Fault;
@@ -52,10 +50,7 @@ pub fn aim<D: Sectors>(alloc: Global, store: &mut Store<D>, root: &mut Root) -> 
     ensures device { IsErrOf result Device → Breaks D.Sectors store.old store.new }
 
     // Also after an error.
-    ensures loaded { has_failed store.new ≡ false → D.keeps_word (device_of store.new)
-        → (rows : DimRows) (modes : List (List ℕ))
-        → IsLoaded (content_of D.Sectors store.old) rows modes root.old
-        → IsLoaded (content_of D.Sectors store.new) rows modes root.new }
+    ensures loaded { StaysLoaded D.Sectors store.old store.new root.old root.new }
     ensures word { D.keeps_word (device_of store.new) → D.keeps_word (device_of store.old) }
 {
     let next = match root.with_target(alloc, root.batches().len() as u32) {

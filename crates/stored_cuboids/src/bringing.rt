@@ -13,7 +13,7 @@ ghost use Rattle.warehouse_root.specs.Root.{IsProperCuboid, IsRoot};
 ghost use Rattle.warehouse_objects.specs.Loaded.{IsLoaded};
 ghost use Rattle.warehouse_objects.specs.Represents.{AreItsMembers, Represents};
 ghost use Rattle.warehouse_objects.specs.Warehouse.{Cuboid, Warehouse};
-ghost use Rattle.stored_cuboids.specs.Keeping.{IsCaughtUp, IsReached, StoreAt};
+ghost use Rattle.stored_cuboids.specs.Keeping.{IsCaughtUp, IsReached, StaysLoaded, StoreAt};
 ghost use Rattle.stored_cuboids.specs.Nexts.{EndsBringing, IsBroughtBy, RefusesToBringOn, first_run};
 
 use crate::keeping::{Next, keep_one};
@@ -66,10 +66,7 @@ pub(crate) fn bring_on<D: Sectors>(
     ensures causes { IfErr result EndsBringing }
     ensures failed { IsErrOf result Failed → ⊥ }
     ensures device { IsErrOf result Device → Breaks D.Sectors store.old store.new }
-    ensures loaded { has_failed store.new ≡ false → D.keeps_word (device_of store.new)
-        → (rows : DimRows) (kept : List (List ℕ))
-        → IsLoaded (content_of D.Sectors store.old) rows kept root.old
-        → IsLoaded (content_of D.Sectors store.new) rows kept root.new }
+    ensures loaded { StaysLoaded D.Sectors store.old store.new root.old root.new }
     ensures word { D.keeps_word (device_of store.new) → D.keeps_word (device_of store.old) }
 {
     let (cuboid, view) = cuboid_at(root, place);

@@ -1,14 +1,12 @@
 //! Bringing stored cuboids to their target.
-ghost use Rattle.std.specs.Prelude.{◌≡◌, ◌≢◌, ◌<◌, ◌+◌, ◌-◌, ◌^◌, min, false, true, Some, length, slice_get, IfErr};
-ghost use Rattle.std.specs.Prelude.{IfOk, IsErrOf, List, ℕ};
+ghost use Rattle.std.specs.Prelude.{◌≡◌, ◌≢◌, ◌<◌, ◌+◌, ◌-◌, ◌^◌, min, false, true, IfErr};
+ghost use Rattle.std.specs.Prelude.{IfOk, IsErrOf};
 ghost use Rattle.cube_model.specs.declared.fault.Fault.TheVariants.{BadLayout, Device, Failed, Memory};
-ghost use Rattle.cube_model.specs.declared.rows.DimRows.{DimRows};
 ghost use Rattle.object_store.specs.Disk.{Leaves};
-ghost use Rattle.object_store.specs.Store.{content_of, device_of, disk_of, has_failed};
-ghost use Rattle.warehouse_objects.specs.Loaded.{IsLoaded};
+ghost use Rattle.object_store.specs.Store.{device_of, disk_of, has_failed};
 ghost use Rattle.warehouse_objects.specs.Represents.{AreItsMembers, Represents};
 ghost use Rattle.warehouse_objects.specs.Warehouse.{Warehouse};
-ghost use Rattle.stored_cuboids.specs.Keeping.{IsCaughtUp, IsDone, StoreAt};
+ghost use Rattle.stored_cuboids.specs.Keeping.{IsCaughtUp, IsDone, StaysLoaded, StoreAt};
 ghost use Rattle.stored_cuboids.specs.Nexts.{EndsBringing, RefusesLeast};
 
 use crate::bringing::bring_on;
@@ -64,10 +62,7 @@ pub fn catch_up<D: Sectors>(
         × ((disk_of D.Sectors store.new).failures ≡ min ((disk_of D.Sectors store.old).failures + 1) (2 ^ 64 - 1)) }
 
     // What is kept in memory stays that of the content.
-    ensures loaded { has_failed store.new ≡ false → D.keeps_word (device_of store.new)
-        → (rows : DimRows) (kept : List (List ℕ))
-        → IsLoaded (content_of D.Sectors store.old) rows kept root.old
-        → IsLoaded (content_of D.Sectors store.new) rows kept root.new }
+    ensures loaded { StaysLoaded D.Sectors store.old store.new root.old root.new }
     ensures word { D.keeps_word (device_of store.new) → D.keeps_word (device_of store.old) }
 {
     let count = root.cuboids().len();

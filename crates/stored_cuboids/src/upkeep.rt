@@ -1,13 +1,11 @@
 //! Bringing all stored cuboids to all batches.
-ghost use Rattle.std.specs.Prelude.{◌≡◌, ◌≢◌, ◌↔◌, All, IsTrue, false, length, IfErr, IfOk, IsErrOf, List, ℕ};
+ghost use Rattle.std.specs.Prelude.{◌≡◌, ◌≢◌, ◌↔◌, All, IsTrue, false, IfErr, IfOk, IsErrOf};
 ghost use Rattle.cube_model.specs.declared.fault.Fault.TheVariants.{BadLayout, Device, Failed};
-ghost use Rattle.cube_model.specs.declared.rows.DimRows.{DimRows};
 ghost use Rattle.object_store.specs.Disk.{Leaves};
-ghost use Rattle.object_store.specs.Store.{Breaks, content_of, device_of, disk_of, has_failed};
-ghost use Rattle.warehouse_objects.specs.Loaded.{IsLoaded};
+ghost use Rattle.object_store.specs.Store.{Breaks, device_of, disk_of, has_failed};
 ghost use Rattle.warehouse_objects.specs.Represents.{AreItsMembers, Represents};
 ghost use Rattle.warehouse_objects.specs.Warehouse.{Warehouse};
-ghost use Rattle.stored_cuboids.specs.Keeping.{IsKeptUp, StoreAt};
+ghost use Rattle.stored_cuboids.specs.Keeping.{IsKeptUp, StaysLoaded, StoreAt};
 ghost use Rattle.stored_cuboids.specs.Upkeep.{AreWholeBut, KeepUpRefuses};
 
 use crate::aiming::aim;
@@ -58,10 +56,7 @@ pub fn keep_up<D: Sectors>(
     ensures device { IsErrOf result Device → Breaks D.Sectors store.old store.new }
 
     // What is kept in memory stays that of the content.
-    ensures loaded { has_failed store.new ≡ false → D.keeps_word (device_of store.new)
-        → (rows : DimRows) (kept : List (List ℕ))
-        → IsLoaded (content_of D.Sectors store.old) rows kept root.old
-        → IsLoaded (content_of D.Sectors store.new) rows kept root.new }
+    ensures loaded { StaysLoaded D.Sectors store.old store.new root.old root.new }
     ensures word { D.keeps_word (device_of store.new) → D.keeps_word (device_of store.old) }
 {
     if are_whole(root.cuboids(), root.batches().len() as u32) {

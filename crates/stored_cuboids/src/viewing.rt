@@ -1,18 +1,16 @@
 //! The commit that chooses which cuboids are stored.
-ghost use Rattle.std.specs.Prelude.{◌≡◌, ◌≢◌, ◌⊎◌, ◌≤◌, ◌==◌, ◌+◌, [], false, length, IfErr, IfOk, IsErrOf, OnErr, ℕ};
-ghost use Rattle.std.specs.Prelude.{OnOk, List};
+ghost use Rattle.std.specs.Prelude.{◌≡◌, ◌≢◌, ◌⊎◌, ◌≤◌, ◌==◌, ◌+◌, [], false, length, IfErr, IfOk, IsErrOf, OnErr};
+ghost use Rattle.std.specs.Prelude.{OnOk};
 ghost use Rattle.std.specs.List.{find};
 ghost use Rattle.cube_model.specs.declared.fault.Fault.TheVariants.{Device, Failed, Memory};
-ghost use Rattle.cube_model.specs.declared.rows.DimRows.{DimRows};
 ghost use Rattle.object_store.specs.Disk.{Leaves};
 ghost use Rattle.object_store.specs.Store.{Breaks, IsAsBefore, Refuses, content_of, device_of, disk_of, has_failed};
 ghost use Rattle.object_store.specs.Store.{room_of};
 ghost use Rattle.warehouse_root.specs.Limits.{most_cuboids};
 ghost use Rattle.warehouse_root.specs.Root as roots;
-ghost use Rattle.warehouse_objects.specs.Loaded.{IsLoaded};
 ghost use Rattle.warehouse_objects.specs.Represents.{Represents, root_of, said_below, said_or_new, said_with};
 ghost use Rattle.warehouse_objects.specs.Warehouse.{Warehouse, dropped_ids, is_among, with_views};
-ghost use Rattle.stored_cuboids.specs.Keeping.{StoreAt};
+ghost use Rattle.stored_cuboids.specs.Keeping.{StaysLoaded, StoreAt};
 ghost use Rattle.stored_cuboids.specs.Replacing.{dropped_of};
 
 use crate::replacing::replace_root;
@@ -65,10 +63,7 @@ pub fn set_views<D: Sectors>(
     ensures device { IsErrOf result Device → Breaks D.Sectors store.old store.new }
 
     // Also after an error.
-    ensures loaded { has_failed store.new ≡ false → D.keeps_word (device_of store.new)
-        → (rows : DimRows) (modes : List (List ℕ))
-        → IsLoaded (content_of D.Sectors store.old) rows modes root.old
-        → IsLoaded (content_of D.Sectors store.new) rows modes root.new }
+    ensures loaded { StaysLoaded D.Sectors store.old store.new root.old root.new }
     ensures word { D.keeps_word (device_of store.new) → D.keeps_word (device_of store.old) }
 {
     let drops = match dropped(alloc, root.cuboids(), views) {

@@ -13,7 +13,7 @@ use Rattle.cube_model.specs.declared.rows.LineOrder.{LineOrder}
 use Rattle.cube_model.specs.Attributes.{axis_of, key_on}
 use Rattle.cube_model.specs.Places.{row_count_of, row_index_of}
 use Rattle.dimensions.specs.Shapes.{attr_column}
-use Rattle.group_plan.specs.Numbers.{IsKnownOn}
+use Rattle.group_numbers.specs.Numbers.{IsKnownOn}
 use Rattle.lattice.specs.declared.level.Level.{Level}
 use Rattle.lattice.specs.declared.level.Level.TheVariants as level
 use Rattle.lattice.specs.declared.view.View.{View}

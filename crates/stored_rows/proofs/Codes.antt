@@ -21,7 +21,7 @@ use Rattle.cube_model.specs.Places.{row_count_of, row_index_of, texts_of}
 use Rattle.dictionary.specs.Dictionary.{firsts}
 use Rattle.dictionary.proofs.CallerLemmas.{bytes_eq-refl, list_any-firsts, list_any_here, place_append, place_seen}
 use Rattle.dimensions.specs.Columns.{code_at}
-use Rattle.group_plan.specs.Numbers.{IsKnownOn}
+use Rattle.group_numbers.specs.Numbers.{IsKnownOn}
 use Rattle.dimensions.specs.Added.{joined}
 
 -- ---- places of rows

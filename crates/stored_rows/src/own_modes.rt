@@ -1,5 +1,5 @@
 //! Comparing the ship modes that a store keeps with those of its batches.
-ghost use Rattle.std.specs.Prelude.{◌≡◌, ◌⊎◌, false, true, IfErr, IfOk, IsErrOf, IsTrue, ◌↔◌};
+ghost use Rattle.std.specs.Prelude.{◌≡◌, ◌⊎◌, false, true, IfErr, IfOk};
 ghost use Rattle.cube_model.specs.declared.fault.Fault.TheVariants.{Device, Memory};
 ghost use Rattle.object_store.specs.Store.{content_of, device_of, has_failed};
 ghost use Rattle.warehouse_root.specs.declared.layout.Layout.TheVariants.{Second};

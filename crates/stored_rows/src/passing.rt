@@ -1,11 +1,11 @@
 //! Passing over the columns of texts of a stored batch. Their dictionaries are read, a sector at a time, and of their
 //! codes only those that are in the last of these sectors.
-ghost use Rattle.std.specs.Prelude.{◌≡◌, ◌⊎◌, ◌+◌, ◌-◌, ◌<◌, ◌≤◌, ◌^◌, ℕ, List, Some, drop, length, IfOk, IfSome};
-ghost use Rattle.std.specs.Prelude.{IsErrOf, IsNone, IsSomeAnd, MatchResult};
+ghost use Rattle.std.specs.Prelude.{◌≡◌, ◌+◌, ◌-◌, ◌<◌, ◌≤◌, ◌^◌, ℕ, List, Some, drop, length, IfOk, IfSome};
+ghost use Rattle.std.specs.Prelude.{IsErrOf, IsNone, IsSomeAnd};
 ghost use Rattle.cube_model.specs.declared.fault.Fault.TheVariants.{BadLayout};
 ghost use Rattle.cube_model.specs.declared.rows.LineOrder.{LineOrder};
 ghost use Rattle.cube_model.specs.Limits.{most_batch_rows};
-ghost use Rattle.wire.specs.Runs.{HasRead, IsRefused};
+ghost use Rattle.wire.specs.Runs.{ReadsSourceOr};
 ghost use Rattle.column_segment.specs.Columns.{text_columns};
 ghost use Rattle.column_segment.specs.Reading.{BeginsWithNoColumn};
 ghost use Rattle.stored_rows.specs.Passing.{BeginsWithDictionary, BeginsWithTexts, LeadsToLast, PassesColumn};
@@ -39,9 +39,7 @@ pub(crate) fn after_columns<S: Source>(
     ensures refused { IsErrOf result BadLayout → S.keeps_word source.new → (text : List ℕ)
         → S.texts source.old id ≡ Some text
         → (others : List LineOrder) → ¬ SpellColumns text_columns rows (drop from text) others }
-    ensures run { MatchResult result (λ _. HasRead S.Source source.old source.new)
-        (λ fault. ((fault ≡ BadLayout) × HasRead S.Source source.old source.new)
-        ⊎ IsRefused S.Source fault source.old source.new) }
+    ensures run { ReadsSourceOr S.Source (λ fault. fault ≡ BadLayout) source.old source.new result }
 {
     let mut at = from;
     for _ in 0..OTHER_COLUMNS {
@@ -57,9 +55,7 @@ fn after_column<S: Source>(source: &mut S, id: u32, at: usize, rows: usize) -> R
         → PassesColumn rows (drop at text) (drop end text)) }
     ensures refused { IsErrOf result BadLayout → S.keeps_word source.new → (text : List ℕ)
         → S.texts source.old id ≡ Some text → BeginsWithNoColumn rows (drop at text) }
-    ensures run { MatchResult result (λ _. HasRead S.Source source.old source.new)
-        (λ fault. ((fault ≡ BadLayout) × HasRead S.Source source.old source.new)
-        ⊎ IsRefused S.Source fault source.old source.new) }
+    ensures run { ReadsSourceOr S.Source (λ fault. fault ≡ BadLayout) source.old source.new result }
 {
     let codes = after_dictionary(source, id, at, rows)?;
     match place_after(source, id, codes, 2 * rows) {
@@ -108,9 +104,7 @@ fn after_dictionary<S: Source>(
         → S.texts source.old id ≡ Some text → BeginsWithDictionary most (drop at text) rest → drop end text ≡ rest) }
     ensures refused { IsErrOf result BadLayout → S.keeps_word source.new → (text rest : List ℕ)
         → S.texts source.old id ≡ Some text → BeginsWithDictionary most (drop at text) rest → ⊥ }
-    ensures run { MatchResult result (λ _. HasRead S.Source source.old source.new)
-        (λ fault. ((fault ≡ BadLayout) × HasRead S.Source source.old source.new)
-        ⊎ IsRefused S.Source fault source.old source.new) }
+    ensures run { ReadsSourceOr S.Source (λ fault. fault ≡ BadLayout) source.old source.new result }
 {
     let (count, from) = count_at(source, id, at, most)?;
     after_texts(source, id, from, count)
@@ -130,9 +124,7 @@ fn count_at<S: Source>(
         → BeginsWithTexts counted.0 (drop counted.1 text) rest) }
     ensures refused { IsErrOf result BadLayout → S.keeps_word source.new → (text rest : List ℕ)
         → S.texts source.old id ≡ Some text → BeginsWithDictionary most (drop at text) rest → ⊥ }
-    ensures run { MatchResult result (λ _. HasRead S.Source source.old source.new)
-        (λ fault. ((fault ≡ BadLayout) × HasRead S.Source source.old source.new)
-        ⊎ IsRefused S.Source fault source.old source.new) }
+    ensures run { ReadsSourceOr S.Source (λ fault. fault ≡ BadLayout) source.old source.new result }
 {
     let Some(from) = place_after(source, id, at, COUNT_BYTES) else {
         return Err(Fault::BadLayout);
@@ -152,9 +144,7 @@ fn after_texts<S: Source>(source: &mut S, id: u32, from: usize, count: u32) -> R
         → S.texts source.old id ≡ Some text → BeginsWithTexts count (drop from text) rest → drop end text ≡ rest) }
     ensures refused { IsErrOf result BadLayout → S.keeps_word source.new → (text rest : List ℕ)
         → S.texts source.old id ≡ Some text → BeginsWithTexts count (drop from text) rest → ⊥ }
-    ensures run { MatchResult result (λ _. HasRead S.Source source.old source.new)
-        (λ fault. ((fault ≡ BadLayout) × HasRead S.Source source.old source.new)
-        ⊎ IsRefused S.Source fault source.old source.new) }
+    ensures run { ReadsSourceOr S.Source (λ fault. fault ≡ BadLayout) source.old source.new result }
 {
     let mut at = from;
     let mut left = count;
@@ -176,9 +166,7 @@ fn pass_window<S: Source>(source: &mut S, id: u32, at: usize, left: u32) -> Resu
         → BeginsWithTexts (left - passed.texts) (drop (at + passed.bytes) text) rest) }
     ensures refused { IsErrOf result BadLayout → S.keeps_word source.new → (text rest : List ℕ)
         → S.texts source.old id ≡ Some text → BeginsWithTexts left (drop at text) rest → ⊥ }
-    ensures run { MatchResult result (λ _. HasRead S.Source source.old source.new)
-        (λ fault. ((fault ≡ BadLayout) × HasRead S.Source source.old source.new)
-        ⊎ IsRefused S.Source fault source.old source.new) }
+    ensures run { ReadsSourceOr S.Source (λ fault. fault ≡ BadLayout) source.old source.new result }
 {
     let Some(more) = left_after(source, id, at) else {
         return Err(Fault::BadLayout);

@@ -1,11 +1,11 @@
 //! Reading the ship modes of a stored batch, and none of its columns of numbers.
 ghost use Rattle.std.specs.Prelude.{◌≡◌, ◌⊎◌, ◌↔◌, ◌+◌, ◌*◌, ◌≤◌, ◌<◌, ℕ, List, Some, drop, false, length, IfErr, IfOk};
-ghost use Rattle.std.specs.Prelude.{IsErrOf, IsSomeAnd, IsTrue, MatchResult};
+ghost use Rattle.std.specs.Prelude.{IsErrOf, IsSomeAnd, IsTrue};
 ghost use Rattle.cube_model.specs.declared.fault.Fault.TheVariants.{BadLayout, Device, Memory};
 ghost use Rattle.cube_model.specs.Limits.{most_batch_rows, most_batches};
 ghost use Rattle.object_store.specs.Content.{bytes_of};
 ghost use Rattle.object_store.specs.Store.{content_of, device_of, has_failed};
-ghost use Rattle.wire.specs.Runs.{HasRead, IsRefused};
+ghost use Rattle.wire.specs.Runs.{ReadsSource, ReadsSourceOr};
 ghost use Rattle.column_segment.specs.Projected.{HasColumns, HoldsNoneOf};
 ghost use Rattle.column_segment.specs.Reading.{HasHeader};
 ghost use Rattle.column_segment.specs.Segment.{segment_header};
@@ -71,9 +71,8 @@ fn read_last_column<S: Source>(
         (λ text. HasColumns text number rows × LeadsToLast rows (drop (12 + 63 * rows) text) bytes.items)) }
     ensures refused { IsErrOf result BadLayout → S.keeps_word source.new
         → HoldsNoneOf (S.texts source.old id) number rows }
-    ensures run { MatchResult result (λ _. HasRead S.Source source.old source.new)
-        (λ fault. (((fault ≡ Memory) ⊎ (fault ≡ BadLayout)) × HasRead S.Source source.old source.new)
-        ⊎ IsRefused S.Source fault source.old source.new) }
+    ensures run { ReadsSourceOr S.Source (λ fault. (fault ≡ Memory) ⊎ (fault ≡ BadLayout)) source.old source.new
+        result }
 {
     if rows > MOST_BATCH_ROWS {
         return Err(Fault::BadLayout);
@@ -91,9 +90,8 @@ fn read_rest<S: Source>(alloc: Global, source: &mut S, id: u32, at: usize) -> Re
         (λ text. bytes.items ≡ drop at text)) }
     ensures refused { IsErrOf result BadLayout → S.keeps_word source.new → (text : List ℕ)
         → S.texts source.old id ≡ Some text → length text < at }
-    ensures run { MatchResult result (λ _. HasRead S.Source source.old source.new)
-        (λ fault. (((fault ≡ Memory) ⊎ (fault ≡ BadLayout)) × HasRead S.Source source.old source.new)
-        ⊎ IsRefused S.Source fault source.old source.new) }
+    ensures run { ReadsSourceOr S.Source (λ fault. (fault ≡ Memory) ⊎ (fault ≡ BadLayout)) source.old source.new
+        result }
 {
     let Some(count) = left_after(source, id, at) else {
         return Err(Fault::BadLayout);
@@ -109,8 +107,7 @@ fn has_columns<S: Source>(source: &mut S, id: u32, number: u32, rows: usize) -> 
     requires few { rows ≤ most_batch_rows }
     ensures same { IfOk result (λ yes. S.keeps_word source.new → (text : List ℕ) → S.texts source.old id ≡ Some text
         → IsTrue yes ↔ HasColumns text number rows) }
-    ensures run { MatchResult result (λ _. HasRead S.Source source.old source.new)
-        (λ fault. IsRefused S.Source fault source.old source.new) }
+    ensures run { ReadsSource S.Source source.old source.new result }
 {
     match left_after(source, id, HEADER_BYTES + NUMBER_BYTES * rows) {
         Some(_) => has_header(source, id, number, rows),
@@ -124,8 +121,7 @@ fn has_header<S: Source>(source: &mut S, id: u32, number: u32, rows: usize) -> R
     requires few { rows ≤ most_batch_rows }
     ensures same { IfOk result (λ yes. S.keeps_word source.new → (text : List ℕ) → S.texts source.old id ≡ Some text
         → IsTrue yes ↔ HasHeader text number rows) }
-    ensures run { MatchResult result (λ _. HasRead S.Source source.old source.new)
-        (λ fault. IsRefused S.Source fault source.old source.new) }
+    ensures run { ReadsSource S.Source source.old source.new result }
 {
     let mut header = [0; HEADER_BYTES];
     read_part(source, id, 0, &mut header)?;

@@ -1,7 +1,6 @@
 //! What is wrong with a line for which a table is refused.
 #![tactic(auto)]
 
-mod beginnings;
 mod lines;
 mod quoted;
 mod text_lines;

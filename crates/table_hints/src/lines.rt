@@ -1,10 +1,16 @@
-//! The fields of a line by number.
+//! The fields of a line by place.
+ghost use Rattle.std.specs.Prelude.{◌≡◌, length, option_map, slice_get};
+ghost use Rattle.batch_loader.specs.Fields.{between_bars, without_cr};
+ghost use Rattle.table_hints.specs.Lines.{count_of_fields};
+
 use batch_loader::without_cr;
 
 /// How many fields a line has. A bar after the last one is no further field.
-pub fn field_count(line: &[u8]) -> usize {
+pub fn field_count(line: &[u8]) -> usize
+    ensures { result ≡ count_of_fields (without_cr line.now) }
+{
     let line = without_cr(line);
-    let parts = line.split(|byte| *byte == b'|').count();
+    let parts = part_count(line);
     if line.last() == Some(&b'|') {
         parts.saturating_sub(1)
     } else {
@@ -12,11 +18,16 @@ pub fn field_count(line: &[u8]) -> usize {
     }
 }
 
-/// A field by its number from 1, and no byte where there is none.
-pub fn field(line: &[u8], number: u8) -> &[u8] {
-    let Some(place) = usize::from(number).checked_sub(1) else {
-        return &[];
-    };
-    let mut fields = without_cr(line).split(|byte| *byte == b'|');
-    fields.nth(place).unwrap_or(&[])
+// How many parts there are between the bars of a text.
+fn part_count(text: &[u8]) -> usize
+    ensures { result ≡ length (between_bars text.now) }
+{
+    text.split(|byte| *byte == b'|').count()
+}
+
+/// A field by its place from 0, if the line has one there.
+pub fn field(line: &[u8], place: usize) -> Option<&[u8]>
+    ensures { option_map (λ text. text.now) result ≡ slice_get (between_bars (without_cr line.now)) place }
+{
+    without_cr(line).split(|byte| *byte == b'|').nth(place)
 }

@@ -1,5 +1,4 @@
 //! A line for which a table is refused.
-use crate::beginnings::beginning_hint;
 use crate::lines::{field, field_count};
 use crate::quoted::Quoted;
 use batch_loader::{Column, Table, without_cr};
@@ -17,8 +16,8 @@ pub fn line_hint(
     fault: Fault,
 ) -> Result<Option<String>, Fault> {
     let (at, wrong) = match fault {
-        Fault::FieldCount { line: at } => (at, count_hint(alloc, table, line, at)?),
-        Fault::BadNumber { line: at, field } => (at, number_hint(alloc, table, line, at, field)?),
+        Fault::FieldCount { line: at } => (at, count_hint(alloc, table, line)?),
+        Fault::BadNumber { line: at, field } => (at, number_hint(alloc, table, line, field)?),
         Fault::FieldTooLong {
             place: Place::Line(at),
             field,
@@ -31,7 +30,7 @@ pub fn line_hint(
     Ok(Some(format!(in alloc; "{path} line {at}: {wrong}")?))
 }
 
-fn count_hint(alloc: Global, table: Table, line: &[u8], at: u64) -> Result<Option<String>, Fault> {
+fn count_hint(alloc: Global, table: Table, line: &[u8]) -> Result<Option<String>, Fault> {
     let whole = without_cr(line);
     if whole.is_empty() {
         return Ok(Some(format!(in alloc; "the line is empty")?));
@@ -40,11 +39,10 @@ fn count_hint(alloc: Global, table: Table, line: &[u8], at: u64) -> Result<Optio
         return Ok(Some(format!(in alloc; "the line is blank")?));
     }
     Ok(Some(format!(in alloc;
-        "a {} line has {} fields, and this one {}{}",
+        "a {} line has {} fields, and this one {}",
         table.name(),
         table.columns().len(),
-        field_count(line),
-        first_hint(line, at)
+        field_count(line)
     )?))
 }
 
@@ -52,7 +50,6 @@ fn number_hint(
     alloc: Global,
     table: Table,
     line: &[u8],
-    at: u64,
     number: u8,
 ) -> Result<Option<String>, Fault> {
     let place = usize::from(number).saturating_sub(1);
@@ -62,14 +59,9 @@ fn number_hint(
     ) else {
         return Ok(None);
     };
-    let hint = if number == 1 {
-        first_hint(line, at)
-    } else {
-        ""
-    };
     Ok(Some(format!(in alloc;
-        "{column} is {}, expected an integer from 0 to {limit}{hint}",
-        Quoted(field(line, number))
+        "{column} is {}, expected an integer from 0 to {limit}",
+        Quoted(field(line, place).unwrap_or(&[]))
     )?))
 }
 
@@ -80,19 +72,14 @@ fn length_hint(
     line: &[u8],
     number: u8,
 ) -> Result<Option<String>, Fault> {
-    if number == 0 {
+    let Some(place) = usize::from(number).checked_sub(1) else {
         return Ok(Some(format!(in alloc; "more than {LONGEST_LINE} bytes")?));
-    }
+    };
     let Some(column) = table.column_name(number) else {
         return Ok(None);
     };
-    let length = field(line, number).len();
+    let length = field(line, place).unwrap_or(&[]).len();
     Ok(Some(format!(in alloc;
         "{column} has {length} bytes, and a text has at most {LONGEST_TEXT}"
     )?))
-}
-
-// What the first line of a file says of the file. A later line says nothing of it.
-fn first_hint(line: &[u8], at: u64) -> &'static str {
-    if at == 1 { beginning_hint(line) } else { "" }
 }

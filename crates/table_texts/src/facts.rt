@@ -1,5 +1,5 @@
 //! The table of fact rows.
-ghost use Rattle.std.specs.Prelude.{◌≡◌, ◌++◌, ◌&&◌, map};
+ghost use Rattle.std.specs.Prelude.{◌≡◌, ◌&&◌, map};
 ghost use Rattle.std.specs.List.{list_all};
 ghost use Rattle.ssb_reports.specs.Report.{row_text};
 ghost use Rattle.ssb_reports.specs.Writing.{Writes};

@@ -1,5 +1,5 @@
 //! Cells of the sample star, worked out by hand and counted into folds. The answers were worked out by hand too.
-ghost use Rattle.std.specs.Prelude.{◌≡◌, [], OnOk};
+ghost use Rattle.std.specs.Prelude.{◌≡◌, []};
 ghost use Rattle.cube_query.specs.Groups.{IsOver, RepresentsRows};
 ghost use Rattle.lattice.specs.Determined.{Serves};
 

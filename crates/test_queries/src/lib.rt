@@ -1,5 +1,5 @@
-//! Tests of `group_plan`, `cube_query`, `batch_admission`, `ssb_reports` and `report_formats`: answers that were worked
-//! out by hand, refusals and limits, the check of a batch, and reports in each format.
+//! Tests of `group_numbers`, `cube_query`, `batch_admission`, `ssb_reports` and `report_formats`: answers that were
+//! worked out by hand, refusals and limits, the check of a batch, and reports in each format.
 #![tactic(auto)]
 
 #[cfg(test)]

@@ -9,7 +9,7 @@ use cube_query::Fold;
 use cuboid_cells::{Cells, RunReader, Span};
 use cuboid_upkeep::GrowingCells;
 use dimensions::Dims;
-use group_plan::RowSlice;
+use group_numbers::RowSlice;
 use lattice::View;
 use sample_star::{Asked, Condition, EVERY_ROW, pairs, query, rows_of_pairs};
 use std::alloc::Global;

@@ -1,5 +1,5 @@
 // One object that is put, and what is read of it.
-ghost use Rattle.std.specs.Prelude.{◌≤◌, ◌<◌, length};
+ghost use Rattle.std.specs.Prelude.{◌<◌};
 
 use cube_model::Fault;
 use object_store::Store;

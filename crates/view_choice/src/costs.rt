@@ -4,7 +4,6 @@ ghost use Rattle.std.specs.Prelude.{◌≡◌, ◌<◌, ◌^◌, map, IfOk};
 ghost use Rattle.lattice.specs.Sizes.{size_of};
 ghost use Rattle.view_choice.specs.Costs.{sized, costs_all_rows, saved_by, benefit_among, gain_among, costs_in_all};
 ghost use Rattle.view_choice.specs.Costs.{lowered, IsFirstGreatest};
-ghost use Rattle.view_choice.specs.Cuboids.{most_stored_cells};
 
 use lattice::{Counts, View};
 use std::alloc::{AllocError, Global};

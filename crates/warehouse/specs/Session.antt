@@ -11,7 +11,7 @@ use Rattle.cube_model.specs.declared.rows.LineOrder.{LineOrder}
 use Rattle.cube_model.specs.Proper.{IsProper}
 use Rattle.warehouse_root.specs.Root as roots
 use Rattle.object_store.specs.Content.{Content}
-use Rattle.object_store.specs.Disk.{Disk, AllShow}
+use Rattle.object_store.specs.Disk.{Disk, AllShow, Leaves}
 use Rattle.object_store.specs.Room.{Room}
 use Rattle.object_store.specs.Store as stores
 use Rattle.stored_rows.specs.Added.{widened, widening_puts}
@@ -49,14 +49,26 @@ pub record IsAt {D : Type 0} (g : Ghosts D) (session : Session D g) (w : Warehou
   pub represents : (disk_of g session).keeps_word → Represents (content_of g session) w
   pub all : AllShow (disk_of g session) (λ c. Represents c w)
 
+-- a crash at any point between two sessions leaves a content of which P holds, given the warehouse that the first is at
+abbrev pub MayLeave : {D : Type 0} (g : Ghosts D) → Session D g → Session D g → (Warehouse → Content → Type 0) → Type 0
+MayLeave g old new P = (w : Warehouse) → IsAt g old w → Leaves (disk_of g old) (disk_of g new) (P w)
+
+-- the warehouse is as it was, and a crash at any point between the two leaves it so
+abbrev pub StaysAt : {D : Type 0} (g : Ghosts D) → Session D g → Session D g → Type 0
+StaysAt g old new = (w : Warehouse) → IsAt g old w
+    → IsAt g new w × Leaves (disk_of g old) (disk_of g new) (λ c. Represents c w)
+
+-- a device that keeps its word now has kept it before
+abbrev pub KeptBefore : {D : Type 0} (g : Ghosts D) → Session D g → Session D g → Type 0
+KeptBefore g old new = g.keeps_word (device_of new) → g.keeps_word (device_of old)
+
 -- What a call of the device leaves of a session. `refuses` says with which faults the call was refused.
 pub record CallsDevice {D : Type 0} (g : Ghosts D) (refuses : Fault → Type 0) (old new : Session D g) : Type 0 where
   -- it is refused with Failed exactly where the session has failed before, and then nothing is done
   pub failed : refuses Failed ↔ (has_failed old ≡ true)
   pub unmoved : refuses Failed → new ≡ old
   pub device : refuses Device → Breaks g old new
-  -- a device that keeps its word now has kept it before
-  pub word : g.keeps_word (device_of new) → g.keeps_word (device_of old)
+  pub word : KeptBefore g old new
 
 -- what the store holds is as it was
 abbrev pub KeepsContent : {D : Type 0} (g : Ghosts D) → Session D g → Session D g → Type 0

@@ -13,7 +13,8 @@ ghost use Rattle.warehouse_objects.specs.Facts.{AdmitsRows, number_refusal, rows
 ghost use Rattle.warehouse_objects.specs.Warehouse.{Warehouse};
 ghost use Rattle.warehouse_objects.specs.Represents.{Represents};
 ghost use Rattle.warehouse.specs.Refusing.{is_of_device};
-ghost use Rattle.warehouse.specs.Session.{AddRefuses, Breaks, CallsDevice, IsAt, content_of, device_of, disk_of};
+ghost use Rattle.warehouse.specs.Session.{AddRefuses, Breaks, CallsDevice, IsAt, KeptBefore, MayLeave, StaysAt};
+ghost use Rattle.warehouse.specs.Session.{content_of, device_of, disk_of};
 ghost use Rattle.warehouse.specs.Session.{has_failed};
 ghost use Rattle.warehouse.specs.Session.{CommitsOnce, KeepsContent};
 ghost use Rattle.warehouse.specs.Widening.{IsReadyToWiden, IsWidening, WidenedOrNot};
@@ -36,9 +37,8 @@ impl<D: Sectors> Session<D> {
         requires short { HaveShortTexts rows.now }
 
         // A crash at any point leaves the warehouse as it was, or with these rows if they may be added.
-        ensures leaves { (w : Warehouse) → IsAt D.Sectors self.old w
-            → Leaves (disk_of D.Sectors self.old) (disk_of D.Sectors self.new)
-            (λ c. Represents c w ⊎ (AdmitsRows w number rows.now × Represents c (widened w rows.now))) }
+        ensures leaves { MayLeave D.Sectors self.old self.new
+            (λ w c. Represents c w ⊎ (AdmitsRows w number rows.now × Represents c (widened w rows.now))) }
 
         // Then with them.
         ensures ok { OnOk result ((w : Warehouse) → IsAt D.Sectors self.old w
@@ -46,9 +46,7 @@ impl<D: Sectors> Session<D> {
             × (D.keeps_word (device_of self.new) → AdmitsRows w number rows.now)) }
 
         // After a refusal, unless the device failed, as it was at each moment.
-        ensures refused { IfErr result (λ fault. fault ≢ Device → (w : Warehouse) → IsAt D.Sectors self.old w →
-            IsAt D.Sectors self.new w
-            × Leaves (disk_of D.Sectors self.old) (disk_of D.Sectors self.new) (λ c. Represents c w)) }
+        ensures refused { IfErr result (λ fault. fault ≢ Device → StaysAt D.Sectors self.old self.new) }
 
         // One commit was made, or none.
         ensures once { OnOk result (CommitsOnce D.Sectors self.old self.new) }
@@ -82,8 +80,7 @@ impl<D: Sectors> Session<D> {
             ⊎ ((fault ≡ Memory) × (number_refusal w.additions number ≡ None))) }
         ensures failed { IsErrOf result Failed ↔ (has_failed self.now ≡ true) }
         ensures device { IsErrOf result Device → ⊥ }
-        ensures leaves { (w : Warehouse) → IsAt D.Sectors self.now w
-            → Leaves (disk_of D.Sectors self.now) (disk_of D.Sectors self.now) (λ c. Represents c w) }
+        ensures leaves { MayLeave D.Sectors self.now self.now (λ w c. Represents c w) }
     {
         self.can_put(MOST_PUTS)?;
         check_number(self.root.additions(), number)?;
@@ -113,7 +110,7 @@ impl<D: Sectors> Session<D> {
             → D.keeps_word (device_of self.new) → AddRefuses D.Sectors self.old w number more fault) }
         ensures failed { IsErrOf result Failed → ⊥ }
         ensures device { IsErrOf result Device → Breaks D.Sectors self.old self.new }
-        ensures word { D.keeps_word (device_of self.new) → D.keeps_word (device_of self.old) }
+        ensures word { KeptBefore D.Sectors self.old self.new }
     {
         let Widening {
             dims,

@@ -13,7 +13,8 @@ ghost use Rattle.warehouse.specs.Choosing.{AreTooMany, ChooseForRefuses, ChooseR
 ghost use Rattle.warehouse.specs.Choosing.{IsChosenFrom, ViewsRefuse, choices_asked, lattice_asked};
 ghost use Rattle.warehouse.specs.Choosing.{members_counted, members_on, views_of};
 ghost use Rattle.warehouse.specs.declared.chosen.Chosen.{Chosen};
-ghost use Rattle.warehouse.specs.Session.{CallsDevice, CommitsOnce, IsAt, KeepsContent, device_of, disk_of, has_failed};
+ghost use Rattle.warehouse.specs.Session.{CallsDevice, CommitsOnce, IsAt, KeepsContent, MayLeave, device_of, disk_of};
+ghost use Rattle.warehouse.specs.Session.{has_failed};
 
 use crate::chosen::Chosen;
 use crate::session::Session;
@@ -36,9 +37,8 @@ impl<D: Sectors> Session<D> {
         requires few { length views.now ≤ most_cuboids }
 
         // A crash leaves the cuboids as they were, or these.
-        ensures leaves { (w : Warehouse) → IsAt D.Sectors self.old w
-            → Leaves (disk_of D.Sectors self.old) (disk_of D.Sectors self.new)
-            (λ c. Represents c w ⊎ Represents c (with_views w views.now)) }
+        ensures leaves { MayLeave D.Sectors self.old self.new
+            (λ w c. Represents c w ⊎ Represents c (with_views w views.now)) }
         ensures ok { OnOk result ((w : Warehouse) → IsAt D.Sectors self.old w
             → IsAt D.Sectors self.new (with_views w views.now) × CommitsOnce D.Sectors self.old self.new) }
 
@@ -69,9 +69,7 @@ impl<D: Sectors> Session<D> {
     /// generation, and because the device does.
     pub fn choose(&mut self, alloc: Global, k: u8) -> Result<Vec<Chosen>, Fault>
         // A crash leaves the cuboids as they were, or those of the choice.
-        ensures leaves { (w : Warehouse) → IsAt D.Sectors self.old w
-            → Leaves (disk_of D.Sectors self.old) (disk_of D.Sectors self.new)
-            (λ c. Represents c w
+        ensures leaves { MayLeave D.Sectors self.old self.new (λ w c. Represents c w
             ⊎ ((chosen : List Chosen) × IsChoice w k chosen × Represents c (with_views w (views_of chosen)))) }
         ensures ok { IfOk result (λ chosen. (w : Warehouse) → IsAt D.Sectors self.old w
             → IsAt D.Sectors self.new (with_views w (views_of chosen.items))
@@ -113,9 +111,7 @@ impl<D: Sectors> Session<D> {
         demanded: &[View],
     ) -> Result<Vec<Chosen>, Fault>
         // A crash leaves the cuboids as they were, or those of the choice.
-        ensures leaves { (w : Warehouse) → IsAt D.Sectors self.old w
-            → Leaves (disk_of D.Sectors self.old) (disk_of D.Sectors self.new)
-            (λ c. Represents c w
+        ensures leaves { MayLeave D.Sectors self.old self.new (λ w c. Represents c w
             ⊎ ((chosen : List Chosen) × IsChoiceFor w demanded.now k chosen
             × Represents c (with_views w (views_of chosen)))) }
         ensures ok { IfOk result (λ chosen. (w : Warehouse) → IsAt D.Sectors self.old w
@@ -160,8 +156,7 @@ impl<D: Sectors> Session<D> {
         ensures failed { IsErrOf result Failed ↔ (has_failed self.now ≡ true) }
         ensures causes { IfErr result (λ fault. (fault ≡ Failed)
             ⊎ (((fault ≡ BadQuery) × AreTooMany k (option_map (λ views. views.now) asked.entry)) ⊎ (fault ≡ Memory))) }
-        ensures leaves { (w : Warehouse) → IsAt D.Sectors self.now w
-            → Leaves (disk_of D.Sectors self.now) (disk_of D.Sectors self.now) (λ c. Represents c w) }
+        ensures leaves { MayLeave D.Sectors self.now self.now (λ w c. Represents c w) }
     {
         if self.is_broken() {
             return Err(Fault::Failed);

@@ -1,6 +1,6 @@
 //! Comparing a batch with the one that is stored under a number.
 ghost use Rattle.std.specs.Prelude.{◌≡◌, ◌≢◌, ◌⊎◌, ◌↔◌, ◌≤◌, false, Some, List, length, option_map, IfErr, IfOk};
-ghost use Rattle.std.specs.Prelude.{IfSome, IsErrOf, IsTrue, MatchResult};
+ghost use Rattle.std.specs.Prelude.{IfSome, IsErrOf, IsTrue};
 ghost use Rattle.cube_model.specs.declared.fault.Fault.TheVariants.{Device, Memory};
 ghost use Rattle.cube_model.specs.declared.rows.DimRows.{DimRows};
 ghost use Rattle.cube_model.specs.declared.rows.LineOrder.{LineOrder};
@@ -14,7 +14,7 @@ ghost use Rattle.warehouse.specs.Session.{IsAt, device_of};
 ghost use Rattle.warehouse_objects.specs.Reads.{ReadsOnly};
 ghost use Rattle.warehouse_objects.specs.Represents.{Represents, root_of};
 ghost use Rattle.warehouse_objects.specs.Warehouse.{Warehouse};
-ghost use Rattle.wire.specs.Runs.{HasRead, IsRefused};
+ghost use Rattle.wire.specs.Runs.{ReadsSource};
 
 use crate::growing::GrowingBatch;
 use crate::session::Session;
@@ -123,8 +123,7 @@ fn has_object<D: Sectors>(store: &mut Store<D>, id: u32, bytes: &[u8]) -> Result
 fn has_text<S: Source>(source: &mut S, id: u32, bytes: &[u8]) -> Result<bool, Fault>
     ensures same { IfOk result (λ yes. S.keeps_word source.new → IsTrue yes
         ↔ (S.texts source.old id ≡ Some bytes.now)) }
-    ensures run { MatchResult result (λ _. HasRead S.Source source.old source.new)
-        (λ fault. IsRefused S.Source fault source.old source.new) }
+    ensures run { ReadsSource S.Source source.old source.new result }
 {
     if source.total(id) != Some(bytes.len() as u64) {
         return Ok(false);

@@ -1,12 +1,11 @@
 //! Finishing an upkeep that was cut off.
 ghost use Rattle.std.specs.Prelude.{◌≡◌, ◌≢◌, ◌⊎◌, false, IfErr, IsErrOf, IsOk, OnOk};
 ghost use Rattle.cube_model.specs.declared.fault.Fault.TheVariants.{BadLayout, Device, Full, Memory, Worn};
-ghost use Rattle.object_store.specs.Disk.{Leaves};
 ghost use Rattle.warehouse_objects.specs.Warehouse.{Warehouse};
 ghost use Rattle.warehouse_objects.specs.Represents.{Represents};
 ghost use Rattle.stored_cuboids.specs.Keeping.{IsCaughtUp};
 ghost use Rattle.warehouse.specs.Found.{IsFinished};
-ghost use Rattle.warehouse.specs.Session.{Breaks, IsAt, device_of, disk_of, has_failed};
+ghost use Rattle.warehouse.specs.Session.{Breaks, IsAt, KeptBefore, MayLeave, device_of, has_failed};
 
 use crate::session::Session;
 use cube_model::Fault;
@@ -20,9 +19,8 @@ impl<D: Sectors> Session<D> {
     // would have too many cells, and ends where a commit has no room, and at the last generation.
     pub(crate) fn finish(&mut self, alloc: Global) -> Result<(), Fault>
         requires fine { has_failed self.old ≡ false }
-        ensures leaves { (w : Warehouse) → IsAt D.Sectors self.old w
-            → Leaves (disk_of D.Sectors self.old) (disk_of D.Sectors self.new)
-            (λ c. (v : Warehouse) × IsCaughtUp w v × Represents c v) }
+        ensures leaves { MayLeave D.Sectors self.old self.new
+            (λ w c. (v : Warehouse) × IsCaughtUp w v × Represents c v) }
         ensures ok { OnOk result ((w : Warehouse) → IsAt D.Sectors self.old w → (v : Warehouse) × IsCaughtUp w v
             × IsAt D.Sectors self.new v
             × (D.keeps_word (device_of self.new) → IsFinished D.Sectors self.new v)) }
@@ -30,7 +28,7 @@ impl<D: Sectors> Session<D> {
             → IsAt D.Sectors self.old w → ⊥ }
         ensures causes { IfErr result (λ fault. (fault ≡ Memory) ⊎ ((fault ≡ Device) ⊎ (fault ≡ BadLayout))) }
         ensures device { IsErrOf result Device → Breaks D.Sectors self.old self.new }
-        ensures word { D.keeps_word (device_of self.new) → D.keeps_word (device_of self.old) }
+        ensures word { KeptBefore D.Sectors self.old self.new }
     {
         let caught = catch_up(
             alloc,

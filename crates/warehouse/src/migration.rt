@@ -10,10 +10,10 @@ ghost use Rattle.warehouse_objects.specs.Reads.{ReadsOnly};
 ghost use Rattle.warehouse_objects.specs.Represents.{Represents, root_of};
 ghost use Rattle.warehouse_objects.specs.Warehouse.{Warehouse, migrated};
 ghost use Rattle.warehouse_root.specs.declared.layout.Layout.TheVariants.{First};
-ghost use Rattle.warehouse_root.specs.Root.{PlainRoot};
 ghost use Rattle.wire.specs.Limits.{most_objects};
 ghost use Rattle.warehouse.specs.Migrating.{IsMigration, IsMigrationOf, MigrateRefuses, MigratedOrNot, MovesOnce};
-ghost use Rattle.warehouse.specs.Session.{Breaks, CallsDevice, CommitsOnce, IsAt, KeepsContent, content_of, device_of};
+ghost use Rattle.warehouse.specs.Session.{Breaks, CallsDevice, CommitsOnce, IsAt, KeepsContent, KeptBefore, MayLeave};
+ghost use Rattle.warehouse.specs.Session.{StaysAt, content_of, device_of};
 ghost use Rattle.warehouse.specs.Session.{disk_of};
 ghost use Rattle.warehouse.specs.Session.{has_failed};
 
@@ -45,17 +45,14 @@ impl<D: Sectors> Session<D> {
     /// which there are. Otherwise it is refused for `Worn`, `Full`, `Memory` or `Device` alone.
     pub fn migrate(&mut self, alloc: Global) -> Result<(), Fault>
         // A crash at any point leaves the warehouse as it was, or in the second layout if it may be there.
-        ensures leaves { (w : Warehouse) → IsAt D.Sectors self.old w
-            → Leaves (disk_of D.Sectors self.old) (disk_of D.Sectors self.new) (MigratedOrNot w) }
+        ensures leaves { MayLeave D.Sectors self.old self.new MigratedOrNot }
 
         // Then in the second layout.
         ensures ok { OnOk result ((w : Warehouse) → IsAt D.Sectors self.old w
             → IsAt D.Sectors self.new (migrated w) × (D.keeps_word (device_of self.new) → CanMigrate w)) }
 
         // After a refusal, unless the device failed, as it was at each moment.
-        ensures refused { IfErr result (λ fault. fault ≢ Device → (w : Warehouse) → IsAt D.Sectors self.old w →
-            IsAt D.Sectors self.new w
-            × Leaves (disk_of D.Sectors self.old) (disk_of D.Sectors self.new) (λ c. Represents c w)) }
+        ensures refused { IfErr result (λ fault. fault ≢ Device → StaysAt D.Sectors self.old self.new) }
 
         // One commit was made, or none.
         ensures once { OnOk result ((w : Warehouse) → IsAt D.Sectors self.old w
@@ -81,13 +78,10 @@ impl<D: Sectors> Session<D> {
     fn move_on(&mut self, alloc: Global) -> Result<(), Fault>
         requires fine { has_failed self.old ≡ false }
         requires first { self.old.root.layout ≡ First }
-        ensures leaves { (w : Warehouse) → IsAt D.Sectors self.old w
-            → Leaves (disk_of D.Sectors self.old) (disk_of D.Sectors self.new) (MigratedOrNot w) }
+        ensures leaves { MayLeave D.Sectors self.old self.new MigratedOrNot }
         ensures ok { OnOk result ((w : Warehouse) → IsAt D.Sectors self.old w
             → IsAt D.Sectors self.new (migrated w) × (D.keeps_word (device_of self.new) → CanMigrate w)) }
-        ensures refused { IfErr result (λ fault. fault ≢ Device → (w : Warehouse) → IsAt D.Sectors self.old w →
-            IsAt D.Sectors self.new w
-            × Leaves (disk_of D.Sectors self.old) (disk_of D.Sectors self.new) (λ c. Represents c w)) }
+        ensures refused { IfErr result (λ fault. fault ≢ Device → StaysAt D.Sectors self.old self.new) }
         ensures once { OnOk result (CommitsOnce D.Sectors self.old self.new) }
         ensures kept { IfErr result (λ fault. fault ≢ Device → KeepsContent D.Sectors self.old self.new) }
         ensures causes { IfErr result (λ fault. fault ≢ Device → (w : Warehouse) → IsAt D.Sectors self.old w
@@ -95,7 +89,7 @@ impl<D: Sectors> Session<D> {
             → MigrateRefuses D.Sectors self.old w fault) }
         ensures failed { IsErrOf result Failed → ⊥ }
         ensures device { IsErrOf result Device → Breaks D.Sectors self.old self.new }
-        ensures word { D.keeps_word (device_of self.new) → D.keeps_word (device_of self.old) }
+        ensures word { KeptBefore D.Sectors self.old self.new }
     {
         self.can_put(1)?;
         let migration = match read_migration(alloc, &mut self.store, &self.root) {
@@ -118,9 +112,7 @@ impl<D: Sectors> Session<D> {
             → (D.keeps_word (device_of self.old) → IsMigrationOf w self.old.root migration)
             → self.old.root.layout ≡ First
             → IsAt D.Sectors self.new (migrated w) × (D.keeps_word (device_of self.new) → CanMigrate w)) }
-        ensures refused { IfErr result (λ fault. fault ≢ Device → (w : Warehouse) → IsAt D.Sectors self.old w
-            → IsAt D.Sectors self.new w
-            × Leaves (disk_of D.Sectors self.old) (disk_of D.Sectors self.new) (λ c. Represents c w)) }
+        ensures refused { IfErr result (λ fault. fault ≢ Device → StaysAt D.Sectors self.old self.new) }
         ensures once { OnOk result (CommitsOnce D.Sectors self.old self.new) }
         ensures kept { IfErr result (λ fault. fault ≢ Device → KeepsContent D.Sectors self.old self.new) }
         ensures causes { IfErr result (λ fault. fault ≢ Device → (w : Warehouse) → IsAt D.Sectors self.old w
@@ -129,7 +121,7 @@ impl<D: Sectors> Session<D> {
             → D.keeps_word (device_of self.new) → MigrateRefuses D.Sectors self.old w fault) }
         ensures failed { IsErrOf result Failed → ⊥ }
         ensures device { IsErrOf result Device → Breaks D.Sectors self.old self.new }
-        ensures word { D.keeps_word (device_of self.new) → D.keeps_word (device_of self.old) }
+        ensures word { KeptBefore D.Sectors self.old self.new }
     {
         let Migration {
             modes,

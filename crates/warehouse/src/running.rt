@@ -1,9 +1,9 @@
 //! A list of commands, done one after the other.
-ghost use Rattle.std.specs.Prelude.{◌≡◌, ◌⊎◌, true, List, IfOk, IfErr};
+ghost use Rattle.std.specs.Prelude.{◌≡◌, true, IfOk, IfErr};
 ghost use Rattle.cube_model.specs.declared.fault.Fault.TheVariants.{Memory};
 ghost use Rattle.object_store.specs.Disk.{Leaves};
 ghost use Rattle.warehouse_objects.specs.Warehouse.{Warehouse};
-ghost use Rattle.warehouse.specs.Session.{has_failed, device_of, disk_of, IsAt};
+ghost use Rattle.warehouse.specs.Session.{IsAt, KeptBefore, has_failed, device_of, disk_of};
 ghost use Rattle.warehouse.specs.declared.command.Command.TheVariants as asks;
 ghost use Rattle.warehouse.specs.Running.{Phase, Slots, at, broken, Does, IsInPhase, Ran, RanAll, FoundIn};
 ghost use Rattle.warehouse.specs.Slots.{AreOf, AreRunning, DoesWith};
@@ -63,7 +63,7 @@ fn perform<D: Sectors>(
     slots: &mut QuerySlots,
     command: &Command,
 ) -> Reply
-    ensures word { D.keeps_word (device_of session.new) → D.keeps_word (device_of session.old) }
+    ensures word { KeptBefore D.Sectors session.old session.new }
     ensures ran { (w : Warehouse) (started : Slots) → IsAt D.Sectors session.old w
         → AreRunning slots.old.queries.items started → AreOf w started
         → D.keeps_word (device_of session.new)
@@ -95,7 +95,7 @@ fn submit<D: Sectors>(
     number: u32,
     rows: &Items<LineOrder>,
 ) -> Reply
-    ensures word { D.keeps_word (device_of session.new) → D.keeps_word (device_of session.old) }
+    ensures word { KeptBefore D.Sectors session.old session.new }
     ensures ran { (w : Warehouse) (started : Slots) → IsAt D.Sectors session.old w
         → D.keeps_word (device_of session.new)
         → Does D.Sectors session.old w started (asks.Submit number rows.now) result session.new }
@@ -108,7 +108,7 @@ fn submit<D: Sectors>(
 
 // Answers a query over the first batches.
 fn answer<D: Sectors>(alloc: Global, session: &mut Session<D>, as_of: u32, query: &Query) -> Reply
-    ensures word { D.keeps_word (device_of session.new) → D.keeps_word (device_of session.old) }
+    ensures word { KeptBefore D.Sectors session.old session.new }
     ensures ran { (w : Warehouse) (started : Slots) → IsAt D.Sectors session.old w
         → D.keeps_word (device_of session.new)
         → Does D.Sectors session.old w started (asks.Query as_of query.now) result session.new }
@@ -121,7 +121,7 @@ fn answer<D: Sectors>(alloc: Global, session: &mut Session<D>, as_of: u32, query
 
 // Says the numbers of the warehouse.
 fn status<D: Sectors>(session: &mut Session<D>) -> Reply
-    ensures word { D.keeps_word (device_of session.new) → D.keeps_word (device_of session.old) }
+    ensures word { KeptBefore D.Sectors session.old session.new }
     ensures ran { (w : Warehouse) (started : Slots) → IsAt D.Sectors session.old w
         → D.keeps_word (device_of session.new) → Does D.Sectors session.old w started asks.Status result session.new }
 {
@@ -133,7 +133,7 @@ fn status<D: Sectors>(session: &mut Session<D>) -> Reply
 
 // Stores the cuboids of a choice.
 fn choose<D: Sectors>(alloc: Global, session: &mut Session<D>, k: u8) -> Reply
-    ensures word { D.keeps_word (device_of session.new) → D.keeps_word (device_of session.old) }
+    ensures word { KeptBefore D.Sectors session.old session.new }
     ensures ran { (w : Warehouse) (started : Slots) → IsAt D.Sectors session.old w
         → D.keeps_word (device_of session.new)
         → Does D.Sectors session.old w started (asks.Choose k) result session.new }
@@ -146,7 +146,7 @@ fn choose<D: Sectors>(alloc: Global, session: &mut Session<D>, k: u8) -> Reply
 
 // Brings each stored cuboid to all batches.
 fn keep_up<D: Sectors>(alloc: Global, session: &mut Session<D>) -> Reply
-    ensures word { D.keeps_word (device_of session.new) → D.keeps_word (device_of session.old) }
+    ensures word { KeptBefore D.Sectors session.old session.new }
     ensures ran { (w : Warehouse) (started : Slots) → IsAt D.Sectors session.old w
         → D.keeps_word (device_of session.new) → Does D.Sectors session.old w started asks.Upkeep result session.new }
 {
@@ -158,7 +158,7 @@ fn keep_up<D: Sectors>(alloc: Global, session: &mut Session<D>) -> Reply
 
 // Says whether each stored cuboid is what it is to be.
 fn audit<D: Sectors>(alloc: Global, session: &mut Session<D>) -> Reply
-    ensures word { D.keeps_word (device_of session.new) → D.keeps_word (device_of session.old) }
+    ensures word { KeptBefore D.Sectors session.old session.new }
     ensures ran { (w : Warehouse) (started : Slots) → IsAt D.Sectors session.old w
         → D.keeps_word (device_of session.new) → Does D.Sectors session.old w started asks.Audit result session.new }
 {
@@ -170,7 +170,7 @@ fn audit<D: Sectors>(alloc: Global, session: &mut Session<D>) -> Reply
 
 // Adds rows to the dimensions.
 fn add<D: Sectors>(alloc: Global, session: &mut Session<D>, number: u32, rows: &NewRows) -> Reply
-    ensures word { D.keeps_word (device_of session.new) → D.keeps_word (device_of session.old) }
+    ensures word { KeptBefore D.Sectors session.old session.new }
     ensures ran { (w : Warehouse) (started : Slots) → IsAt D.Sectors session.old w
         → D.keeps_word (device_of session.new)
         → Does D.Sectors session.old w started (asks.Add number rows.now) result session.new }
@@ -183,7 +183,7 @@ fn add<D: Sectors>(alloc: Global, session: &mut Session<D>, number: u32, rows: &
 
 // Moves the warehouse to the second layout.
 fn migrate<D: Sectors>(alloc: Global, session: &mut Session<D>) -> Reply
-    ensures word { D.keeps_word (device_of session.new) → D.keeps_word (device_of session.old) }
+    ensures word { KeptBefore D.Sectors session.old session.new }
     ensures ran { (w : Warehouse) (started : Slots) → IsAt D.Sectors session.old w
         → D.keeps_word (device_of session.new) → Does D.Sectors session.old w started asks.Migrate result session.new }
 {
@@ -202,7 +202,7 @@ fn start<D: Sectors>(
     as_of: u32,
     query: &Query,
 ) -> Reply
-    ensures word { D.keeps_word (device_of session.new) → D.keeps_word (device_of session.old) }
+    ensures word { KeptBefore D.Sectors session.old session.new }
     ensures ran { (w : Warehouse) (started : Slots) → IsAt D.Sectors session.old w
         → AreRunning slots.old.queries.items started → AreOf w started
         → D.keeps_word (device_of session.new)
@@ -228,7 +228,7 @@ fn step<D: Sectors>(
     slots: &mut QuerySlots,
     slot: u8,
 ) -> Reply
-    ensures word { D.keeps_word (device_of session.new) → D.keeps_word (device_of session.old) }
+    ensures word { KeptBefore D.Sectors session.old session.new }
     ensures ran { (w : Warehouse) (started : Slots) → IsAt D.Sectors session.old w
         → AreRunning slots.old.queries.items started → AreOf w started
         → D.keeps_word (device_of session.new)

@@ -1,9 +1,7 @@
 //! A session of a warehouse.
 ghost use Rattle.std.specs.Prelude.{◌≡◌, false, IfOk, IfErr};
 ghost use Rattle.cube_model.specs.declared.fault.Fault.TheVariants.{Memory};
-ghost use Rattle.object_store.specs.Disk.{Leaves};
 ghost use Rattle.object_store.specs.Store as stores;
-ghost use Rattle.warehouse_objects.specs.Warehouse.{Warehouse};
 ghost use Rattle.warehouse_objects.specs.Represents.{Represents};
 ghost use Rattle.warehouse_objects.specs.Loaded.{IsLoaded};
 ghost use Rattle.warehouse.specs.Props.{props};
@@ -44,7 +42,7 @@ impl<D: Sectors + Drop> Drop for Session<D> {
 }
 
 impl<D: Sectors> Session<D> {
-    ghost use Rattle.warehouse.specs.Session.{has_failed, device_of, disk_of, IsAt};
+    ghost use Rattle.warehouse.specs.Session.{MayLeave, has_failed, device_of};
 
     /// The device.
     pub fn device(&self) -> &D
@@ -69,8 +67,7 @@ impl<D: Sectors> Session<D> {
     /// Whether the device failed in an earlier call. Until then each image represents the warehouse.
     pub fn is_broken(&self) -> bool
         ensures broken { result ≡ has_failed self.now }
-        ensures leaves { (w : Warehouse) → IsAt D.Sectors self.now w
-            → Leaves (disk_of D.Sectors self.now) (disk_of D.Sectors self.now) (λ c. Represents c w) }
+        ensures leaves { MayLeave D.Sectors self.now self.now (λ w c. Represents c w) }
     {
         self.store.is_broken()
     }

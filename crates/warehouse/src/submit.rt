@@ -17,7 +17,8 @@ ghost use Rattle.warehouse.specs.Growing.{Grows};
 ghost use Rattle.warehouse.specs.Loaded.{Agrees};
 ghost use Rattle.warehouse.specs.Prepared.{IsPrepared, prepared_puts};
 ghost use Rattle.warehouse.specs.Refusing.{is_of_device};
-ghost use Rattle.warehouse.specs.Session.{Breaks, CallsDevice, CommitsOnce, IsAt, content_of, device_of, disk_of};
+ghost use Rattle.warehouse.specs.Session.{Breaks, CallsDevice, CommitsOnce, IsAt, KeptBefore, MayLeave, StaysAt};
+ghost use Rattle.warehouse.specs.Session.{content_of, device_of, disk_of};
 ghost use Rattle.warehouse.specs.Session.{has_failed};
 ghost use Rattle.warehouse.specs.Session.{KeepsContent, SubmitRefuses};
 ghost use Rattle.warehouse.specs.Submitting.{BatchIsReady, WithOrWithout};
@@ -40,9 +41,8 @@ impl<D: Sectors> Session<D> {
     /// A batch that is admissible is refused for `Worn`, `Full`, `Memory` or `Device` alone.
     pub fn submit(&mut self, alloc: Global, number: u32, rows: &[LineOrder]) -> Result<(), Fault>
         // A crash at any point leaves the warehouse as it was, or with this batch if it is admissible.
-        ensures leaves { (w : Warehouse) → IsAt D.Sectors self.old w
-            → Leaves (disk_of D.Sectors self.old) (disk_of D.Sectors self.new)
-            (λ c. Represents c w ⊎ (AdmitsBatch w number rows.now × Represents c (loaded w rows.now))) }
+        ensures leaves { MayLeave D.Sectors self.old self.new
+            (λ w c. Represents c w ⊎ (AdmitsBatch w number rows.now × Represents c (loaded w rows.now))) }
 
         // Then with it.
         ensures ok { OnOk result ((w : Warehouse) → IsAt D.Sectors self.old w
@@ -50,9 +50,7 @@ impl<D: Sectors> Session<D> {
             × (D.keeps_word (device_of self.new) → AdmitsBatch w number rows.now)) }
 
         // After a refusal, unless the device failed, as it was at each moment.
-        ensures refused { IfErr result (λ fault. fault ≢ Device → (w : Warehouse) → IsAt D.Sectors self.old w →
-            IsAt D.Sectors self.new w
-            × Leaves (disk_of D.Sectors self.old) (disk_of D.Sectors self.new) (λ c. Represents c w)) }
+        ensures refused { IfErr result (λ fault. fault ≢ Device → StaysAt D.Sectors self.old self.new) }
 
         // One commit was made, or none.
         ensures once { OnOk result (CommitsOnce D.Sectors self.old self.new) }
@@ -99,7 +97,7 @@ impl<D: Sectors> Session<D> {
             → D.keeps_word (device_of self.new) → SubmitRefuses D.Sectors self.old w number rows fault) }
         ensures failed { IsErrOf result Failed → ⊥ }
         ensures device { IsErrOf result Device → Breaks D.Sectors self.old self.new }
-        ensures word { D.keeps_word (device_of self.new) → D.keeps_word (device_of self.old) }
+        ensures word { KeptBefore D.Sectors self.old self.new }
     {
         let (puts, count) = puts_of(number, &prepared);
         let layout = prepared.root.layout().number();
@@ -132,8 +130,7 @@ impl<D: Sectors> Session<D> {
             → (refusal_of w number rows.now ≡ Some fault) ⊎ ((fault ≡ Memory) × PassesChecks w number rows.now)) }
         ensures failed { IsErrOf result Failed ↔ (has_failed self.now ≡ true) }
         ensures device { IsErrOf result Device → ⊥ }
-        ensures leaves { (w : Warehouse) → IsAt D.Sectors self.now w
-            → Leaves (disk_of D.Sectors self.now) (disk_of D.Sectors self.now) (λ c. Represents c w) }
+        ensures leaves { MayLeave D.Sectors self.now self.now (λ w c. Represents c w) }
     {
         self.can_put(2)?;
         check(&self.dims, &self.root, number, rows)?;
@@ -153,8 +150,7 @@ impl<D: Sectors> Session<D> {
             → D.keeps_word (device_of self.now) → ⊥) }
         ensures failed { IsErrOf result Failed ↔ (has_failed self.now ≡ true) }
         ensures device { IsErrOf result Device → ⊥ }
-        ensures leaves { (w : Warehouse) → IsAt D.Sectors self.now w
-            → Leaves (disk_of D.Sectors self.now) (disk_of D.Sectors self.now) (λ c. Represents c w) }
+        ensures leaves { MayLeave D.Sectors self.now self.now (λ w c. Represents c w) }
     {
         if self.is_broken() {
             return Err(Fault::Failed);

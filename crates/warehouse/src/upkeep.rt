@@ -1,14 +1,13 @@
 //! Keeping the stored cuboids of a warehouse up to date, and auditing them.
 ghost use Rattle.std.specs.Prelude.{◌≡◌, ◌≢◌, ◌↔◌, All, IsTrue, true, IfErr, IfOk, IsErrOf, OnOk};
 ghost use Rattle.cube_model.specs.declared.fault.Fault.TheVariants.{Device, Memory};
-ghost use Rattle.object_store.specs.Disk.{Leaves};
 ghost use Rattle.warehouse_objects.specs.Warehouse.{Warehouse};
 ghost use Rattle.warehouse_objects.specs.Represents.{Represents};
 ghost use Rattle.stored_cuboids.specs.Merged.{IsSound};
 ghost use Rattle.stored_cuboids.specs.Keeping.{IsKeptUp};
 ghost use Rattle.stored_cuboids.specs.Upkeep.{CuboidsAreCurrent};
 ghost use Rattle.warehouse.specs.Reads.{OnlyReads};
-ghost use Rattle.warehouse.specs.Session.{CallsDevice, IsAt, device_of, disk_of};
+ghost use Rattle.warehouse.specs.Session.{CallsDevice, IsAt, MayLeave, device_of};
 ghost use Rattle.warehouse.specs.Upkeep.{IsLaidAt, UpkeepRefuses};
 
 use crate::session::Session;
@@ -26,9 +25,7 @@ impl<D: Sectors> Session<D> {
     /// or room, at the last generation, and because the device does.
     pub fn upkeep(&mut self, alloc: Global) -> Result<(), Fault>
         // A crash leaves the same rows, batches and views, and no mark lower.
-        ensures leaves { (w : Warehouse) → IsAt D.Sectors self.old w
-            → Leaves (disk_of D.Sectors self.old) (disk_of D.Sectors self.new)
-            (λ c. (v : Warehouse) × IsKeptUp w v × Represents c v) }
+        ensures leaves { MayLeave D.Sectors self.old self.new (λ w c. (v : Warehouse) × IsKeptUp w v × Represents c v) }
         ensures stays { (IsErrOf result Device → ⊥) → (w : Warehouse) → IsAt D.Sectors self.old w
             → (v : Warehouse) × IsKeptUp w v × IsAt D.Sectors self.new v }
 

@@ -3,8 +3,8 @@ ghost use Rattle.std.specs.Prelude.{◌≡◌, ◌⊎◌, None, is_some, false, 
 ghost use Rattle.cube_model.specs.declared.fault.Fault.TheVariants.{BadLayout, Device, Memory};
 ghost use Rattle.object_store.specs.Store.{content_of, device_of, has_failed};
 ghost use Rattle.warehouse_objects.specs.Warehouse.{Warehouse};
-ghost use Rattle.warehouse_objects.specs.Reads.{ReadsOnly};
-ghost use Rattle.warehouse_objects.specs.Represents.{AreItsMembers, HasItsObjects, IsLaidOut, Represents, root_of};
+ghost use Rattle.warehouse_objects.specs.Reads.{HoldsNoWarehouse, ReadsOnly};
+ghost use Rattle.warehouse_objects.specs.Represents.{AreItsMembers, HasItsObjects, IsLaidOut, root_of};
 ghost use Rattle.stored_cuboids.specs.Merged.{IsSound};
 ghost use Rattle.warehouse_check.specs.Checked.{HasBatches};
 
@@ -51,12 +51,10 @@ pub fn checked<D: Sectors>(
         → root.now ≡ root_of w → AreItsMembers w dims.now modes.now → All (IsSound w) w.cuboids) }
 
     // Something is found, or it is refused: then the content represents no warehouse.
-    ensures found { IfOk result (λ found. IsTrue (is_some found) → D.keeps_word (device_of store.new) → (w : Warehouse)
-        → Represents (content_of D.Sectors store.old) w
-        → root.now ≡ root_of w → AreItsMembers w dims.now modes.now → ⊥) }
-    ensures refused { IsErrOf result BadLayout → D.keeps_word (device_of store.new) → (w : Warehouse)
-        → Represents (content_of D.Sectors store.old) w
-        → root.now ≡ root_of w → AreItsMembers w dims.now modes.now → ⊥ }
+    ensures found { IfOk result (λ found. IsTrue (is_some found)
+        → HoldsNoWarehouse D.Sectors store.old store.new root.now dims.now modes.now) }
+    ensures refused { IsErrOf result BadLayout
+        → HoldsNoWarehouse D.Sectors store.old store.new root.now dims.now modes.now }
 
     // The content stays, at each moment.
     ensures reads { ReadsOnly D.Sectors store.old store.new result }

@@ -19,7 +19,7 @@ use Rattle.cube_model.specs.Limits.{most_batch_rows}
 use Rattle.cube_model.specs.ShipModes.{modes_in}
 use Rattle.object_store.specs.Content.{Content}
 use Rattle.object_store.specs.Disk.{disk, Leaves}
-use Rattle.object_store.specs.Moments.{all_weaker}
+use Rattle.object_store.proofs.CallerLemmas.{all_weaker}
 use Rattle.ssb_eval.specs.Evaluation.{facts_after, facts_of}
 use Rattle.warehouse_objects.specs.Represents.{Represents}
 use Rattle.warehouse_objects.proofs.Batches.{get_within, some_one, take_next}

@@ -8,6 +8,7 @@ pub mod Cutting
 pub mod DumpLawful
 pub mod Dumped
 pub mod Explaining
+pub mod Failing
 pub mod Forms
 pub mod Jobs
 pub mod Lawful

@@ -1,11 +1,11 @@
 //! Adding rows to the dimensions.
-ghost use Rattle.std.specs.Prelude.{◌≡◌, true, Err, IfErr, IfOk};
-ghost use Rattle.std.specs.Io.KnownBytes.{Keeps};
+ghost use Rattle.std.specs.Prelude.{◌≡◌, Err, IfErr, IfOk};
 ghost use Rattle.cube_model.specs.declared.fault.Fault.TheVariants.{Failed};
 ghost use Rattle.cube_model.specs.Validity.{HaveShortTexts};
 ghost use Rattle.warehouse_objects.specs.Warehouse.{Warehouse};
-ghost use Rattle.warehouse.specs.Session.{device_of, has_failed, IsAt};
+ghost use Rattle.warehouse.specs.Session.{IsAt, KeptBefore, device_of};
 ghost use Rattle.warehouse_jobs.specs.Adding.{DoesAddition, RefusesRows, DeviceTakesRows, row_total};
+ghost use Rattle.warehouse_jobs.specs.Failing.{FailsAtOnce};
 
 use crate::printing::write_addition;
 use crate::taken::Taken;
@@ -38,9 +38,8 @@ pub fn add<D: Sectors, W: Write>(
         result }
 
     // Where the device failed in an earlier call, nothing is done.
-    ensures failed { has_failed session.old ≡ true → (result ≡ Err Failed) × (session.new ≡ session.old)
-        × Keeps (W.contents out.old) (W.contents out.new) }
-    ensures word { D.keeps_word (device_of session.new) → D.keeps_word (device_of session.old) }
+    ensures failed { FailsAtOnce D.Sectors session.old session.new (W.contents out.old) (W.contents out.new) result }
+    ensures word { KeptBefore D.Sectors session.old session.new }
 {
     if session.is_broken() {
         return Err(Fault::Failed);
@@ -64,7 +63,7 @@ fn take_rows<D: Sectors>(
     ensures refused { IfErr result (λ fault. (w : Warehouse) → IsAt D.Sectors session.old w
         → D.keeps_word (device_of session.new)
         → RefusesRows D.Sectors w number rows.now session.old session.new fault) }
-    ensures word { D.keeps_word (device_of session.new) → D.keeps_word (device_of session.old) }
+    ensures word { KeptBefore D.Sectors session.old session.new }
 {
     if number > session.status()?.additions {
         session.add(alloc, number, rows)?;

@@ -1,13 +1,13 @@
 //! Checking all that is stored of a warehouse.
 ghost use Rattle.std.specs.Prelude.{◌≡◌, ◌≤◌, true, false, Err, IfOk, IsTrue, length};
-ghost use Rattle.std.specs.Io.KnownBytes.{Keeps};
 ghost use Rattle.cube_model.specs.declared.fault.Fault.TheVariants.{Failed};
 ghost use Rattle.ssb_reports.specs.Writing.{Writes};
 ghost use Rattle.warehouse_objects.specs.Warehouse.{Warehouse};
 ghost use Rattle.warehouse_objects.specs.Represents.{Represents};
 ghost use Rattle.warehouse_check.specs.Checked.{IsChecked};
-ghost use Rattle.warehouse.specs.Session.{IsAt, content_of, device_of, has_failed};
+ghost use Rattle.warehouse.specs.Session.{IsAt, KeptBefore, content_of, device_of};
 ghost use Rattle.warehouse_jobs.specs.Checking.{Checks, count_stored, sound_line, sound_text};
+ghost use Rattle.warehouse_jobs.specs.Failing.{FailsAtOnce};
 
 use crate::printing::write_parts;
 use cube_model::Fault;
@@ -39,9 +39,8 @@ pub fn check<D: Sectors, W: Write>(
         → Represents (content_of D.Sectors session.old) w → ⊥) }
 
     // Where the device failed in an earlier call, nothing is done.
-    ensures failed { has_failed session.old ≡ true → (result ≡ Err Failed) × (session.new ≡ session.old)
-        × Keeps (W.contents out.old) (W.contents out.new) }
-    ensures word { D.keeps_word (device_of session.new) → D.keeps_word (device_of session.old) }
+    ensures failed { FailsAtOnce D.Sectors session.old session.new (W.contents out.old) (W.contents out.new) result }
+    ensures word { KeptBefore D.Sectors session.old session.new }
 {
     match session.check(alloc)? {
         None => {

@@ -1,7 +1,6 @@
 //! Choosing which cuboids are stored.
-ghost use Rattle.std.specs.Prelude.{◌≡◌};
 ghost use Rattle.warehouse_objects.specs.Warehouse.{Warehouse};
-ghost use Rattle.warehouse.specs.Session.{device_of, IsAt};
+ghost use Rattle.warehouse.specs.Session.{IsAt, KeptBefore, device_of};
 ghost use Rattle.warehouse_jobs.specs.Cuboids.{Chooses, ChoosesFor};
 
 use crate::printing::write_choice;
@@ -21,7 +20,7 @@ pub(crate) fn choose<D: Sectors, W: Write>(
 ) -> Result<(), Fault>
     ensures chooses { (w : Warehouse) → IsAt D.Sectors session.old w → D.keeps_word (device_of session.new)
         → Chooses D.Sectors w k session.old session.new (W.contents out.old) (W.contents out.new) result }
-    ensures word { D.keeps_word (device_of session.new) → D.keeps_word (device_of session.old) }
+    ensures word { KeptBefore D.Sectors session.old session.new }
 {
     let chosen = session.choose(alloc, k)?;
     let ship_modes = session.layout().has_ship_modes();
@@ -40,7 +39,7 @@ pub(crate) fn choose_for<D: Sectors, W: Write>(
     ensures chooses { (w : Warehouse) → IsAt D.Sectors session.old w → D.keeps_word (device_of session.new)
         → ChoosesFor D.Sectors w demanded.now k session.old session.new (W.contents out.old) (W.contents out.new)
         result }
-    ensures word { D.keeps_word (device_of session.new) → D.keeps_word (device_of session.old) }
+    ensures word { KeptBefore D.Sectors session.old session.new }
 {
     let chosen = session.choose_for(alloc, k, demanded)?;
     let ship_modes = session.layout().has_ship_modes();

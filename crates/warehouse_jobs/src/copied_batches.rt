@@ -1,10 +1,10 @@
 //! Copying the batches of a warehouse into another one.
-ghost use Rattle.std.specs.Prelude.{◌≡◌, ◌<◌, ◌+◌, ◌^◌, length, IfErr, IsErrOf, OnOk};
+ghost use Rattle.std.specs.Prelude.{◌<◌, ◌+◌, ◌^◌, length, IfErr, IsErrOf, OnOk};
 ghost use Rattle.cube_model.specs.declared.fault.Fault.TheVariants.{Device};
 ghost use Rattle.object_store.specs.Disk.{Leaves};
 ghost use Rattle.warehouse_objects.specs.Represents.{Represents};
 ghost use Rattle.warehouse_objects.specs.Warehouse.{Warehouse};
-ghost use Rattle.warehouse.specs.Session.{IsAt, device_of, disk_of};
+ghost use Rattle.warehouse.specs.Session.{IsAt, KeptBefore, MayLeave, device_of, disk_of};
 ghost use Rattle.warehouse_jobs.specs.Copied.{HoldsPart, IsCopyFault, with_first};
 
 use cube_model::Fault;
@@ -19,8 +19,7 @@ pub(crate) fn copy_batches<D: Sectors, E: Sectors>(
     to: &mut Session<E>,
 ) -> Result<(), Fault>
     // The first warehouse stays as it is, at each moment.
-    ensures from_leaves { (w : Warehouse) → IsAt D.Sectors from.old w
-        → Leaves (disk_of D.Sectors from.old) (disk_of D.Sectors from.new) (λ c. Represents c w) }
+    ensures from_leaves { MayLeave D.Sectors from.old from.new (λ w c. Represents c w) }
     ensures from_stays { (IsErrOf result Device → ⊥) → (w : Warehouse) → IsAt D.Sectors from.old w
         → IsAt D.Sectors from.new w }
 
@@ -34,8 +33,8 @@ pub(crate) fn copy_batches<D: Sectors, E: Sectors>(
     ensures refused { IfErr result (λ fault. (w : Warehouse) → IsAt D.Sectors from.old w
         → IsAt E.Sectors to.old (with_first w 0)
         → D.keeps_word (device_of from.new) → E.keeps_word (device_of to.new) → IsCopyFault fault) }
-    ensures from_word { D.keeps_word (device_of from.new) → D.keeps_word (device_of from.old) }
-    ensures word { E.keeps_word (device_of to.new) → E.keeps_word (device_of to.old) }
+    ensures from_word { KeptBefore D.Sectors from.old from.new }
+    ensures word { KeptBefore E.Sectors to.old to.new }
 {
     let status = from.status()?;
     for before in 0..status.batches {
@@ -52,8 +51,7 @@ fn copy_batch<D: Sectors, E: Sectors>(
     before: u32,
 ) -> Result<(), Fault>
     requires fits { before + 1 < 2 ^ 32 }
-    ensures from_leaves { (w : Warehouse) → IsAt D.Sectors from.old w
-        → Leaves (disk_of D.Sectors from.old) (disk_of D.Sectors from.new) (λ c. Represents c w) }
+    ensures from_leaves { MayLeave D.Sectors from.old from.new (λ w c. Represents c w) }
     ensures from_stays { (IsErrOf result Device → ⊥) → (w : Warehouse) → IsAt D.Sectors from.old w
         → IsAt D.Sectors from.new w }
     ensures ok { OnOk result ((w : Warehouse) → IsAt D.Sectors from.old w → IsAt E.Sectors to.old (with_first w before)
@@ -65,8 +63,8 @@ fn copy_batch<D: Sectors, E: Sectors>(
     ensures refused { IfErr result (λ fault. (w : Warehouse) → IsAt D.Sectors from.old w → before < length w.batches
         → IsAt E.Sectors to.old (with_first w before) → D.keeps_word (device_of from.new)
         → E.keeps_word (device_of to.new) → IsCopyFault fault) }
-    ensures from_word { D.keeps_word (device_of from.new) → D.keeps_word (device_of from.old) }
-    ensures word { E.keeps_word (device_of to.new) → E.keeps_word (device_of to.old) }
+    ensures from_word { KeptBefore D.Sectors from.old from.new }
+    ensures word { KeptBefore E.Sectors to.old to.new }
 {
     let number = before + 1;
     let found = from.rows_of_batch(alloc, number)?;

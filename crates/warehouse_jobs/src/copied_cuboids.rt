@@ -7,7 +7,7 @@ ghost use Rattle.warehouse_root.specs.Limits.{most_cuboids};
 ghost use Rattle.warehouse_objects.specs.Represents.{Represents};
 ghost use Rattle.warehouse_objects.specs.Warehouse.{Cuboid, Warehouse, with_views};
 ghost use Rattle.stored_cuboids.specs.Keeping.{IsKeptUp};
-ghost use Rattle.warehouse.specs.Session.{IsAt, device_of, disk_of};
+ghost use Rattle.warehouse.specs.Session.{IsAt, KeptBefore, MayLeave, device_of, disk_of};
 ghost use Rattle.warehouse_jobs.specs.Copied.{AreBroughtOn, AreSaidOf, HoldsPart, IsCopy, IsCopyFault, with_first};
 
 use cube_model::Fault;
@@ -33,7 +33,7 @@ pub(crate) fn copy_cuboids<D: Sectors, E: Sectors>(
     ensures refused { IfErr result (λ fault. (w : Warehouse) → IsAt D.Sectors from.now w
         → IsAt E.Sectors to.old (with_first w (length w.batches))
         → D.keeps_word (device_of from.now) → E.keeps_word (device_of to.new) → IsCopyFault fault) }
-    ensures word { E.keeps_word (device_of to.new) → E.keeps_word (device_of to.old) }
+    ensures word { KeptBefore E.Sectors to.old to.new }
 {
     let status = from.status()?;
     let views = views_in(alloc, &status.cuboids)?;
@@ -81,12 +81,11 @@ fn put_views<E: Sectors>(alloc: Global, to: &mut Session<E>, views: &[View]) -> 
     ensures ok { OnOk result ((w : Warehouse) → IsAt E.Sectors to.old w
         → (v : Warehouse) × IsKeptUp (with_views w views.now) v × IsAt E.Sectors to.new v
         × (E.keeps_word (device_of to.new) → AreBroughtOn v)) }
-    ensures leaves { (w : Warehouse) → IsAt E.Sectors to.old w
-        → Leaves (disk_of E.Sectors to.old) (disk_of E.Sectors to.new)
-        (λ c. Represents c w ⊎ ((v : Warehouse) × IsKeptUp (with_views w views.now) v × Represents c v)) }
+    ensures leaves { MayLeave E.Sectors to.old to.new
+        (λ w c. Represents c w ⊎ ((v : Warehouse) × IsKeptUp (with_views w views.now) v × Represents c v)) }
     ensures refused { IfErr result (λ fault. (w : Warehouse) → IsAt E.Sectors to.old w → E.keeps_word (device_of to.new)
         → IsCopyFault fault) }
-    ensures word { E.keeps_word (device_of to.new) → E.keeps_word (device_of to.old) }
+    ensures word { KeptBefore E.Sectors to.old to.new }
 {
     to.set_views(alloc, views)?;
     bring_on(alloc, to)
@@ -97,12 +96,10 @@ fn bring_on<E: Sectors>(alloc: Global, to: &mut Session<E>) -> Result<(), Fault>
     ensures ok { OnOk result ((w : Warehouse) → IsAt E.Sectors to.old w
         → (v : Warehouse) × IsKeptUp w v × IsAt E.Sectors to.new v
         × (E.keeps_word (device_of to.new) → AreBroughtOn v)) }
-    ensures leaves { (w : Warehouse) → IsAt E.Sectors to.old w
-        → Leaves (disk_of E.Sectors to.old) (disk_of E.Sectors to.new)
-        (λ c. (v : Warehouse) × IsKeptUp w v × Represents c v) }
+    ensures leaves { MayLeave E.Sectors to.old to.new (λ w c. (v : Warehouse) × IsKeptUp w v × Represents c v) }
     ensures refused { IfErr result (λ fault. (w : Warehouse) → IsAt E.Sectors to.old w → E.keeps_word (device_of to.new)
         → IsCopyFault fault) }
-    ensures word { E.keeps_word (device_of to.new) → E.keeps_word (device_of to.old) }
+    ensures word { KeptBefore E.Sectors to.old to.new }
 {
     match to.upkeep(alloc) {
         Ok(()) => Ok(()),

@@ -5,7 +5,7 @@ ghost use Rattle.object_store.specs.Disk.{disk, Each, IsBlank, Leaves, LeavesOrN
 ghost use Rattle.object_store.specs.Shows.{HasNone};
 ghost use Rattle.warehouse_objects.specs.Represents.{Represents};
 ghost use Rattle.warehouse_objects.specs.Warehouse.{Warehouse};
-ghost use Rattle.warehouse.specs.Session.{IsAt, device_of, disk_of, has_failed};
+ghost use Rattle.warehouse.specs.Session.{IsAt, KeptBefore, MayLeave, device_of, disk_of, has_failed};
 ghost use Rattle.warehouse_jobs.specs.Copied.{AreBroughtOn, HoldsPart, IsCopy, IsCopyFault, with_first};
 
 use crate::copied_batches::copy_batches;
@@ -34,12 +34,11 @@ pub fn copy<D: Sectors, E: Sectors>(
     device: E,
 ) -> Result<Session<E>, (Fault, E)>
     // The first warehouse stays as it is, at each moment.
-    ensures from_leaves { (w : Warehouse) → IsAt D.Sectors from.old w
-        → Leaves (disk_of D.Sectors from.old) (disk_of D.Sectors from.new) (λ c. Represents c w) }
+    ensures from_leaves { MayLeave D.Sectors from.old from.new (λ w c. Represents c w) }
     ensures from_stays { IfOk result (λ _. (w : Warehouse) → IsAt D.Sectors from.old w → IsAt D.Sectors from.new w) }
     ensures from_stays_err { IfErr result (λ e. e.0 ≢ Device → (w : Warehouse) → IsAt D.Sectors from.old w
         → IsAt D.Sectors from.new w) }
-    ensures from_word { D.keeps_word (device_of from.new) → D.keeps_word (device_of from.old) }
+    ensures from_word { KeptBefore D.Sectors from.old from.new }
 
     // Then the other one is at a copy.
     ensures ok { IfOk result (λ to. (w : Warehouse) → IsAt D.Sectors from.old w → D.keeps_word (device_of from.new)
@@ -86,8 +85,7 @@ fn tables_of<D: Sectors>(alloc: Global, from: &Session<D>) -> Result<Dims, Fault
     ensures ok { IfOk result (λ dims. (w : Warehouse) → IsAt D.Sectors from.now w → D.keeps_word (device_of from.now)
         → dims ≡ w.rows) }
     ensures refused { IfErr result (λ fault. (fault ≡ Memory) ⊎ ((fault ≡ Failed) × (has_failed from.now ≡ true))) }
-    ensures leaves { (w : Warehouse) → IsAt D.Sectors from.now w
-        → Leaves (disk_of D.Sectors from.now) (disk_of D.Sectors from.now) (λ c. Represents c w) }
+    ensures leaves { MayLeave D.Sectors from.now from.now (λ w c. Represents c w) }
 {
     if from.is_broken() {
         return Err(Fault::Failed);
@@ -101,8 +99,7 @@ fn copy_into<D: Sectors, E: Sectors>(
     from: &mut Session<D>,
     to: &mut Session<E>,
 ) -> Result<(), Fault>
-    ensures from_leaves { (w : Warehouse) → IsAt D.Sectors from.old w
-        → Leaves (disk_of D.Sectors from.old) (disk_of D.Sectors from.new) (λ c. Represents c w) }
+    ensures from_leaves { MayLeave D.Sectors from.old from.new (λ w c. Represents c w) }
     ensures from_stays { (IsErrOf result Device → ⊥) → (w : Warehouse) → IsAt D.Sectors from.old w
         → IsAt D.Sectors from.new w }
     ensures ok { OnOk result ((w : Warehouse) → IsAt D.Sectors from.old w → IsAt E.Sectors to.old (with_first w 0)
@@ -115,8 +112,8 @@ fn copy_into<D: Sectors, E: Sectors>(
     ensures refused { IfErr result (λ fault. (w : Warehouse) → IsAt D.Sectors from.old w
         → IsAt E.Sectors to.old (with_first w 0)
         → D.keeps_word (device_of from.new) → E.keeps_word (device_of to.new) → IsCopyFault fault) }
-    ensures from_word { D.keeps_word (device_of from.new) → D.keeps_word (device_of from.old) }
-    ensures word { E.keeps_word (device_of to.new) → E.keeps_word (device_of to.old) }
+    ensures from_word { KeptBefore D.Sectors from.old from.new }
+    ensures word { KeptBefore E.Sectors to.old to.new }
 {
     copy_batches(alloc, from, to)?;
     copy_cuboids(alloc, from, to)

@@ -4,12 +4,11 @@ ghost use Rattle.std.specs.Io.KnownBytes.{Keeps};
 ghost use Rattle.cube_model.specs.declared.fault.Fault.TheVariants.{Device, Failed};
 ghost use Rattle.cube_model.specs.declared.rows.LineOrder.{LineOrder};
 ghost use Rattle.cube_model.specs.Admission.{all_rows};
-ghost use Rattle.object_store.specs.Disk.{Leaves};
 ghost use Rattle.warehouse_objects.specs.Represents.{Represents};
 ghost use Rattle.warehouse_objects.specs.Warehouse.{Warehouse};
 ghost use Rattle.warehouse.specs.Comparing.{numbered};
 ghost use Rattle.warehouse.specs.Reads.{OnlyReads};
-ghost use Rattle.warehouse.specs.Session.{IsAt, device_of, disk_of, has_failed};
+ghost use Rattle.warehouse.specs.Session.{IsAt, KeptBefore, MayLeave, device_of, has_failed};
 ghost use Rattle.warehouse_jobs.specs.Dumped.{RowsAreWritten, RefusesAfter, DumpIsRefused};
 
 use cube_model::Fault;
@@ -31,8 +30,7 @@ pub fn write_batches<D: Sectors, W: Write>(
     out: &mut W,
 ) -> Result<(), Fault>
     // The warehouse stays as it is, at each moment.
-    ensures leaves { (w : Warehouse) → IsAt D.Sectors session.old w
-        → Leaves (disk_of D.Sectors session.old) (disk_of D.Sectors session.new) (λ c. Represents c w) }
+    ensures leaves { MayLeave D.Sectors session.old session.new (λ w c. Represents c w) }
     ensures stays { (IsErrOf result Device → ⊥) → (w : Warehouse) → IsAt D.Sectors session.old w
         → IsAt D.Sectors session.new w }
 
@@ -48,7 +46,7 @@ pub fn write_batches<D: Sectors, W: Write>(
     ensures failed { has_failed session.old ≡ true
         → IsErrOf result Failed × Keeps (W.contents out.old) (W.contents out.new) }
     ensures device { IsErrOf result Device → has_failed session.new ≡ true }
-    ensures word { D.keeps_word (device_of session.new) → D.keeps_word (device_of session.old) }
+    ensures word { KeptBefore D.Sectors session.old session.new }
 {
     let status = session.status()?;
     for before in 0..status.batches {

@@ -1,13 +1,12 @@
 //! The report of a query over a warehouse, in a layout.
-ghost use Rattle.std.specs.Prelude.{◌≡◌, true, Err};
-ghost use Rattle.std.specs.Io.KnownBytes.{Keeps};
+ghost use Rattle.std.specs.Prelude.{Err};
 ghost use Rattle.cube_model.specs.declared.fault.Fault.TheVariants.{Failed};
-ghost use Rattle.object_store.specs.Disk.{Leaves};
 ghost use Rattle.report_formats.specs.Fields.{formatted};
 ghost use Rattle.warehouse_objects.specs.Warehouse.{Warehouse};
 ghost use Rattle.warehouse_objects.specs.Represents.{Represents};
-ghost use Rattle.warehouse.specs.Session.{device_of, disk_of, has_failed, IsAt};
+ghost use Rattle.warehouse.specs.Session.{IsAt, KeptBefore, MayLeave, device_of};
 ghost use Rattle.warehouse_jobs.specs.Reporting.{AnswersByModes, ReportsIn};
+ghost use Rattle.warehouse_jobs.specs.Failing.{FailsAtOnce};
 
 use crate::answering::answered;
 use crate::reporting::batches_asked;
@@ -36,9 +35,8 @@ pub fn report_formatted<D: Sectors, W: Write>(
         result }
 
     // Where the device failed in an earlier call, nothing is done.
-    ensures failed { has_failed session.old ≡ true → (result ≡ Err Failed) × (session.new ≡ session.old)
-        × Keeps (W.contents out.old) (W.contents out.new) }
-    ensures word { D.keeps_word (device_of session.new) → D.keeps_word (device_of session.old) }
+    ensures failed { FailsAtOnce D.Sectors session.old session.new (W.contents out.old) (W.contents out.new) result }
+    ensures word { KeptBefore D.Sectors session.old session.new }
 {
     if session.is_broken() {
         return Err(Fault::Failed);
@@ -58,9 +56,8 @@ fn formatted_over<D: Sectors, W: Write>(
     ensures ends { (w : Warehouse) → IsAt D.Sectors session.old w → D.keeps_word (device_of session.new)
         → AnswersByModes (formatted asked.now) D.Sectors w count asked.now.query session.new (W.contents out.old)
         (W.contents out.new) result }
-    ensures leaves { (w : Warehouse) → IsAt D.Sectors session.old w
-        → Leaves (disk_of D.Sectors session.old) (disk_of D.Sectors session.new) (λ c. Represents c w) }
-    ensures word { D.keeps_word (device_of session.new) → D.keeps_word (device_of session.old) }
+    ensures leaves { MayLeave D.Sectors session.old session.new (λ w c. Represents c w) }
+    ensures word { KeptBefore D.Sectors session.old session.new }
 {
     let found = answered(alloc, session, count, &asked.query)?;
     let lines = found.lines();

@@ -1,9 +1,9 @@
 //! Keeping stored cuboids up to date, and auditing them.
-ghost use Rattle.std.specs.Prelude.{◌≡◌, ◌↔◌, All, IsTrue, IfOk};
+ghost use Rattle.std.specs.Prelude.{◌↔◌, All, IsTrue, IfOk};
 ghost use Rattle.std.specs.Io.KnownBytes.{Appends};
 ghost use Rattle.warehouse_objects.specs.Warehouse.{Warehouse};
 ghost use Rattle.stored_cuboids.specs.Merged.{IsSound};
-ghost use Rattle.warehouse.specs.Session.{device_of, IsAt};
+ghost use Rattle.warehouse.specs.Session.{IsAt, KeptBefore, device_of};
 ghost use Rattle.warehouse.specs.Upkeep.{IsLaidAt};
 ghost use Rattle.warehouse_jobs.specs.Cuboids.{Audits, KeepsUp};
 ghost use Rattle.warehouse_jobs.specs.Printed.{audit_text};
@@ -23,7 +23,7 @@ pub(crate) fn keep_up<D: Sectors, W: Write>(
 ) -> Result<(), Fault>
     ensures keeps { (w : Warehouse) → IsAt D.Sectors session.old w → D.keeps_word (device_of session.new)
         → KeepsUp D.Sectors w session.old session.new (W.contents out.old) (W.contents out.new) result }
-    ensures word { D.keeps_word (device_of session.new) → D.keeps_word (device_of session.old) }
+    ensures word { KeptBefore D.Sectors session.old session.new }
 {
     session.upkeep(alloc)?;
     write_upkeep(out)
@@ -41,7 +41,7 @@ pub(crate) fn audit<D: Sectors, W: Write>(
         → D.keeps_word (device_of session.new)
         → IsTrue yes ↔ All (IsSound w) w.cuboids) }
     ensures text { IfOk result (λ yes. Appends (W.contents out.old) (W.contents out.new) (audit_text yes)) }
-    ensures word { D.keeps_word (device_of session.new) → D.keeps_word (device_of session.old) }
+    ensures word { KeptBefore D.Sectors session.old session.new }
 {
     let yes = session.audit(alloc)?;
     write_audit(out, yes)?;

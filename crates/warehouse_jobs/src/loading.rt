@@ -10,7 +10,7 @@ ghost use Rattle.ssb_eval.specs.Tables.{IsInNoRow};
 ghost use Rattle.ssb_reports.specs.Writing.{Writes};
 ghost use Rattle.warehouse_objects.specs.Warehouse.{Warehouse};
 ghost use Rattle.warehouse.specs.Growing.{CanGrow, Grows, IsOfSession};
-ghost use Rattle.warehouse.specs.Session.{device_of, IsAt};
+ghost use Rattle.warehouse.specs.Session.{IsAt, KeptBefore, device_of};
 ghost use Rattle.warehouse_jobs.specs.Loading.{DoesBatch, Loads, LoadIsRefused, DeviceTakesBatch};
 ghost use Rattle.warehouse_jobs.specs.Steps.{Steps};
 ghost use Rattle.warehouse_jobs.specs.Printed.{count_line};
@@ -120,7 +120,7 @@ pub fn load<D: Sectors, R: Read + Drop, W: Write>(
         → D.keeps_word (device_of session.new)
         → Keeps text lineorder.old.lines.left → lineorder.old.lines.number ≡ 0 → lineorder.old.lines.fault ≡ None
         → Loads D.Sectors w first rows text session.old session.new (W.contents out.old) (W.contents out.new) result }
-    ensures word { D.keeps_word (device_of session.new) → D.keeps_word (device_of session.old) }
+    ensures word { KeptBefore D.Sectors session.old session.new }
 
     // After a refusal the text has the line that is refused, or a key that is in no row of its dimension.
     ensures line { lineorder.old.lines.fault ≡ None → KeepsLine lineorder_row lineorder.new.lines }
@@ -147,7 +147,7 @@ pub(crate) fn load_from<D: Sectors, R: Read + Drop, W: Write>(
     ensures loads { (w : Warehouse) → IsAt D.Sectors session.old w → D.keeps_word (device_of session.new)
         → Loads D.Sectors w first rows (R.remaining lineorder) session.old session.new (W.contents out.old)
         (W.contents out.new) result }
-    ensures word { D.keeps_word (device_of session.new) → D.keeps_word (device_of session.old) }
+    ensures word { KeptBefore D.Sectors session.old session.new }
 {
     let mut text = LoadText::new(alloc, lineorder)?;
     load(alloc, session, first, rows, &mut text, out)
@@ -171,7 +171,7 @@ fn load_lines<D: Sectors, R: Read, W: Write>(
         → lines.old.number ≡ 0
         → D.keeps_word (device_of session.new)
         → Loads D.Sectors w first size text session.old session.new (W.contents out.old) (W.contents out.new) result }
-    ensures word { D.keeps_word (device_of session.new) → D.keeps_word (device_of session.old) }
+    ensures word { KeptBefore D.Sectors session.old session.new }
     ensures line { KeepsLine lineorder_row lines.new }
     ensures unknown { (w : Warehouse) → IsAt D.Sectors session.old w → D.keeps_word (device_of session.new)
         → lines.old.number ≡ 0 → kept.old.unknown ≡ None → IfSome kept.new.unknown (IsInNoRow w.rows) }
@@ -206,7 +206,7 @@ fn load_next<D: Sectors, R: Read, W: Write>(
     ensures line { KeepsLine lineorder_row lines.new }
     ensures unknown { (w : Warehouse) → IsAt D.Sectors session.old w → D.keeps_word (device_of session.new)
         → IfSome kept.old.unknown (IsInNoRow w.rows) → IfSome kept.new.unknown (IsInNoRow w.rows) }
-    ensures word { D.keeps_word (device_of session.new) → D.keeps_word (device_of session.old) }
+    ensures word { KeptBefore D.Sectors session.old session.new }
 {
     let batch = next_batch(alloc, session, lines, size, &mut kept.unknown)?;
     kept.rows = batch.row_count();
@@ -324,7 +324,7 @@ fn load_batch<D: Sectors, W: Write>(
     ensures does { (w : Warehouse) (rows : List LineOrder) → IsAt D.Sectors session.old w
         → Grows session.old rows batch.now → D.keeps_word (device_of session.new)
         → DoesBatch D.Sectors w number rows session.old session.new (W.contents out.old) (W.contents out.new) result }
-    ensures word { D.keeps_word (device_of session.new) → D.keeps_word (device_of session.old) }
+    ensures word { KeptBefore D.Sectors session.old session.new }
 {
     let taken = take_in(alloc, session, number, batch)?;
     write_batch(out, number, batch.row_count() as usize, taken)
@@ -345,7 +345,7 @@ fn take_in<D: Sectors>(
     ensures refused { IfErr result (λ fault. (w : Warehouse) (rows : List LineOrder) → IsAt D.Sectors session.old w
         → Grows session.old rows batch.now → D.keeps_word (device_of session.new)
         → LoadIsRefused D.Sectors w number rows session.old session.new fault) }
-    ensures word { D.keeps_word (device_of session.new) → D.keeps_word (device_of session.old) }
+    ensures word { KeptBefore D.Sectors session.old session.new }
 {
     if number > session.status()?.batches {
         session.submit_batch(alloc, number, batch)?;

@@ -1,7 +1,6 @@
 //! Moving a warehouse to the second layout.
-ghost use Rattle.std.specs.Prelude.{◌≡◌};
 ghost use Rattle.warehouse_objects.specs.Warehouse.{Warehouse};
-ghost use Rattle.warehouse.specs.Session.{device_of, IsAt};
+ghost use Rattle.warehouse.specs.Session.{IsAt, KeptBefore, device_of};
 ghost use Rattle.warehouse_jobs.specs.Migrating.{Migrates};
 
 use crate::printing::write_second_layout;
@@ -19,7 +18,7 @@ pub(crate) fn migrate<D: Sectors, W: Write>(
 ) -> Result<(), Fault>
     ensures migrates { (w : Warehouse) → IsAt D.Sectors session.old w → D.keeps_word (device_of session.new)
         → Migrates D.Sectors w session.old session.new (W.contents out.old) (W.contents out.new) result }
-    ensures word { D.keeps_word (device_of session.new) → D.keeps_word (device_of session.old) }
+    ensures word { KeptBefore D.Sectors session.old session.new }
 {
     session.migrate(alloc)?;
     write_second_layout(out)

@@ -1,13 +1,14 @@
 //! A job on an open warehouse.
-ghost use Rattle.std.specs.Prelude.{◌≡◌, ◌↔◌, ℕ, true, All, List, Some, Ok, Err, IfOk, IsTrue, MatchResult};
-ghost use Rattle.std.specs.Io.KnownBytes.{Appends, Keeps};
+ghost use Rattle.std.specs.Prelude.{◌≡◌, ◌↔◌, true, All, Ok, Err, IfOk, IsTrue, MatchResult};
+ghost use Rattle.std.specs.Io.KnownBytes.{Appends};
 ghost use Rattle.cube_model.specs.declared.fault.Fault.TheVariants.{Failed};
 ghost use Rattle.warehouse_objects.specs.Warehouse.{Warehouse};
-ghost use Rattle.warehouse.specs.Session.{has_failed, device_of, IsAt};
+ghost use Rattle.warehouse.specs.Session.{IsAt, KeptBefore, device_of};
 ghost use Rattle.stored_cuboids.specs.Merged.{IsSound};
 ghost use Rattle.warehouse.specs.Upkeep.{IsLaidAt};
 ghost use Rattle.warehouse_jobs.specs.Jobs.{MayAnswerNo, Performs};
 ghost use Rattle.warehouse_jobs.specs.Printed.{audit_text};
+ghost use Rattle.warehouse_jobs.specs.Failing.{FailsAtOnce};
 
 use crate::choosing::{choose, choose_for};
 use crate::job::Job;
@@ -57,9 +58,8 @@ pub fn perform<D: Sectors, R: Read + Drop, W: Write>(
         → IfOk result (λ answer. Appends (W.contents out.old) (W.contents out.new) (audit_text answer)) }
 
     // Where the device failed in an earlier call, nothing is done.
-    ensures failed { has_failed session.old ≡ true → (result ≡ Err Failed) × (session.new ≡ session.old)
-        × Keeps (W.contents out.old) (W.contents out.new) }
-    ensures word { D.keeps_word (device_of session.new) → D.keeps_word (device_of session.old) }
+    ensures failed { FailsAtOnce D.Sectors session.old session.new (W.contents out.old) (W.contents out.new) result }
+    ensures word { KeptBefore D.Sectors session.old session.new }
 {
     if session.is_broken() {
         return Err(Fault::Failed);
@@ -85,7 +85,7 @@ fn do_job<D: Sectors, R: Read + Drop, W: Write>(
         → IsTrue answer ↔ All (IsSound w) w.cuboids) }
     ensures printed { MayAnswerNo job
         → IfOk result (λ answer. Appends (W.contents out.old) (W.contents out.new) (audit_text answer)) }
-    ensures word { D.keeps_word (device_of session.new) → D.keeps_word (device_of session.old) }
+    ensures word { KeptBefore D.Sectors session.old session.new }
 {
     match job {
         Job::Load { first, rows } => yes(load_from(alloc, session, first, rows, lineorder, out)),

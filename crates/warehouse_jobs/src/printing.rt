@@ -1,5 +1,5 @@
 //! The lines of jobs.
-ghost use Rattle.std.specs.Prelude.{◌≡◌, ℕ, List};
+ghost use Rattle.std.specs.Prelude.{◌≡◌, ℕ};
 ghost use Rattle.std.specs.List.{flat_map};
 ghost use Rattle.lattice.specs.Names.{fifth_part, view_text};
 ghost use Rattle.ssb_reports.specs.Writing.{Writes};

@@ -1,11 +1,10 @@
 //! The report of a query over a warehouse.
 ghost use Rattle.std.specs.Prelude.{◌≡◌, true, IfOk, IfErr};
 ghost use Rattle.cube_model.specs.declared.fault.Fault.TheVariants.{Failed};
-ghost use Rattle.object_store.specs.Disk.{Leaves};
 ghost use Rattle.ssb_reports.specs.Report.{report_of};
 ghost use Rattle.warehouse_objects.specs.Warehouse.{Warehouse};
 ghost use Rattle.warehouse_objects.specs.Represents.{Represents};
-ghost use Rattle.warehouse.specs.Session.{device_of, disk_of, has_failed, IsAt};
+ghost use Rattle.warehouse.specs.Session.{IsAt, KeptBefore, MayLeave, device_of, has_failed};
 ghost use Rattle.warehouse_jobs.specs.Reporting.{WritesAnswer, Reports, batches_asked};
 
 use cube_model::{Fault, Query};
@@ -25,7 +24,7 @@ pub(crate) fn report<D: Sectors, W: Write>(
 ) -> Result<(), Fault>
     ensures reports { (w : Warehouse) → IsAt D.Sectors session.old w → D.keeps_word (device_of session.new)
         → Reports D.Sectors w as_of query.now session.old session.new (W.contents out.old) (W.contents out.new) result }
-    ensures word { D.keeps_word (device_of session.new) → D.keeps_word (device_of session.old) }
+    ensures word { KeptBefore D.Sectors session.old session.new }
 {
     let count = batches_asked(session, as_of)?;
     report_over(alloc, session, count, query, out)
@@ -42,9 +41,8 @@ fn report_over<D: Sectors, W: Write>(
     ensures ends { (w : Warehouse) → IsAt D.Sectors session.old w → D.keeps_word (device_of session.new)
         → WritesAnswer (report_of query.now) D.Sectors w count query.now session.new (W.contents out.old)
         (W.contents out.new) result }
-    ensures leaves { (w : Warehouse) → IsAt D.Sectors session.old w
-        → Leaves (disk_of D.Sectors session.old) (disk_of D.Sectors session.new) (λ c. Represents c w) }
-    ensures word { D.keeps_word (device_of session.new) → D.keeps_word (device_of session.old) }
+    ensures leaves { MayLeave D.Sectors session.old session.new (λ w c. Represents c w) }
+    ensures word { KeptBefore D.Sectors session.old session.new }
 {
     let found = session.query_groups(alloc, count, query)?;
     let lines = found.lines();

@@ -1,5 +1,4 @@
 //! The numbers of a warehouse.
-ghost use Rattle.std.specs.Prelude.{◌≡◌};
 ghost use Rattle.warehouse_objects.specs.Warehouse.{Warehouse};
 ghost use Rattle.warehouse.specs.Session.{device_of, IsAt};
 ghost use Rattle.warehouse_jobs.specs.Reporting.{Tells};

@@ -1,5 +1,5 @@
 //! The root of a warehouse.
-ghost use Rattle.std.specs.Prelude.{◌≡◌, ◌⊎◌, ◌≤◌, ◌<◌, List, [], ◌∷◌, ◌++◌, length, All, IfErr, IfOk, OnOk};
+ghost use Rattle.std.specs.Prelude.{◌≡◌, ◌⊎◌, ◌≤◌, ◌<◌, [], ◌∷◌, ◌++◌, length, All, IfErr, IfOk, OnOk};
 ghost use Rattle.cube_model.specs.declared.fault.Fault.{Fault};
 ghost use Rattle.cube_model.specs.Limits.{most_batch_rows, most_batches};
 ghost use Rattle.warehouse_root.specs.Limits.{most_additions, most_cuboids};

@@ -1,5 +1,5 @@
 -- What a run of reads leaves of a source. Our own.
-use Rattle.std.specs.Prelude.{◌≡◌, ℕ}
+use Rattle.std.specs.Prelude.{◌≡◌, ◌⊎◌, ℕ, Result, MatchResult}
 use Rattle.cube_model.specs.declared.fault.Fault.{Fault}
 use Rattle.wire.specs.Parts.{IsReadFault}
 use Rattle.wire.specs.declared.source.Source.{Ghosts}
@@ -21,3 +21,12 @@ pub record IsRefused {S : Type 0} (g : Ghosts S) (fault : Fault) (old new : S) :
   pub stays : Stays g old new
   pub cause : IsReadFault fault
   pub run : g.fails fault old new
+
+-- what a call answers that reads of a source and does nothing else to it: where it is refused, the last read was
+abbrev pub ReadsSource : {S A : Type 0} → Ghosts S → S → S → Result A Fault → Type 0
+ReadsSource g old new result = MatchResult result (λ _. HasRead g old new) (λ fault. IsRefused g fault old new)
+
+-- the same of a call that may also be refused for causes of its own
+abbrev pub ReadsSourceOr : {S A : Type 0} → Ghosts S → (Fault → Type 0) → S → S → Result A Fault → Type 0
+ReadsSourceOr g Own old new result = MatchResult result (λ _. HasRead g old new)
+    (λ fault. (Own fault × HasRead g old new) ⊎ IsRefused g fault old new)

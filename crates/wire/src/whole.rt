@@ -1,7 +1,7 @@
 //! Reading whole texts from a source.
-ghost use Rattle.std.specs.Prelude.{◌≡◌, ◌⊎◌, Some, length, option_map, vec_len, IfOk, OnOk, MatchResult};
+ghost use Rattle.std.specs.Prelude.{◌≡◌, Some, length, option_map, vec_len, IfOk, OnOk};
 ghost use Rattle.cube_model.specs.declared.fault.Fault.{Fault};
-ghost use Rattle.wire.specs.Runs.{HasRead, IsRefused};
+ghost use Rattle.wire.specs.Runs.{ReadsSourceOr};
 
 use crate::part::read_part;
 use crate::source::Source;
@@ -21,9 +21,7 @@ pub fn read_whole<S: Source>(
 ) -> Result<Option<Vec<u8>>, Fault>
     ensures found { IfOk result (λ found. S.keeps_word source.new
         → option_map (λ bytes. bytes.items) found ≡ S.texts source.old id) }
-    ensures run { MatchResult result (λ _. HasRead S.Source source.old source.new)
-        (λ fault. ((fault ≡ Fault.Memory) × HasRead S.Source source.old source.new)
-        ⊎ IsRefused S.Source fault source.old source.new) }
+    ensures run { ReadsSourceOr S.Source (λ fault. fault ≡ Fault.Memory) source.old source.new result }
 {
     let Some(total) = source.total(id) else {
         return Ok(None);
@@ -45,9 +43,7 @@ fn read_to_end<S: Source>(
     ensures found { OnOk result
         (S.keeps_word source.new → S.totals source.old id ≡ option_map length (S.texts source.old id)
         → Some out.new.items ≡ S.texts source.old id) }
-    ensures run { MatchResult result (λ _. HasRead S.Source source.old source.new)
-        (λ fault. ((fault ≡ Fault.Memory) × HasRead S.Source source.old source.new)
-        ⊎ IsRefused S.Source fault source.old source.new) }
+    ensures run { ReadsSourceOr S.Source (λ fault. fault ≡ Fault.Memory) source.old source.new result }
 {
     let mut buffer = [0; PART];
     let mut at = 0;

@@ -8,7 +8,7 @@ use cuboid_cells::{Cell, Cells, Key, Summaries, Summary};
 use cuboid_upkeep::GrowingCells;
 use dictionary::Dictionary;
 use dimensions::Dims;
-use group_plan::RowSlice;
+use group_numbers::RowSlice;
 use lattice::View;
 use sample_star::{FACTS, FIRST_FACT, Fact, SECOND_FACT, STAR, THIRD_FACT, dim_rows, line_orders};
 use std::alloc::Global;

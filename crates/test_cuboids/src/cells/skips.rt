@@ -1,5 +1,5 @@
 //! Cells of a run that are passed over, and what is read of the run then.
-ghost use Rattle.std.specs.Prelude.{◌≡◌, Some, IfOk};
+ghost use Rattle.std.specs.Prelude.{◌≡◌, Some};
 ghost use Rattle.cuboid_cells.specs.Pieces.{size_of_run};
 
 use crate::cells::sample::{FIRST, run};

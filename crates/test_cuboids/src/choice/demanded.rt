@@ -1,6 +1,4 @@
 //! Choices for some views that are asked for, worked out by hand.
-ghost use Rattle.std.specs.Prelude.{◌≤◌, length};
-ghost use Rattle.view_choice.specs.Cuboids.{most_demanded, most_fact_rows};
 
 use crate::choice::numbered::views_of;
 use cube_model::Fault;

@@ -1,17 +1,23 @@
+use Rattle.std.proofs.Common.{arith}
+use Rattle.std.proofs.lemmas.Grind.{common_steps}
 use Rattle.std.proofs.lemmas.Result.{err_from_is_err_and}
 use Rattle.batch_loader.specs.Columns.{row_of}
-use Rattle.batch_loader.specs.Reading.{RefusesBatch}
-use Rattle.batch_loader.proofs.TakingRows.{IsTaking-push, IsTaking-refused, IfErr-from}
+use Rattle.batch_loader.specs.Reading.{PushesNext, RefusesBatch, RefusesRow, TakesBatch}
+use Rattle.batch_loader.proofs.TakingRows.{AnswersRows-refused, IsTaking-push, IsTaking-refused}
 use Rattle.batch_loader.proofs.tables.read_rows.Goals as goal
 
-pub returns-in_err-push_row-clause-refused : goal.returns-in_err-push_row-clause-refused
-returns-in_err-push_row-clause-refused g c = λ none.
-    IfErr-from c.from_residual.result _
-    (RefusesBatch (row_of g.T.TableRow.columns g.T.TableRow.of_fields) c.args.max c.args.lines.now)
-    (err_from_is_err_and _ c.from_residual.ensures.1)
-    (IsTaking-refused (row_of g.T.TableRow.columns g.T.TableRow.of_fields) c.args.max c.args.lines.now c.loop.lines
-    c.loop.rows c.loop.counter _ c.loop-test.true (c.in_err-push_row.ensures.refused c.loop.invariant.fault)
-    c.loop.invariant)
+pub returns-in_err-push_row : goal.returns-in_err-push_row
+returns-in_err-push_row g c =
+    let row = row_of g.T.TableRow.columns g.T.TableRow.of_fields in
+    let p = err_from_is_err_and c.from_residual.result c.from_residual.ensures.1 in
+    rw (p.1, p.2)
+    (AnswersRows-refused row (PushesNext row c.loop.lines c.push_row.new.lines c.loop.rows c.push_row.new.rows)
+    (TakesBatch row c.args.max c.args.lines.now c.push_row.new.lines) (RefusesRow row c.loop.lines)
+    (RefusesBatch row c.args.max c.args.lines.now) c.args.lines.now c.loop.lines c.push_row.new.lines _
+    (grind (arith, common_steps))
+    (λ none refused. IsTaking-refused row c.args.max c.args.lines.now c.loop.lines c.loop.rows c.loop.counter _
+    c.loop-test.true refused c.loop.invariant)
+    c.in_err-push_row.ensures)
 
 pub loop-preserved : goal.loop-preserved
 loop-preserved g c =

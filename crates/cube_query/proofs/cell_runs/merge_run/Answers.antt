@@ -9,7 +9,7 @@ use Rattle.cuboid_cells.specs.Spelled.{cell_bytes}
 use Rattle.cuboid_cells.specs.declared.cell.Cell.{Cell}
 use Rattle.cuboid_cells.specs.declared.head.RunHead.{RunHead}
 use Rattle.lattice.specs.declared.view.View.{View}
-use Rattle.group_plan.specs.Numbers.{group_count}
+use Rattle.group_numbers.specs.Numbers.{group_count}
 use Rattle.cube_query.specs.CellSlots.{AreMergedIn, HaveNoRepresentative}
 use Rattle.cube_query.specs.CellTallies.{GroupsHaveRoomFor}
 use Rattle.group_tallies.specs.Slots.{entries_of, Grow}

@@ -2,7 +2,7 @@ use Rattle.std.proofs.Common.{◌≡◌, ◌-◌, ◌≤◌, ℕ, List, length}
 use Rattle.wire.specs.Runs.{HasRead}
 use Rattle.cuboid_cells.specs.Pieces.{AreLeft}
 use Rattle.cuboid_cells.specs.declared.cell.Cell.{Cell}
-use Rattle.group_plan.specs.Numbers.{group_count}
+use Rattle.group_numbers.specs.Numbers.{group_count}
 use Rattle.group_tallies.specs.Columns.{tallies_at}
 use Rattle.group_tallies.specs.Slots.{entries_of, Cover, Grow}
 use Rattle.cube_query.proofs.CellRunsLemmas.{AreMergedTo}

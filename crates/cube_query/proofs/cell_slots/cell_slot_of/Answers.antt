@@ -1,5 +1,5 @@
 use Rattle.std.proofs.Common.{subst}
-use Rattle.group_plan.specs.Numbers.{group_count}
+use Rattle.group_numbers.specs.Numbers.{group_count}
 use Rattle.cuboid_upkeep.specs.CellNumbers.{IsCellNumber}
 use Rattle.group_tallies.specs.Slots.{entries_of}
 use Rattle.group_tallies.proofs.Placing.{Grow-place}

@@ -7,7 +7,7 @@ use Rattle.cube_model.specs.declared.fault.Fault.TheVariants.{BadLayout}
 use Rattle.cuboid_cells.specs.declared.cell.Cell.{Cell}
 use Rattle.cube_query.specs.CellSlots.{AreMergedIn}
 use Rattle.cuboid_upkeep.specs.CellNumbers.{AskedOfCells}
-use Rattle.group_plan.specs.Numbers.{group_count}
+use Rattle.group_numbers.specs.Numbers.{group_count}
 use Rattle.group_tallies.specs.Slots.{entries_of, Grow}
 use Rattle.group_tallies.specs.declared.slots.Slots.{Slots}
 use Rattle.group_tallies.specs.declared.tally.Tally.{Tally}

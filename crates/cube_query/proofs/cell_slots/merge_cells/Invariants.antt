@@ -1,5 +1,5 @@
 use Rattle.std.proofs.Common.{◌≡◌, ℕ, ◌≤◌, List, length, take}
-use Rattle.group_plan.specs.Numbers.{group_count}
+use Rattle.group_numbers.specs.Numbers.{group_count}
 use Rattle.cube_query.specs.CellSlots.{AreMergedIn}
 use Rattle.group_tallies.specs.Columns.{tallies_at}
 use Rattle.group_tallies.specs.Slots.{entries_of, Cover, Grow}

@@ -3,7 +3,7 @@ use Rattle.std.proofs.lemmas.Result.{err_from_is_err_and}
 use Rattle.std.specs.declared.alloc.Global.{Global}
 use Rattle.std.specs.declared.vec.Vec.{Vec}
 use Rattle.cube_model.specs.declared.fault.Fault.TheVariants.{BadLayout}
-use Rattle.group_plan.specs.Numbers.{group_count}
+use Rattle.group_numbers.specs.Numbers.{group_count}
 use Rattle.cube_query.specs.CellTallies.{GroupsHaveRoomFor}
 use Rattle.group_tallies.specs.Slots.{entries_of, Grow}
 use Rattle.group_tallies.specs.declared.slots.Slots.{Slots}

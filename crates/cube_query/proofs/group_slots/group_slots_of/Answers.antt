@@ -1,6 +1,6 @@
 use Rattle.std.proofs.Common.{◌≡◌, ◌+◌, ◌++◌, ◌∷◌, ◌<◌, [], sym, subst, take, length, arith}
 use Rattle.std.proofs.lemmas.List.{take_more}
-use Rattle.group_plan.specs.Rows.{no_row, row_at}
+use Rattle.group_numbers.specs.Rows.{no_row, row_at}
 use Rattle.group_tallies.specs.Slots.{entries_of}
 use Rattle.group_tallies.specs.FoldInvariant.{AreGroupSlots}
 use Rattle.group_tallies.proofs.Marking.{AreGroupSlots-keep, AreGroupSlots-push}
@@ -8,8 +8,8 @@ use Rattle.cube_query.proofs.group_slots.group_slots_of.Goals as goal
 
 pub loop-place-preserved : goal.loop-place-preserved
 loop-place-preserved g c =
-    let dimensions = c.args.plan.now.dimensions in
-    let query = c.args.plan.now.query in
+    let dimensions = c.args.grouping.now.dimensions in
+    let query = c.args.grouping.now.query in
     let place = c.loop-place.place in
     let all = g.F.FactRows.rows c.args.rows.now in
     let row = row_at all place in

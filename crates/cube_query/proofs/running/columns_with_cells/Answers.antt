@@ -6,7 +6,7 @@ use Rattle.cuboid_cells.specs.declared.cell.Cell.{Cell}
 use Rattle.cuboid_upkeep.specs.CellNumbers.{AskedOfCells}
 use Rattle.cuboid_upkeep.specs.Codes.{modes_of}
 use Rattle.cuboid_upkeep.proofs.Represented.{represents_among}
-use Rattle.group_plan.specs.Plans.{query_of}
+use Rattle.group_numbers.specs.GroupNumbers.{query_of}
 use Rattle.cube_query.specs.CellSlots.{HaveNoRepresentative, asked_of}
 use Rattle.cube_query.specs.CellTallies.{GroupsHaveRoomFor}
 use Rattle.group_tallies.specs.Slots.{entries_of}
@@ -16,7 +16,7 @@ pub returns-clause-refused : goal.returns-clause-refused
 returns-clause-refused c bad rows represent known room =
     let dims = c.args.dims.now in
     let plain = c.args.cells.now in
-    let query = query_of c.args.plan.now in
+    let query = query_of c.args.grouping.now in
     let entries = entries_of c.with_cells.new.slots in
     let columns = c.args.columns.now in
     let modes : List (List ℕ) = modes_of (option_map (λ modes. modes.now) c.args.modes) in

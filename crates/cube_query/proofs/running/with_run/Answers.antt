@@ -4,7 +4,7 @@ use Rattle.cube_model.specs.declared.measure.Agg.{Agg}
 use Rattle.cuboid_cells.specs.declared.head.RunHead.{RunHead}
 use Rattle.cuboid_upkeep.specs.CellNumbers.{AskedOfCells}
 use Rattle.cuboid_upkeep.specs.Codes.{modes_of}
-use Rattle.group_plan.specs.Plans.{query_of}
+use Rattle.group_numbers.specs.GroupNumbers.{query_of}
 use Rattle.cube_query.specs.CellSlots.{HaveNoRepresentative, asked_of}
 use Rattle.cube_query.specs.CellTallies.{GroupsHaveRoomFor}
 use Rattle.group_tallies.specs.Slots.{entries_of}
@@ -13,7 +13,7 @@ use Rattle.cube_query.proofs.running.with_run.Goals as goal
 pub returns-clause-refused : goal.returns-clause-refused
 returns-clause-refused g c = λ bad keeps cells left.
     let dims = c.args.dims.now in
-    let query = query_of c.args.plan.now in
+    let query = query_of c.args.grouping.now in
     let entries = entries_of c.merge_run.new.slots in
     let modes : List (List ℕ) = modes_of (option_map (λ modes. modes.now) c.args.modes) in
     let aggregates = c.as_slice-aggregates.ensures ∙ ap (λ q. q.aggregates) c.query.ensures in

@@ -1,5 +1,5 @@
 use Rattle.std.proofs.Common.{◌≡◌, ◌∙◌, subst, arith, ℕ, length, length-set}
-use Rattle.group_plan.specs.Rows.{no_row}
+use Rattle.group_numbers.specs.Rows.{no_row}
 use Rattle.cuboid_upkeep.specs.Keys.{AreRowKeys}
 use Rattle.cuboid_upkeep.proofs.Tables.{one_key_more}
 use Rattle.cuboid_upkeep.proofs.keys.put_keys.Goals as goal

@@ -1,4 +1,4 @@
-use Rattle.group_plan.specs.Rows.{row_at}
+use Rattle.group_numbers.specs.Rows.{row_at}
 use Rattle.cube_model.specs.declared.attr.Axis.TheVariants.{Customer, Supplier, Part, Date}
 use Rattle.cuboid_upkeep.proofs.Rows.{is_row_key}
 use Rattle.cuboid_upkeep.proofs.OwnModes.{fifth_code}

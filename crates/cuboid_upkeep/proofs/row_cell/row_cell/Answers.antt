@@ -1,5 +1,5 @@
 use Rattle.std.proofs.Common.{[], ◌∷◌, inr, refl}
-use Rattle.group_plan.specs.Rows.{row_at}
+use Rattle.group_numbers.specs.Rows.{row_at}
 use Rattle.cuboid_upkeep.specs.Grouping.{key_of, summaries_over}
 use Rattle.cuboid_upkeep.proofs.row_cell.row_cell.Goals as goal
 

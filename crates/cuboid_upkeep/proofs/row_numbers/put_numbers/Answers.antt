@@ -1,5 +1,5 @@
 use Rattle.std.proofs.Common.{◌≡◌, subst, arith, ℕ, length}
-use Rattle.group_plan.specs.Rows.{no_row}
+use Rattle.group_numbers.specs.Rows.{no_row}
 use Rattle.cuboid_upkeep.specs.Keys.{AreRowNumbers}
 use Rattle.cuboid_upkeep.proofs.Tables.{one_number_more}
 use Rattle.cuboid_upkeep.proofs.row_numbers.put_numbers.Goals as goal

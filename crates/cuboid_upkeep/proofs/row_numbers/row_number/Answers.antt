@@ -1,5 +1,5 @@
 use Rattle.std.proofs.Common.{[]}
-use Rattle.group_plan.specs.Rows.{row_at}
+use Rattle.group_numbers.specs.Rows.{row_at}
 use Rattle.cuboid_upkeep.proofs.OwnModes.{every_mode}
 use Rattle.cuboid_upkeep.proofs.row_numbers.row_number.Goals as goal
 

@@ -1,6 +1,6 @@
 use Rattle.std.proofs.Common.{◌≡◌, ◌<◌, ◌∙◌, [], sym, ap, subst, ℕ, length, length-set, slice_index, arith}
 use Rattle.std.proofs.lemmas.Result.{err_from_is_err_and}
-use Rattle.group_plan.specs.Rows.{row_at}
+use Rattle.group_numbers.specs.Rows.{row_at}
 use Rattle.cuboid_upkeep.specs.Numbers.{key_place}
 use Rattle.cuboid_upkeep.specs.Slots.{IsTaken, PassesAt, TakesAt, taken}
 use Rattle.cuboid_upkeep.proofs.Rows.{none_fits}

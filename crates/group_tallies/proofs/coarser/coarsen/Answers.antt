@@ -9,13 +9,13 @@ use Rattle.group_tallies.proofs.Columnwise.{as_many_columns}
 use Rattle.group_tallies.proofs.CoarserLemmas.{Apart-sorted, can_merge, may_merge, passed, room_to_merge, part_of}
 use Rattle.group_tallies.proofs.CoarserLemmas.{AreTargets-length}
 use Rattle.group_tallies.proofs.Seen.{each_number, All-numbers}
-use Rattle.group_plan.specs.Numbers.{group_count, group_key_at}
+use Rattle.group_numbers.specs.Numbers.{group_count, group_key_at}
 use Rattle.group_tallies.proofs.coarser.coarsen.Goals as goal
 
 pub targets_of-requires-clause-below : goal.targets_of-requires-clause-below
 targets_of-requires-clause-below c =
-    let d = c.args.plan.now.dimensions in
-    let q = c.args.plan.now.query in
+    let d = c.args.grouping.now.dimensions in
+    let q = c.args.grouping.now.query in
     let i = c.args.column in
     let old = entries_of c.args.slots.now in
     let columns = c.args.columns.now.items in
@@ -31,8 +31,8 @@ targets_of-requires-clause-below c =
 
 pub merge-requires-clause-targets : goal.merge-requires-clause-targets
 merge-requires-clause-targets c =
-    let d = c.args.plan.now.dimensions in
-    let q = c.args.plan.now.query in
+    let d = c.args.grouping.now.dimensions in
+    let q = c.args.grouping.now.query in
     let i = c.args.column in
     let old = entries_of c.args.slots.now in
     let columns = c.args.columns.now.items in
@@ -54,8 +54,8 @@ merge-requires-clause-targets c =
 
 pub merge-requires-clause-may : goal.merge-requires-clause-may
 merge-requires-clause-may c =
-    let d = c.args.plan.now.dimensions in
-    let q = c.args.plan.now.query in
+    let d = c.args.grouping.now.dimensions in
+    let q = c.args.grouping.now.query in
     let i = c.args.column in
     let old = entries_of c.args.slots.now in
     let columns = c.args.columns.now.items in
@@ -79,8 +79,8 @@ merge-requires-clause-may c =
 
 pub returns-in_err-merge-clause-refused : goal.returns-in_err-merge-clause-refused
 returns-in_err-merge-clause-refused c =
-    let d = c.args.plan.now.dimensions in
-    let q = c.args.plan.now.query in
+    let d = c.args.grouping.now.dimensions in
+    let q = c.args.grouping.now.query in
     let i = c.args.column in
     let old = entries_of c.args.slots.now in
     let columns = c.args.columns.now.items in
@@ -131,8 +131,8 @@ returns-clause-can c =
 
 pub returns-clause-tallied : goal.returns-clause-tallied
 returns-clause-tallied c =
-    let d = c.args.plan.now.dimensions in
-    let q = c.args.plan.now.query in
+    let d = c.args.grouping.now.dimensions in
+    let q = c.args.grouping.now.query in
     let i = c.args.column in
     let old = entries_of c.args.slots.now in
     let columns = c.args.columns.now.items in

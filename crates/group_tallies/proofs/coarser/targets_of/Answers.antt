@@ -7,8 +7,8 @@ use Rattle.group_tallies.proofs.coarser.targets_of.Goals as goal
 
 pub loop-i-preserved : goal.loop-i-preserved
 loop-i-preserved c =
-    let dimensions = c.args.plan.now.dimensions in
-    let attrs = c.args.plan.now.query.columns in
+    let dimensions = c.args.grouping.now.dimensions in
+    let attrs = c.args.grouping.now.query.columns in
     let i = c.loop-i.i in
     let source = get_or c.args.sources.now i (0, 0) in
     let front = take i c.args.sources.now in

@@ -2,7 +2,7 @@ use Rattle.std.proofs.Common.{◌≡◌, ◌<◌, ◌∙◌, subst, arith, slice
 use Rattle.std.proofs.lemmas.Grind.{common_steps}
 use Rattle.std.proofs.lemmas.List.{get_or_default}
 use Rattle.group_tallies.specs.Columns.{CountsIn}
-use Rattle.group_plan.specs.Rows.{no_row, row_at}
+use Rattle.group_numbers.specs.Rows.{no_row, row_at}
 use Rattle.group_tallies.proofs.Counting.{HasRoom-next, CountsIn-next, IsBounded-next}
 use Rattle.group_tallies.proofs.columns.count_in.Goals as goal
 

@@ -1,5 +1,5 @@
 use Rattle.std.proofs.Common.{◌≡◌, ◌∙◌, ap, rules, w64, FitsSigned, to_z, of_z, to_z-of_z}
-use Rattle.group_plan.specs.Rows.{row_at}
+use Rattle.group_numbers.specs.Rows.{row_at}
 use Rattle.group_tallies.specs.Columns.{tally_after}
 use Rattle.group_tallies.specs.Tallies.{aggregated}
 use Rattle.group_tallies.proofs.Counting.{slot_in, number_room, count_room, sum_room, counted_here, bounded_here}

@@ -9,7 +9,7 @@ use Rattle.group_tallies.specs.Slots.{entries_of}
 use Rattle.group_tallies.specs.FoldInvariant.{AreTallied}
 use Rattle.group_tallies.proofs.FinishLemmas.{all_groups}
 use Rattle.group_tallies.proofs.Seen.{seen_are}
-use Rattle.group_plan.specs.Numbers.{group_key_at}
+use Rattle.group_numbers.specs.Numbers.{group_key_at}
 use Rattle.group_tallies.proofs.finish.all_groups.Goals as goal
 
 pub ordered_groups-requires-clause-columns : goal.ordered_groups-requires-clause-columns
@@ -17,14 +17,14 @@ ordered_groups-requires-clause-columns c = ap length c.as_slice.ensures.value �
 
 pub returns-clause-groups : goal.returns-clause-groups
 returns-clause-groups c =
-    let d = c.args.plan.now.dimensions in
-    let q = c.args.plan.now.query in
+    let d = c.args.grouping.now.dimensions in
+    let q = c.args.grouping.now.query in
     subst (λ cs. HaveLines d q cs c.in_ok-groups.groups.items) c.as_slice.ensures.value c.in_ok-groups.ensures.groups
 
 pub returns-clause-lines : goal.returns-clause-lines
 returns-clause-lines c = λ rows given.
-    let d = c.args.plan.now.dimensions in
-    let q = c.args.plan.now.query in
+    let d = c.args.grouping.now.dimensions in
+    let q = c.args.grouping.now.query in
     let entries = entries_of c.args.slots.now in
     let columns = c.args.columns.now.items in
     let count : c.len-count.result ≡ length q.columns = c.len-count.ensures
@@ -46,8 +46,8 @@ pub returns-in_err-coarsen_all-clause-refused : goal.returns-in_err-coarsen_all-
 returns-in_err-coarsen_all-clause-refused c =
     let p = err_from_is_err_and c.from_residual.result c.from_residual.ensures.1 in
     rw (p.1, p.2) (λ bad rows given foldable.
-    let d = c.args.plan.now.dimensions in
-    let q = c.args.plan.now.query in
+    let d = c.args.grouping.now.dimensions in
+    let q = c.args.grouping.now.query in
     let entries = entries_of c.args.slots.now in
     let columns = c.args.columns.now.items in
     let count : c.len-count.result ≡ length q.columns = c.len-count.ensures

@@ -8,8 +8,8 @@ use Rattle.group_tallies.proofs.finish.answer_lines.Goals as goal
 
 pub returns-in-Plain-clause-lines : goal.returns-in-Plain-clause-lines
 returns-in-Plain-clause-lines c =
-    let d = c.args.plan.now.dimensions in
-    let q = c.args.plan.now.query in
+    let d = c.args.grouping.now.dimensions in
+    let q = c.args.grouping.now.query in
     let fold = c.requires.fold in
     let plain = ap (λ query. query.kind) (sym c.requires.query) ∙ c.in-Plain.is in
     IfOk-weaker c.finest_lines.result _ _

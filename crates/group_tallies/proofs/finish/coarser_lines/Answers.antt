@@ -4,13 +4,13 @@ use Rattle.group_tallies.specs.Coarser.{AreTalliedFrom}
 use Rattle.group_tallies.specs.Slots.{entries_of, AreSlots}
 use Rattle.group_tallies.proofs.Columnwise.{as_many_columns}
 use Rattle.group_tallies.proofs.FinishLemmas.{start}
-use Rattle.group_plan.specs.Numbers.{group_count}
+use Rattle.group_numbers.specs.Numbers.{group_count}
 use Rattle.group_tallies.proofs.finish.coarser_lines.Goals as goal
 
 pub all_lines-requires-clause-can : goal.all_lines-requires-clause-can
 all_lines-requires-clause-can c =
-    let d = c.args.plan.now.dimensions in
-    let q = c.args.plan.now.query in
+    let d = c.args.grouping.now.dimensions in
+    let q = c.args.grouping.now.query in
     let fold = c.requires.fold in
     let entries = entries_of c.args.slots.now in
     let columns = c.args.columns.now in
@@ -26,8 +26,8 @@ all_lines-requires-clause-can c =
 
 pub returns-clause-lines : goal.returns-clause-lines
 returns-clause-lines c =
-    let d = c.args.plan.now.dimensions in
-    let q = c.args.plan.now.query in
+    let d = c.args.grouping.now.dimensions in
+    let q = c.args.grouping.now.query in
     let entries = entries_of c.args.slots.now in
     let columns = c.args.columns.now in
     let copy = c.in_ok-columns.columns.items in
@@ -40,8 +40,8 @@ returns-clause-lines c =
 
 pub returns-clause-refused : goal.returns-clause-refused
 returns-clause-refused c =
-    let d = c.args.plan.now.dimensions in
-    let q = c.args.plan.now.query in
+    let d = c.args.grouping.now.dimensions in
+    let q = c.args.grouping.now.query in
     let entries = entries_of c.args.slots.now in
     let columns = c.args.columns.now in
     let copy = c.in_ok-columns.columns.items in

@@ -6,7 +6,7 @@ use Rattle.group_tallies.specs.Groups.{finest, groups_of}
 use Rattle.group_tallies.specs.Slots.{entries_of}
 use Rattle.group_tallies.proofs.FinishLemmas.{plain_groups, start}
 use Rattle.group_tallies.proofs.Seen.{seen_are}
-use Rattle.group_plan.specs.Numbers.{group_key_at}
+use Rattle.group_numbers.specs.Numbers.{group_key_at}
 use Rattle.group_tallies.proofs.finish.groups_of_kind.Goals as goal
 
 pub ordered_groups-requires-clause-columns : goal.ordered_groups-requires-clause-columns
@@ -14,15 +14,15 @@ ordered_groups-requires-clause-columns c = ap length c.as_slice.ensures.value 鈭
 
 pub returns-in_ok-groups-in-Plain-clause-groups : goal.returns-in_ok-groups-in-Plain-clause-groups
 returns-in_ok-groups-in-Plain-clause-groups c =
-    let d = c.args.plan.now.dimensions in
-    let q = c.args.plan.now.query in
+    let d = c.args.grouping.now.dimensions in
+    let q = c.args.grouping.now.query in
     subst (位 cs. HaveLines d q cs c.in_ok-groups-in-Plain.groups.items) c.as_slice.ensures.value
     c.in_ok-groups-in-Plain.ensures.groups
 
 pub returns-in_ok-groups-in-Plain-clause-lines : goal.returns-in_ok-groups-in-Plain-clause-lines
 returns-in_ok-groups-in-Plain-clause-lines c = 位 rows tallied.
-    let d = c.args.plan.now.dimensions in
-    let q = c.args.plan.now.query in
+    let d = c.args.grouping.now.dimensions in
+    let q = c.args.grouping.now.query in
     let entries = entries_of c.args.slots.now in
     let columns = c.args.columns.now.items in
     let fold = c.requires.fold in
@@ -47,8 +47,8 @@ all_groups-requires-clause-can c =
 
 pub returns-in-Rollup-clause-lines : goal.returns-in-Rollup-clause-lines
 returns-in-Rollup-clause-lines c =
-    let d = c.args.plan.now.dimensions in
-    let q = c.args.plan.now.query in
+    let d = c.args.grouping.now.dimensions in
+    let q = c.args.grouping.now.query in
     let entries = entries_of c.args.slots.now in
     let columns = c.args.columns.now.items in
     IfOk-weaker c.all_groups.result _ _
@@ -57,8 +57,8 @@ returns-in-Rollup-clause-lines c =
 
 pub returns-in-Rollup-clause-refused : goal.returns-in-Rollup-clause-refused
 returns-in-Rollup-clause-refused c = 位 bad rows first foldable.
-    let d = c.args.plan.now.dimensions in
-    let q = c.args.plan.now.query in
+    let d = c.args.grouping.now.dimensions in
+    let q = c.args.grouping.now.query in
     let entries = entries_of c.args.slots.now in
     let columns = c.args.columns.now.items in
     c.all_groups.ensures.refused bad rows (start d q entries columns columns rows (位 slot. refl) first) foldable

@@ -12,14 +12,14 @@ use Rattle.group_tallies.specs.GroupLines.{HasLine, HaveLines, lines_by}
 use Rattle.group_tallies.specs.Slots.{entries_of}
 use Rattle.group_tallies.proofs.Answered.{lines_are, unordered_lines}
 use Rattle.group_tallies.proofs.LineLaws.{fit_order, seen_apart, seen_below, seen_have_lines, seen_lines, sorted_answer}
-use Rattle.group_plan.specs.Numbers.{group_count, group_key_at}
+use Rattle.group_numbers.specs.Numbers.{group_count, group_key_at}
 use Rattle.cube_model.proofs.LawsLemmas.{answer_is_the_one}
 use Rattle.group_tallies.proofs.lines.ordered_groups.Goals as goal
 
 pub returns-in-None-clause-groups : goal.returns-in-None-clause-groups
 returns-in-None-clause-groups c =
-    let dims = c.args.plan.now.dimensions in
-    let query = c.args.plan.now.query in
+    let dims = c.args.grouping.now.dimensions in
+    let query = c.args.grouping.now.query in
     let aggs = query.aggregates in
     let columns = c.args.columns.now in
     let entries = entries_of c.args.slots.now in
@@ -28,8 +28,8 @@ returns-in-None-clause-groups c =
 
 pub returns-in-None-clause-lines : goal.returns-in-None-clause-lines
 returns-in-None-clause-lines c = λ rows represents.
-    let dims = c.args.plan.now.dimensions in
-    let query = c.args.plan.now.query in
+    let dims = c.args.grouping.now.dimensions in
+    let query = c.args.grouping.now.query in
     let aggs = query.aggregates in
     let columns = c.args.columns.now in
     let entries = entries_of c.args.slots.now in
@@ -41,8 +41,8 @@ returns-in-None-clause-lines c = λ rows represents.
 
 pub returns-in_ok-sorted-in-Some-clause-groups : goal.returns-in_ok-sorted-in-Some-clause-groups
 returns-in_ok-sorted-in-Some-clause-groups c =
-    let dims = c.args.plan.now.dimensions in
-    let query = c.args.plan.now.query in
+    let dims = c.args.grouping.now.dimensions in
+    let query = c.args.grouping.now.query in
     let aggs = query.aggregates in
     let columns = c.args.columns.now in
     let entries = entries_of c.args.slots.now in
@@ -55,8 +55,8 @@ returns-in_ok-sorted-in-Some-clause-groups c =
 
 pub returns-in_ok-sorted-in-Some-clause-lines : goal.returns-in_ok-sorted-in-Some-clause-lines
 returns-in_ok-sorted-in-Some-clause-lines c = λ rows represents.
-    let dims = c.args.plan.now.dimensions in
-    let query = c.args.plan.now.query in
+    let dims = c.args.grouping.now.dimensions in
+    let query = c.args.grouping.now.query in
     let aggs = query.aggregates in
     let columns = c.args.columns.now in
     let entries = entries_of c.args.slots.now in
@@ -82,8 +82,8 @@ returns-in_ok-sorted-in-Some-clause-lines c = λ rows represents.
 
 pub in_order-requires-clause-aggregate : goal.in_order-requires-clause-aggregate
 in_order-requires-clause-aggregate c =
-    let dims = c.args.plan.now.dimensions in
-    let query = c.args.plan.now.query in
+    let dims = c.args.grouping.now.dimensions in
+    let query = c.args.grouping.now.query in
     let aggs = query.aggregates in
     let columns = c.args.columns.now in
     let entries = entries_of c.args.slots.now in
@@ -96,8 +96,8 @@ in_order-requires-clause-aggregate c =
 
 pub in_order-requires-clause-whole : goal.in_order-requires-clause-whole
 in_order-requires-clause-whole c =
-    let dims = c.args.plan.now.dimensions in
-    let query = c.args.plan.now.query in
+    let dims = c.args.grouping.now.dimensions in
+    let query = c.args.grouping.now.query in
     let aggs = query.aggregates in
     let columns = c.args.columns.now in
     let entries = entries_of c.args.slots.now in
@@ -110,8 +110,8 @@ in_order-requires-clause-whole c =
 
 pub in_order-requires-clause-below : goal.in_order-requires-clause-below
 in_order-requires-clause-below c =
-    let dims = c.args.plan.now.dimensions in
-    let query = c.args.plan.now.query in
+    let dims = c.args.grouping.now.dimensions in
+    let query = c.args.grouping.now.query in
     let aggs = query.aggregates in
     let columns = c.args.columns.now in
     let entries = entries_of c.args.slots.now in
@@ -122,8 +122,8 @@ in_order-requires-clause-below c =
 
 pub in_order-requires-clause-apart : goal.in_order-requires-clause-apart
 in_order-requires-clause-apart c =
-    let dims = c.args.plan.now.dimensions in
-    let query = c.args.plan.now.query in
+    let dims = c.args.grouping.now.dimensions in
+    let query = c.args.grouping.now.query in
     let aggs = query.aggregates in
     let columns = c.args.columns.now in
     let entries = entries_of c.args.slots.now in

@@ -12,8 +12,8 @@ use Rattle.group_tallies.specs.Columns.{entry_line}
 use Rattle.group_tallies.specs.Ranks.{Rank, IsRank}
 use Rattle.group_tallies.proofs.LineLaws.{map-map}
 use Rattle.group_tallies.proofs.OrderLemmas.{sorted_lines}
-use Rattle.group_plan.specs.Numbers.{group_key_at}
-use Rattle.group_plan.proofs.Numbers.{keys_rise}
+use Rattle.group_numbers.specs.Numbers.{group_key_at}
+use Rattle.group_numbers.proofs.Numbers.{keys_rise}
 use Rattle.group_tallies.proofs.order.in_order.Goals as goal
 
 pub returns-clause-same : goal.returns-clause-same
@@ -30,8 +30,8 @@ returns-clause-same c =
 
 pub returns-clause-rising : goal.returns-clause-rising
 returns-clause-rising c =
-    let dims = c.args.plan.now.dimensions in
-    let attrs = c.args.plan.now.query.columns in
+    let dims = c.args.grouping.now.dimensions in
+    let attrs = c.args.grouping.now.query.columns in
     let order = c.args.order in
     let line = entry_line (group_key_at dims attrs) c.args.aggregates.now c.args.columns.now in
     let first = c.in_ok-ranked.ranked.items in

@@ -8,13 +8,13 @@ use Rattle.group_tallies.specs.Columns.{entry_line, tally_at}
 use Rattle.group_tallies.specs.Ranks.{Rank, IsRank}
 use Rattle.group_tallies.specs.Tallies.{value_of}
 use Rattle.group_tallies.proofs.LineLaws.{values_of-at, all_push}
-use Rattle.group_plan.specs.Numbers.{group_key_at}
+use Rattle.group_numbers.specs.Numbers.{group_key_at}
 use Rattle.group_tallies.proofs.order.ranked.Goals as goal
 
 pub loop-i-preserved : goal.loop-i-preserved
 loop-i-preserved c =
-    let dims = c.args.plan.now.dimensions in
-    let attrs = c.args.plan.now.query.columns in
+    let dims = c.args.grouping.now.dimensions in
+    let attrs = c.args.grouping.now.query.columns in
     let aggs = c.args.aggregates.now in
     let columns = c.args.columns.now in
     let order = c.args.order in

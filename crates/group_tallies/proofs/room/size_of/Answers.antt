@@ -1,6 +1,6 @@
 use Rattle.std.proofs.Common.{◌+◌, ◌<◌, length, slice_index_or, None, arith}
 use Rattle.std.proofs.lemmas.List.{get_or_default}
-use Rattle.group_plan.specs.Rows.{no_row, row_at}
+use Rattle.group_numbers.specs.Rows.{no_row, row_at}
 use Rattle.group_tallies.proofs.Counting.{size-next, size-take}
 use Rattle.group_tallies.proofs.room.size_of.Goals as goal
 

@@ -49,5 +49,5 @@ pub returns-clause-unformatted : goal.returns-clause-unformatted
 returns-clause-unformatted g c =
     let found = rw c.in-Ok-None.field-0-is at c.in-Ok-None.ensures.found in
     IfOk-weaker c.publish_first.result _ _
-    (λ plan kept w. none_before g.D.Sectors c.args.device.now c.newest.new.device c.newest.ensures.reads
+    (λ staged kept w. none_before g.D.Sectors c.args.device.now c.newest.new.device c.newest.ensures.reads
     (c.publish_first.ensures.word w) (found (c.publish_first.ensures.word w))) c.publish_first.ensures.kept

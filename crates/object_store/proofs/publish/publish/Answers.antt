@@ -9,7 +9,7 @@ use Rattle.object_store.proofs.publish.publish.Goals as goal
 pub returns-in_err-write_texts-clause-moments : goal.returns-in_err-write_texts-clause-moments
 returns-in_err-write_texts-clause-moments g c w1 =
     let w0 = c.write_texts.ensures.writes.word w1 in
-    writing c.args.plan.now (puts_of c.args.puts.now) (g.D.Sectors.state c.args.device.now) (c.requires.settled w0)
+    writing c.args.staged.now (puts_of c.args.puts.now) (g.D.Sectors.state c.args.device.now) (c.requires.settled w0)
     (g.D.Sectors.state c.write_texts.new.device) (c.write_texts.ensures.writes.only w1)
 
 pub returns-in_err-sync-clause-moments : goal.returns-in_err-sync-clause-moments
@@ -19,8 +19,8 @@ returns-in_err-sync-clause-moments g c w2 =
     let s0 = g.D.Sectors.state c.args.device.now in
     let s1 = g.D.Sectors.state c.write_texts.new.device in
     let s2 = g.D.Sectors.state c.sync.new.self in
-    writing c.args.plan.now (puts_of c.args.puts.now) s0 (c.requires.settled w0) s2
-    (synced_within (SomeHolds (written_by c.args.plan.now)) s0 s1 s2 (c.write_texts.ensures.writes.only w1)
+    writing c.args.staged.now (puts_of c.args.puts.now) s0 (c.requires.settled w0) s2
+    (synced_within (SomeHolds (written_by c.args.staged.now)) s0 s1 s2 (c.write_texts.ensures.writes.only w1)
     (c.sync.ensures.syncs w2))
 
 pub returns-in_err-write-clause-moments : goal.returns-in_err-write-clause-moments
@@ -32,7 +32,8 @@ returns-in_err-write-clause-moments g c w3 =
     let s1 = g.D.Sectors.state c.write_texts.new.device in
     let s2 = g.D.Sectors.state c.sync.new.self in
     let s3 = g.D.Sectors.state c.write.new.self in
-    switching c.args.plan.now (puts_of c.args.puts.now) s0 (c.requires.settled w0) s0.size c.requires.laid_out s1 s2 s3
+    switching c.args.staged.now (puts_of c.args.puts.now) s0 (c.requires.settled w0) s0.size c.requires.laid_out s1 s2
+    s3
     (c.write_texts.ensures.writes.only w1)
     (c.in_ok-write_texts.ensures.objects w1) (c.in_ok-write_texts.ensures.catalogue w1) (c.sync.ensures.syncs w2)
     (c.in_ok-sync.ensures.settled w2) c.encode.result c.encode.ensures (c.write.ensures.writes w3)
@@ -47,7 +48,7 @@ returns-clause-moments g c w4 =
     let s1 = g.D.Sectors.state c.write_texts.new.device in
     let s2 = g.D.Sectors.state c.sync.new.self in
     let s3 = g.D.Sectors.state c.write.new.self in
-    ended c.args.plan.now (puts_of c.args.puts.now) s0 (c.requires.settled w0) s0.size c.requires.laid_out s1 s2 s3
+    ended c.args.staged.now (puts_of c.args.puts.now) s0 (c.requires.settled w0) s0.size c.requires.laid_out s1 s2 s3
     (c.write_texts.ensures.writes.only w1)
     (c.in_ok-write_texts.ensures.objects w1) (c.in_ok-write_texts.ensures.catalogue w1) (c.sync.ensures.syncs w2)
     (c.in_ok-sync.ensures.settled w2) c.encode.result c.encode.ensures (c.write.ensures.writes w3)
@@ -64,7 +65,7 @@ returns-clause-written g c =
     let s1 = g.D.Sectors.state c.write_texts.new.device in
     let s2 = g.D.Sectors.state c.sync.new.self in
     let s3 = g.D.Sectors.state c.write.new.self in
-    has_written c.args.plan.now (puts_of c.args.puts.now) s0 (c.requires.settled w0) s0.size c.requires.laid_out s1 s2
+    has_written c.args.staged.now (puts_of c.args.puts.now) s0 (c.requires.settled w0) s0.size c.requires.laid_out s1 s2
     s3 (c.write_texts.ensures.writes.only w1)
     (c.in_ok-write_texts.ensures.objects w1) (c.in_ok-write_texts.ensures.catalogue w1) (c.sync.ensures.syncs w2)
     (c.in_ok-sync.ensures.settled w2) c.encode.result c.encode.ensures (c.write.ensures.writes w3)

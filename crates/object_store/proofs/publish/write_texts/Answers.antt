@@ -13,54 +13,55 @@ use Rattle.object_store.proofs.publish.write_texts.Goals as goal
 
 pub write_objects-requires-clause-laid_out : goal.write_objects-requires-clause-laid_out
 write_objects-requires-clause-laid_out g c =
-    let plan = c.args.plan.now in
+    let staged = c.args.staged.now in
     subst (λ (l : List Entry). AreLaidOut (g.D.Sectors.state c.args.device.now).size (extents_of l))
     (sym c.deref.ensures.value)
     (laid_out_tail (g.D.Sectors.state c.args.device.now).size
-    (extent_of plan.superblock.catalogue plan.superblock.bytes) (extents_of plan.placed.items) c.requires.laid_out)
+    (extent_of staged.superblock.catalogue staged.superblock.bytes) (extents_of staged.placed.items)
+    c.requires.laid_out)
 
 pub write_extent-requires-clause-in_range : goal.write_extent-requires-clause-in_range
 write_extent-requires-clause-in_range g c =
-    let plan = c.args.plan.now in
+    let staged = c.args.staged.now in
     let size = (g.D.Sectors.state c.args.device.now).size in
-    subst (λ (n : ℕ). IsInRange n (extent_of plan.superblock.catalogue (length c.deref-2.result.now)))
+    subst (λ (n : ℕ). IsInRange n (extent_of staged.superblock.catalogue (length c.deref-2.result.now)))
     (sym c.write_objects.ensures.writes.size)
-    (subst (λ (n : ℕ). IsInRange size (extent_of plan.superblock.catalogue n))
+    (subst (λ (n : ℕ). IsInRange size (extent_of staged.superblock.catalogue n))
     (c.requires.bytes ∙ ap length (sym c.deref-2.ensures.value))
-    (All-head (IsInRange size) (extent_of plan.superblock.catalogue plan.superblock.bytes)
-    (extents_of plan.placed.items) c.requires.laid_out.in_range))
+    (All-head (IsInRange size) (extent_of staged.superblock.catalogue staged.superblock.bytes)
+    (extents_of staged.placed.items) c.requires.laid_out.in_range))
 
 pub returns-in_err-write_objects-clause-writes : goal.returns-in_err-write_objects-clause-writes
 returns-in_err-write_objects-clause-writes g c =
-    writes_more g.D.Sectors (SomeHolds (extents_of c.deref.result.now)) (SomeHolds (written_by c.args.plan.now)) _ _
+    writes_more g.D.Sectors (SomeHolds (extents_of c.deref.result.now)) (SomeHolds (written_by c.args.staged.now)) _ _
     (λ i held. inr (subst (λ (l : List Entry). SomeHolds (extents_of l) i) c.deref.ensures.value held))
     c.write_objects.ensures.writes
 
 pub returns-clause-writes : goal.returns-clause-writes
 returns-clause-writes g c =
-    let plan = c.args.plan.now in
-    writes_then g.D.Sectors (SomeHolds (written_by plan))
-    (Holds (extent_of plan.superblock.catalogue (length c.deref-2.result.now))) _ _ _
+    let staged = c.args.staged.now in
+    writes_then g.D.Sectors (SomeHolds (written_by staged))
+    (Holds (extent_of staged.superblock.catalogue (length c.deref-2.result.now))) _ _ _
     (λ i held. inl
-    (subst (λ (n : ℕ). Holds (extent_of plan.superblock.catalogue n) i)
+    (subst (λ (n : ℕ). Holds (extent_of staged.superblock.catalogue n) i)
     (ap length c.deref-2.ensures.value ∙ sym c.requires.bytes) held))
-    (writes_more g.D.Sectors (SomeHolds (extents_of c.deref.result.now)) (SomeHolds (written_by plan)) _ _
+    (writes_more g.D.Sectors (SomeHolds (extents_of c.deref.result.now)) (SomeHolds (written_by staged)) _ _
     (λ i held. inr (subst (λ (l : List Entry). SomeHolds (extents_of l) i) c.deref.ensures.value held))
     c.write_objects.ensures.writes) c.write_extent.ensures.writes
 
 pub returns-clause-objects : goal.returns-clause-objects
 returns-clause-objects g c =
     on_ok_weaker c.write_extent.result (λ written w.
-    let plan = c.args.plan.now in
-    let cat = extent_of plan.superblock.catalogue plan.superblock.bytes in
+    let staged = c.args.staged.now in
+    let cat = extent_of staged.superblock.catalogue staged.superblock.bytes in
     let apart =
-    apart_from cat (extents_of plan.placed.items)
-    (AllPairs-head AreApart cat (extents_of plan.placed.items) c.requires.laid_out.apart) in
+    apart_from cat (extents_of staged.placed.items)
+    (AllPairs-head AreApart cat (extents_of staged.placed.items) c.requires.laid_out.apart) in
     objects_same (g.D.Sectors.state c.write_extent.new.device).reads
-    (g.D.Sectors.state c.write_objects.new.device).reads plan.placed.items
+    (g.D.Sectors.state c.write_objects.new.device).reads staged.placed.items
     (λ i held. (c.write_extent.ensures.writes.only w).others i
     (λ here. apart i
-    (subst (λ (n : ℕ). Holds (extent_of plan.superblock.catalogue n) i)
+    (subst (λ (n : ℕ). Holds (extent_of staged.superblock.catalogue n) i)
     (ap length c.deref-2.ensures.value ∙ sym c.requires.bytes) here) held))
     ∙ ap (λ (l : List Entry). objects_at (g.D.Sectors.state c.write_objects.new.device).reads l)
     (sym c.deref.ensures.value)
@@ -69,7 +70,7 @@ returns-clause-objects g c =
 pub returns-clause-catalogue : goal.returns-clause-catalogue
 returns-clause-catalogue g c =
     on_ok_weaker c.write_extent.result (λ written w.
-    let plan = c.args.plan.now in
-    ap (λ (n : ℕ). bytes_at (g.D.Sectors.state c.write_extent.new.device).reads plan.superblock.catalogue n)
+    let staged = c.args.staged.now in
+    ap (λ (n : ℕ). bytes_at (g.D.Sectors.state c.write_extent.new.device).reads staged.superblock.catalogue n)
     (c.requires.bytes ∙ ap length (sym c.deref-2.ensures.value))
     ∙ written w ∙ c.deref-2.ensures.value) c.write_extent.ensures.written

@@ -1,16 +1,16 @@
 use Rattle.std.proofs.Common.{◌≡◌, ◌∙◌, ℕ, List, sym, ap, subst, length, map, take}
 use Rattle.std.proofs.lemmas.List.{with_items_is}
 use Rattle.cube_model.specs.declared.rows.LineOrder.{LineOrder}
-use Rattle.group_plan.specs.Kept.{KeepPlaces}
-use Rattle.group_plan.specs.Rows.{row_at}
+use Rattle.group_numbers.specs.Kept.{KeepPlaces}
+use Rattle.group_numbers.specs.Rows.{row_at}
 use Rattle.cube_query.specs.Chosen.{KeepSelected}
 use Rattle.cube_query.proofs.Choosing.{kept_below, kept_places}
 use Rattle.cube_query.proofs.chosen_rows.ChosenRows.without.Goals as goal
 
 pub invariant_of-result : goal.invariant_of-result
 invariant_of-result c =
-    let dims = c.args.plan.now.dimensions in
-    let conditions = c.args.plan.now.query.conditions in
+    let dims = c.args.grouping.now.dimensions in
+    let conditions = c.args.grouping.now.query.conditions in
     let rows = c.self.inside.rows in
     let long : length c.keep-kept.new.places ≡ c.self.inside.places.len = c.keep-kept.ensures.length
     ∙ c.as_mut_slice.ensures.len in
@@ -25,8 +25,8 @@ invariant_of-result c =
 
 pub returns : goal.returns
 returns c =
-    let dims = c.args.plan.now.dimensions in
-    let conditions = c.args.plan.now.query.conditions in
+    let dims = c.args.grouping.now.dimensions in
+    let conditions = c.args.grouping.now.query.conditions in
     let rows = c.self.inside.rows in
     let long : length c.keep-kept.new.places ≡ c.self.inside.places.len = c.keep-kept.ensures.length
     ∙ c.as_mut_slice.ensures.len in

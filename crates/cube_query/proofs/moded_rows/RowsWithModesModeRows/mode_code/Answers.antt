@@ -1,7 +1,7 @@
 use Rattle.std.proofs.Common.{◌≡◌, ◌∙◌, ◌<◌, ap, length, map, subst, w16}
 use Rattle.std.specs.Int.{from_le_bytes}
 use Rattle.dictionary.specs.Columns.{text_of_code}
-use Rattle.group_plan.specs.Rows.{row_at}
+use Rattle.group_numbers.specs.Rows.{row_at}
 use Rattle.cube_query.specs.ColumnRows.{ModedRows}
 use Rattle.group_tallies.proofs.Lists.{text_at_place}
 use Rattle.cube_query.proofs.moded_rows.RowsWithModesModeRows.mode_code.Goals as goal

@@ -1,7 +1,7 @@
 use Rattle.std.proofs.Common.{◌≡◌, ◌∙◌, List, sym, ap, subst}
 use Rattle.cube_model.specs.declared.rows.LineOrder.{LineOrder}
 use Rattle.column_kernels.specs.Masks.{selected_by}
-use Rattle.group_plan.specs.Plans.{query_of}
+use Rattle.group_numbers.specs.GroupNumbers.{query_of}
 use Rattle.cube_query.specs.Asked.{AreSame, is_asked}
 use Rattle.cube_query.specs.Groups.{FoldState}
 use Rattle.cube_query.specs.WholeBatch.{has_one_group}
@@ -16,17 +16,17 @@ add_whole-requires-clause-one_group c =
 
 pub returns-clause-ok : goal.returns-clause-ok
 returns-clause-ok c =
-    let own : (query_of c.self.inside.plan).conditions ≡ c.args.self.now.query.conditions =
+    let own : (query_of c.self.inside.grouping).conditions ≡ c.args.self.now.query.conditions =
     ap (λ f. f.query.conditions) c.self.view_is in
-    let keep = keep_over c.over.result c.args.dims.now (query_of c.self.inside.plan) c.args.self.now.query _ _
+    let keep = keep_over c.over.result c.args.dims.now (query_of c.self.inside.grouping) c.args.self.now.query _ _
     c.over.ensures own c.in_ok-rows.ensures.ok in
     takes_all c.add-2.result c.args.dims.now c.args.self.now _ c.args.batch c.add-2.new.self keep c.add-2.ensures.ok
 
 pub returns-clause-refused : goal.returns-clause-refused
 returns-clause-refused c = λ err others same can.
-    let own : (query_of c.self.inside.plan).conditions ≡ c.args.self.now.query.conditions =
+    let own : (query_of c.self.inside.grouping).conditions ≡ c.args.self.now.query.conditions =
     ap (λ f. f.query.conditions) c.self.view_is in
-    let keep = keep_over c.over.result c.args.dims.now (query_of c.self.inside.plan) c.args.self.now.query _ _
+    let keep = keep_over c.over.result c.args.dims.now (query_of c.self.inside.grouping) c.args.self.now.query _ _
     c.over.ensures own c.in_ok-rows.ensures.ok in
     let asks = is_asked c.args.self.now.query in
     let marks = keep.part.0 in

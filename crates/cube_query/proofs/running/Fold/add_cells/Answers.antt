@@ -5,7 +5,7 @@ use Rattle.std.specs.declared.vec.Vec.{Vec}
 use Rattle.std.proofs.lemmas.Result.{err_from_is_err_and}
 use Rattle.cube_model.specs.declared.fault.Fault.TheVariants.{BadLayout}
 use Rattle.cuboid_upkeep.specs.Codes.{modes_of}
-use Rattle.group_plan.specs.Plans.{query_of}
+use Rattle.group_numbers.specs.GroupNumbers.{query_of}
 use Rattle.lattice.specs.Determined.{Serves}
 use Rattle.cube_query.specs.CellSlots.{AreMergedIn, asked_of}
 use Rattle.cube_query.specs.CellTallies.{GroupsHaveRoomFor}
@@ -22,7 +22,7 @@ columns_with_cells-requires-clause-columns c =
     let inside = c.self.inside in
     let entries = entries_of inside.slots in
     ap length c.as_slice-columns.ensures.value
-    ∙ tallies-length (query_of inside.plan).aggregates inside.columns.items (length entries) []
+    ∙ tallies-length (query_of inside.grouping).aggregates inside.columns.items (length entries) []
     (c.self.invariant.fresh (length entries) (omega arith))
 
 pub returns-in_err-merged : goal.returns-in_err-merged
@@ -33,7 +33,7 @@ returns-in_err-merged c =
     let plain = c.args.cells.now in
     let modes : List (List ℕ) = modes_of (option_map (λ modes. modes.now) c.args.modes) in
     let over = subst (λ (state : FoldState). IsOver dims state) (sym c.self.view_is) c.requires.over in
-    let same = shown_with_slots dims inside.plan over inside.slots inside.columns.items c.self.invariant
+    let same = shown_with_slots dims inside.grouping over inside.slots inside.columns.items c.self.invariant
     c.columns_with_cells.new.slots c.columns_with_cells.ensures.cover c.columns_with_cells.ensures.grow
     ∙ c.self.view_is in
     rw (p.1, p.2) (record {
@@ -43,14 +43,14 @@ returns-in_err-merged c =
       err = same;
       refused = λ bad rows represent can.
           let given = subst (λ (state : FoldState). CanTake dims state rows) (sym c.self.view_is) can in
-          let room = room_for_cells dims inside.plan over inside.slots inside.columns.items c.self.invariant
+          let room = room_for_cells dims inside.grouping over inside.slots inside.columns.items c.self.invariant
           c.columns_with_cells.new.slots c.columns_with_cells.ensures.cover c.columns_with_cells.ensures.grow modes
           plain rows represent given.0 given.1.0 given.1.1 in
           let is : c.in_err-merged.field-0.0 ≡ BadLayout = cc bad in
           c.in_err-merged.ensures.refused (ap (λ fault. Err fault) is) rows represent
           (known_after dims 1 given.0 rows given.1.1.known)
           (subst (λ (columns : List (Vec Tally Global)). GroupsHaveRoomFor
-          (entries_of c.columns_with_cells.new.slots) (query_of inside.plan).aggregates plain.cells columns)
+          (entries_of c.columns_with_cells.new.slots) (query_of inside.grouping).aggregates plain.cells columns)
           (sym c.as_slice-columns.ensures.value) room);
       only = c.in_err-merged.ensures.only;
     })
@@ -64,10 +64,11 @@ invariant_of-self-2 c =
     let over = subst (λ (state : FoldState). IsOver dims state) (sym c.self.view_is) c.requires.over in
     let merged = c.in_ok-merged.merged.items in
     let are = subst
-    (λ (columns : List (Vec Tally Global)). AreMergedIn (asked_of dims (query_of inside.plan) plain.view modes)
-    (query_of inside.plan).aggregates (entries_of c.columns_with_cells.new.slots) plain.cells columns merged)
+    (λ (columns : List (Vec Tally Global)). AreMergedIn (asked_of dims (query_of inside.grouping) plain.view modes)
+    (query_of inside.grouping).aggregates (entries_of c.columns_with_cells.new.slots) plain.cells columns merged)
     c.as_slice-columns.ensures.value c.in_ok-merged.ensures.merged in
-    kept_merged dims inside.plan over inside.slots inside.columns.items c.self.invariant c.columns_with_cells.new.slots
+    kept_merged dims inside.grouping over inside.slots inside.columns.items c.self.invariant
+    c.columns_with_cells.new.slots
     c.columns_with_cells.ensures.cover c.columns_with_cells.ensures.grow modes plain merged are
 
 pub returns : goal.returns
@@ -80,8 +81,8 @@ returns c =
     let serves = subst (λ (state : FoldState). Serves plain.view state.query) (sym c.self.view_is) c.requires.serves in
     let merged = c.in_ok-merged.merged.items in
     let are = subst
-    (λ (columns : List (Vec Tally Global)). AreMergedIn (asked_of dims (query_of inside.plan) plain.view modes)
-    (query_of inside.plan).aggregates (entries_of c.columns_with_cells.new.slots) plain.cells columns merged)
+    (λ (columns : List (Vec Tally Global)). AreMergedIn (asked_of dims (query_of inside.grouping) plain.view modes)
+    (query_of inside.grouping).aggregates (entries_of c.columns_with_cells.new.slots) plain.cells columns merged)
     c.as_slice-columns.ensures.value c.in_ok-merged.ensures.merged in
     record {
       over = over;
@@ -89,7 +90,7 @@ returns c =
       ok = λ rows represent. record {
         query = ap (λ (state : FoldState). state.query) c.self.view_is;
         represents = λ so_far represents.
-            represents_merged dims inside.plan over inside.slots inside.columns.items c.self.invariant
+            represents_merged dims inside.grouping over inside.slots inside.columns.items c.self.invariant
             c.columns_with_cells.new.slots c.columns_with_cells.ensures.cover c.columns_with_cells.ensures.grow modes
             plain merged are
             c.columns_with_cells.ensures.storable serves rows represent so_far

@@ -8,7 +8,7 @@ use Rattle.cube_model.specs.Selection.{is_selected}
 use Rattle.cube_model.specs.declared.fault.Fault.TheVariants.{BadLayout}
 use Rattle.cube_model.specs.declared.measure.Agg.{Agg}
 use Rattle.column_kernels.specs.Masks.{selected_by}
-use Rattle.group_plan.specs.Plans.{query_of}
+use Rattle.group_numbers.specs.GroupNumbers.{query_of}
 use Rattle.cube_query.specs.Asked.{AreSame, is_asked}
 use Rattle.group_tallies.specs.Columns.{tallies_at}
 use Rattle.cube_query.specs.Groups.{CanTake, FoldState, IsOver, RepresentsRows, Takes}
@@ -41,7 +41,7 @@ ready_for_one-requires c =
     let over = subst (λ (state : FoldState). IsOver c.args.dims.now state) (sym c.self.view_is) c.requires.over in
     let one = subst (λ (state : FoldState). has_one_group state.query ≡ true) (sym c.self.view_is)
     c.requires.one_group in
-    place_first c.args.dims.now inside.plan over inside.slots inside.columns.items c.self.invariant one
+    place_first c.args.dims.now inside.grouping over inside.slots inside.columns.items c.self.invariant one
 
 pub returns-in_err-slot-clause-err : goal.returns-in_err-slot-clause-err
 returns-in_err-slot-clause-err c =
@@ -51,7 +51,7 @@ returns-in_err-slot-clause-err c =
     let one = subst (λ (state : FoldState). has_one_group state.query ≡ true) (sym c.self.view_is)
     c.requires.one_group in
     let found = c.ready_for_one.ensures in
-    rw (p.1) (shown_one c.args.dims.now inside.plan over inside.slots inside.columns.items c.self.invariant one
+    rw (p.1) (shown_one c.args.dims.now inside.grouping over inside.slots inside.columns.items c.self.invariant one
     c.ready_for_one.new.slots c.ready_for_one.new.columns.items found.cover found.grow found.same
     ∙ c.self.view_is)
 
@@ -64,10 +64,10 @@ with_batch-requires-clause-columns c =
     let found = c.ready_for_one.ensures in
     let entries = entries_of c.ready_for_one.new.slots in
     let longer = c.ready_for_one.new.columns.items in
-    let kept = kept_one c.args.dims.now inside.plan over inside.slots inside.columns.items c.self.invariant one
+    let kept = kept_one c.args.dims.now inside.grouping over inside.slots inside.columns.items c.self.invariant one
     c.ready_for_one.new.slots longer found.cover found.grow found.same in
     ap length c.as_slice.ensures.value
-    ∙ tallies-length (query_of inside.plan).aggregates longer (length entries) []
+    ∙ tallies-length (query_of inside.grouping).aggregates longer (length entries) []
     (kept.fresh (length entries) (omega arith))
     ∙ sym (ap length (c.as_slice-aggregates.ensures ∙ ap (λ q. q.aggregates) c.query.ensures))
 
@@ -83,7 +83,7 @@ with_batch-requires-clause-within c =
     let found = c.ready_for_one.ensures in
     subst (λ (list : List (Vec Tally Global)). AllByRecursion (λ column. c.in_ok-slot.slot < length column.items) list)
     (sym c.as_slice.ensures.value)
-    (slot_within c.args.dims.now inside.plan over inside.slots inside.columns.items c.self.invariant one
+    (slot_within c.args.dims.now inside.grouping over inside.slots inside.columns.items c.self.invariant one
     c.ready_for_one.new.slots c.ready_for_one.new.columns.items found.cover found.grow found.same
     c.in_ok-slot.slot c.in_ok-slot.ensures.slot c.in_ok-slot.ensures.long)
 
@@ -96,14 +96,15 @@ invariant_of-self-2 c =
     let one = subst (λ (state : FoldState). has_one_group state.query ≡ true) (sym c.self.view_is)
     c.requires.one_group in
     let found = c.ready_for_one.ensures in
-    let aggregates : c.as_slice-aggregates.result.now ≡ (query_of inside.plan).aggregates =
+    let aggregates : c.as_slice-aggregates.result.now ≡ (query_of inside.grouping).aggregates =
     c.as_slice-aggregates.ensures ∙ ap (λ q. q.aggregates) c.query.ensures in
     let marks = c.requires.mask ∙ ap (λ (state : FoldState). map (is_selected dims state.query.conditions) rows)
     (sym c.self.view_is) in
     let is = λ (other : ℕ). c.in_ok-merged.ensures.ok other
     ∙ (λ i. tallies_with_rows (aggregates i) (selected_by c.args.mask.now rows) c.in_ok-slot.slot other
     (tallies_at (c.as_slice.ensures.value i) other)) in
-    kept_batch dims inside.plan over inside.slots inside.columns.items c.self.invariant one c.ready_for_one.new.slots
+    kept_batch dims inside.grouping over inside.slots inside.columns.items c.self.invariant one
+    c.ready_for_one.new.slots
     c.ready_for_one.new.columns.items found.cover found.grow found.same
     c.in_ok-slot.slot c.in_ok-slot.ensures.slot c.args.mask.now rows marks c.in_ok-merged.merged.items is
 
@@ -118,7 +119,7 @@ returns-clause-ok c =
     let one = subst (λ (state : FoldState). has_one_group state.query ≡ true) (sym c.self.view_is)
     c.requires.one_group in
     let found = c.ready_for_one.ensures in
-    let aggregates : c.as_slice-aggregates.result.now ≡ (query_of inside.plan).aggregates =
+    let aggregates : c.as_slice-aggregates.result.now ≡ (query_of inside.grouping).aggregates =
     c.as_slice-aggregates.ensures ∙ ap (λ q. q.aggregates) c.query.ensures in
     let marks = c.requires.mask ∙ ap (λ (state : FoldState). map (is_selected dims state.query.conditions) rows)
     (sym c.self.view_is) in
@@ -130,7 +131,7 @@ returns-clause-ok c =
     (record {
       query = ap (λ state. state.query) c.self.view_is;
       represents = λ so_far represents.
-          represents_batch dims inside.plan over inside.slots inside.columns.items c.self.invariant one
+          represents_batch dims inside.grouping over inside.slots inside.columns.items c.self.invariant one
           c.ready_for_one.new.slots c.ready_for_one.new.columns.items found.cover found.grow found.same
           c.in_ok-slot.slot c.in_ok-slot.ensures.slot mask rows marks c.in_ok-merged.merged.items is so_far
           (subst (λ (state : FoldState). RepresentsRows dims state so_far) (sym c.self.view_is) represents);
@@ -144,7 +145,7 @@ returns-in_err-merged-clause-err c =
     let one = subst (λ (state : FoldState). has_one_group state.query ≡ true) (sym c.self.view_is)
     c.requires.one_group in
     let found = c.ready_for_one.ensures in
-    rw (p.1) (shown_one c.args.dims.now inside.plan over inside.slots inside.columns.items c.self.invariant one
+    rw (p.1) (shown_one c.args.dims.now inside.grouping over inside.slots inside.columns.items c.self.invariant one
     c.ready_for_one.new.slots c.ready_for_one.new.columns.items found.cover found.grow found.same
     ∙ c.self.view_is)
 
@@ -162,18 +163,18 @@ returns-in_err-merged-clause-refused c =
     c.requires.one_group in
     let alike = subst (λ (state : FoldState). AreSame (is_asked state.query) rows others) (sym c.self.view_is) same in
     let found = c.ready_for_one.ensures in
-    let aggregates : c.as_slice-aggregates.result.now ≡ (query_of inside.plan).aggregates =
+    let aggregates : c.as_slice-aggregates.result.now ≡ (query_of inside.grouping).aggregates =
     c.as_slice-aggregates.ensures ∙ ap (λ q. q.aggregates) c.query.ensures in
     let marks = c.requires.mask ∙ ap (λ (state : FoldState). map (is_selected dims state.query.conditions) rows)
-    (sym c.self.view_is) ∙ marks_same dims (query_of inside.plan) rows others alike in
+    (sym c.self.view_is) ∙ marks_same dims (query_of inside.grouping) rows others alike in
     let given = subst (λ (state : FoldState). CanTake dims state (selected_by mask others)) (sym c.self.view_is)
     (can_take_marked dims old mask others can) in
-    let long = ap length marks ∙ length-map others (is_selected dims (query_of inside.plan).conditions) in
+    let long = ap length marks ∙ length-map others (is_selected dims (query_of inside.grouping).conditions) in
     let any = some_selected mask others long (λ none. c.if-count-eq0.false (c.count.ensures ∙ none)) in
-    let room = room_at_same (query_of inside.plan) c.ready_for_one.new.columns.items c.in_ok-slot.slot
+    let room = room_at_same (query_of inside.grouping) c.ready_for_one.new.columns.items c.in_ok-slot.slot
     (selected_by mask rows) (selected_by mask others)
-    (masked_same (is_asked (query_of inside.plan)) mask rows others alike)
-    (room_one dims inside.plan over inside.slots inside.columns.items c.self.invariant one c.ready_for_one.new.slots
+    (masked_same (is_asked (query_of inside.grouping)) mask rows others alike)
+    (room_one dims inside.grouping over inside.slots inside.columns.items c.self.invariant one c.ready_for_one.new.slots
     c.ready_for_one.new.columns.items found.cover found.grow found.same
     c.in_ok-slot.slot c.in_ok-slot.ensures.slot mask others marks given.0 given.1.0 given.1.1 c.in_ok-slot.ensures.long
     any) in
@@ -181,7 +182,7 @@ returns-in_err-merged-clause-refused c =
     (selected_by mask rows) =
     subst (λ (aggs : List Agg). HaveRoomAt aggs c.as_slice.result.now c.in_ok-slot.slot (selected_by mask rows))
     (sym aggregates)
-    (subst (λ (columns : List (Vec Tally Global)). HaveRoomAt (query_of inside.plan).aggregates columns
+    (subst (λ (columns : List (Vec Tally Global)). HaveRoomAt (query_of inside.grouping).aggregates columns
     c.in_ok-slot.slot (selected_by mask rows)) (sym c.as_slice.ensures.value) room) in
     let is : c.in_err-merged.field-0.0 ≡ BadLayout = cc bad in
     elim c.in_err-merged.ensures.refused [
@@ -196,7 +197,7 @@ invariant_of-self c =
     let one = subst (λ (state : FoldState). has_one_group state.query ≡ true) (sym c.self.view_is)
     c.requires.one_group in
     let found = c.ready_for_one.ensures in
-    kept_one c.args.dims.now inside.plan over inside.slots inside.columns.items c.self.invariant one
+    kept_one c.args.dims.now inside.grouping over inside.slots inside.columns.items c.self.invariant one
     c.ready_for_one.new.slots c.ready_for_one.new.columns.items found.cover found.grow found.same
 
 pub invariant_of-self-in_err-merged : goal.invariant_of-self-in_err-merged
@@ -206,5 +207,5 @@ invariant_of-self-in_err-merged c =
     let one = subst (λ (state : FoldState). has_one_group state.query ≡ true) (sym c.self.view_is)
     c.requires.one_group in
     let found = c.ready_for_one.ensures in
-    kept_one c.args.dims.now inside.plan over inside.slots inside.columns.items c.self.invariant one
+    kept_one c.args.dims.now inside.grouping over inside.slots inside.columns.items c.self.invariant one
     c.ready_for_one.new.slots c.ready_for_one.new.columns.items found.cover found.grow found.same

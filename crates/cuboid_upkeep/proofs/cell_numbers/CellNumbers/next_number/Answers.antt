@@ -11,8 +11,8 @@ pub returns-then-not-is_all : goal.returns-then-not-is_all
 returns-then-not-is_all c =
     let inside = c.self.inside in
     let asked : AskedOfCells = record {
-      dimensions = inside.plan.dimensions;
-      query = inside.plan.query;
+      dimensions = inside.grouping.dimensions;
+      query = inside.grouping.query;
       view = inside.view;
       modes =
           modes_of (option_map (λ modes. modes.now) inside.modes);
@@ -28,8 +28,8 @@ pub returns-then-not-is_all-2 : goal.returns-then-not-is_all-2
 returns-then-not-is_all-2 c =
     let inside = c.self.inside in
     let asked : AskedOfCells = record {
-      dimensions = inside.plan.dimensions;
-      query = inside.plan.query;
+      dimensions = inside.grouping.dimensions;
+      query = inside.grouping.query;
       view = inside.view;
       modes =
           modes_of (option_map (λ modes. modes.now) inside.modes);
@@ -46,8 +46,8 @@ pub returns-then-not-is_all-3 : goal.returns-then-not-is_all-3
 returns-then-not-is_all-3 c =
     let inside = c.self.inside in
     let asked : AskedOfCells = record {
-      dimensions = inside.plan.dimensions;
-      query = inside.plan.query;
+      dimensions = inside.grouping.dimensions;
+      query = inside.grouping.query;
       view = inside.view;
       modes =
           modes_of (option_map (λ modes. modes.now) inside.modes);
@@ -65,8 +65,8 @@ pub returns-then-not-is_all-4 : goal.returns-then-not-is_all-4
 returns-then-not-is_all-4 c =
     let inside = c.self.inside in
     let asked : AskedOfCells = record {
-      dimensions = inside.plan.dimensions;
-      query = inside.plan.query;
+      dimensions = inside.grouping.dimensions;
+      query = inside.grouping.query;
       view = inside.view;
       modes =
           modes_of (option_map (λ modes. modes.now) inside.modes);

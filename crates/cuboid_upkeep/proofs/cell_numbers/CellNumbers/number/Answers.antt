@@ -14,8 +14,8 @@ returns-then-not-has_mode-clause-refused c =
     let inside = c.self.inside in
     let asked : AskedOfCells =
     record {
-      dimensions = inside.plan.dimensions;
-      query = inside.plan.query;
+      dimensions = inside.grouping.dimensions;
+      query = inside.grouping.query;
       view = inside.view;
       modes = modes_of (option_map (λ modes. modes.now) inside.modes);
     } in
@@ -29,8 +29,8 @@ returns-in_default-clause-refused c =
     let inside = c.self.inside in
     let asked : AskedOfCells =
     record {
-      dimensions = inside.plan.dimensions;
-      query = inside.plan.query;
+      dimensions = inside.grouping.dimensions;
+      query = inside.grouping.query;
       view = inside.view;
       modes = modes_of (option_map (λ modes. modes.now) inside.modes);
     } in
@@ -44,8 +44,8 @@ returns-in_default-at-clause-refused c =
     let inside = c.self.inside in
     let asked : AskedOfCells =
     record {
-      dimensions = inside.plan.dimensions;
-      query = inside.plan.query;
+      dimensions = inside.grouping.dimensions;
+      query = inside.grouping.query;
       view = inside.view;
       modes = modes_of (option_map (λ modes. modes.now) inside.modes);
     } in
@@ -60,8 +60,8 @@ returns-in_default-at-2-clause-refused c =
     let inside = c.self.inside in
     let asked : AskedOfCells =
     record {
-      dimensions = inside.plan.dimensions;
-      query = inside.plan.query;
+      dimensions = inside.grouping.dimensions;
+      query = inside.grouping.query;
       view = inside.view;
       modes = modes_of (option_map (λ modes. modes.now) inside.modes);
     } in
@@ -75,8 +75,8 @@ returns-in_default-at-3-clause-refused c =
     let inside = c.self.inside in
     let asked : AskedOfCells =
     record {
-      dimensions = inside.plan.dimensions;
-      query = inside.plan.query;
+      dimensions = inside.grouping.dimensions;
+      query = inside.grouping.query;
       view = inside.view;
       modes = modes_of (option_map (λ modes. modes.now) inside.modes);
     } in
@@ -90,8 +90,8 @@ returns-then-not-self-clause-ok c =
     let inside = c.self.inside in
     let asked : AskedOfCells =
     record {
-      dimensions = inside.plan.dimensions;
-      query = inside.plan.query;
+      dimensions = inside.grouping.dimensions;
+      query = inside.grouping.query;
       view = inside.view;
       modes = modes_of (option_map (λ modes. modes.now) inside.modes);
     } in
@@ -122,8 +122,8 @@ returns-clause-ok c =
     let inside = c.self.inside in
     let asked : AskedOfCells =
     record {
-      dimensions = inside.plan.dimensions;
-      query = inside.plan.query;
+      dimensions = inside.grouping.dimensions;
+      query = inside.grouping.query;
       view = inside.view;
       modes = modes_of (option_map (λ modes. modes.now) inside.modes);
     } in

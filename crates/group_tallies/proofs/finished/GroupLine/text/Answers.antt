@@ -1,13 +1,13 @@
 use Rattle.std.proofs.Common.{◌<◌, sym, subst, length}
-use Rattle.group_plan.specs.Numbers.{Asked, group_key_at}
-use Rattle.group_plan.specs.Plans.{query_of}
-use Rattle.group_plan.proofs.EachDigit.{key_length}
+use Rattle.group_numbers.specs.Numbers.{Asked, group_key_at}
+use Rattle.group_numbers.specs.GroupNumbers.{query_of}
+use Rattle.group_numbers.proofs.EachDigit.{key_length}
 use Rattle.group_tallies.proofs.finished.GroupLine.text.Goals as goal
 
 pub text-requires-clause-column : goal.text-requires-clause-column
 text-requires-clause-column c =
     let dims = c.self.inside.dims.now in
-    let columns = (query_of c.self.inside.plan.now).columns in
+    let columns = (query_of c.self.inside.grouping.now).columns in
     let within : c.args.column < length (group_key_at dims columns c.self.inside.number) =
     rw (← c.self.view_is) at c.requires in
     let below : c.args.column < length columns =

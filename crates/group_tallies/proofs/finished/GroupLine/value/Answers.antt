@@ -1,13 +1,13 @@
 use Rattle.std.proofs.Common.{◌≡◌, ◌∙◌, ◌<◌, sym, ap, subst, length}
 use Rattle.group_tallies.specs.Columns.{tallies_at}
 use Rattle.group_tallies.specs.Tallies.{values_of}
-use Rattle.group_plan.specs.Plans.{query_of}
+use Rattle.group_numbers.specs.GroupNumbers.{query_of}
 use Rattle.group_tallies.proofs.LineLaws.{length-values_of}
 use Rattle.group_tallies.proofs.finished.GroupLine.value.Goals as goal
 
 pub value_at-requires-clause-place : goal.value_at-requires-clause-place
 value_at-requires-clause-place c =
-    let aggs = (query_of c.self.inside.plan.now).aggregates in
+    let aggs = (query_of c.self.inside.grouping.now).aggregates in
     let columns = c.self.inside.columns.now in
     let slot = c.self.inside.slot in
     let asked : c.as_slice-aggregates.result.now ≡ aggs = c.as_slice-aggregates.ensures

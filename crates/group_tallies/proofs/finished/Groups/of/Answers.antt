@@ -4,8 +4,8 @@ use Rattle.group_tallies.specs.GroupLines.{lines_by}
 use Rattle.group_tallies.specs.Groups.{finest}
 use Rattle.group_tallies.specs.Slots.{entries_of}
 use Rattle.cube_model.specs.Answers.{answer}
-use Rattle.group_plan.specs.Numbers.{Asked}
-use Rattle.group_plan.specs.Plans.{query_of}
+use Rattle.group_numbers.specs.Numbers.{Asked}
+use Rattle.group_numbers.specs.GroupNumbers.{query_of}
 use Rattle.group_tallies.proofs.finished.Groups.of.Goals as goal
 
 pub groups_of_kind-requires-clause-fold : goal.groups_of_kind-requires-clause-fold
@@ -16,7 +16,7 @@ groups_of_kind-requires-clause-fold c =
 pub returns-clause-answer : goal.returns-clause-answer
 returns-clause-answer c = λ rows tallied.
     let dims = c.args.dims.now in
-    let query = query_of c.args.plan in
+    let query = query_of c.args.grouping in
     let new = c.groups_of_kind.new.columns.items in
     let order = c.in_ok-order.order.items in
     let lines : lines_by dims query new order ≡ (answer query dims rows).lines =

@@ -7,33 +7,34 @@ use Rattle.object_store.specs.Moments.{begins}
 use Rattle.object_store.specs.Store.{IsOneOf, content_of, disk_of}
 use Rattle.object_store.proofs.store.Store.commit.Goals as goal
 
-pub put_plan-requires-clause-planned : goal.put_plan-requires-clause-planned
-put_plan-requires-clause-planned g c = record {
+pub put_staged-requires-clause-is_staged : goal.put_staged-requires-clause-is_staged
+put_staged-requires-clause-is_staged g c = record {
   drops = c.args.drops.now;
   root = c.args.root.now;
   layout = c.args.layout;
-  planned = c.in_ok-plan.ensures.ok;
+  is_staged = c.in_ok-staged.ensures.ok;
 }
 
 pub returns-clause-leaves : goal.returns-clause-leaves
-returns-clause-leaves g c = λ fine. c.put_plan.ensures.leaves c.args.drops.now c.args.root.now c.args.layout
-    c.in_ok-plan.ensures.ok
+returns-clause-leaves g c = λ fine. c.put_staged.ensures.leaves c.args.drops.now c.args.root.now c.args.layout
+    c.in_ok-staged.ensures.ok
 
 pub returns-clause-ok : goal.returns-clause-ok
 returns-clause-ok g c =
-    on_ok_weaker c.put_plan.result
-    (λ made w. made c.args.drops.now c.args.root.now c.args.layout c.in_ok-plan.ensures.ok w) c.put_plan.ensures.ok
+    on_ok_weaker c.put_staged.result
+    (λ made w. made c.args.drops.now c.args.root.now c.args.layout c.in_ok-staged.ensures.ok w) c.put_staged.ensures.ok
 
 pub returns-clause-fine : goal.returns-clause-fine
 returns-clause-fine g c =
-    on_ok_weaker c.put_plan.result (λ fine. (c.in_ok-plan.ensures.fine, fine)) c.put_plan.ensures.fine
+    on_ok_weaker c.put_staged.result (λ fine. (c.in_ok-staged.ensures.fine, fine)) c.put_staged.ensures.fine
 
 pub returns-clause-shows : goal.returns-clause-shows
-returns-clause-shows g c = on_ok_weaker c.put_plan.result (λ fine. always_shows g.D.Sectors c.put_plan.new.self fine)
-    c.put_plan.ensures.fine
+returns-clause-shows g c =
+    on_ok_weaker c.put_staged.result (λ fine. always_shows g.D.Sectors c.put_staged.new.self fine)
+    c.put_staged.ensures.fine
 
-pub returns-in_err-plan-clause-leaves : goal.returns-in_err-plan-clause-leaves
-returns-in_err-plan-clause-leaves g c = λ fine.
+pub returns-in_err-staged-clause-leaves : goal.returns-in_err-staged-clause-leaves
+returns-in_err-staged-clause-leaves g c = λ fine.
     let store = c.args.self.now in
     let content = content_of g.D.Sectors store in
     begins (ShowsSome

@@ -7,10 +7,10 @@ use Rattle.object_store.proofs.store.Store.create.Goals as goal
 
 pub returns-in-Ok-clause-shows : goal.returns-in-Ok-clause-shows
 returns-in-Ok-clause-shows g c w image is =
-    let plan = c.in-Ok.plan in
+    let staged = c.in-Ok.staged in
     let s = g.D.Sectors.state c.create.new.device in (
-      content_from s.reads plan.superblock plan.entries.items plan.root.items,
-      ready_shows s plan.superblock plan.entries.items plan.root.items (c.in-Ok.ensures.ready w) image is,
+      content_from s.reads staged.superblock staged.entries.items staged.root.items,
+      ready_shows s staged.superblock staged.entries.items staged.root.items (c.in-Ok.ensures.ready w) image is,
       refl,
     )
 

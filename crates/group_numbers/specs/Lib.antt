@@ -1,0 +1,10 @@
+pub mod Beginnings
+pub mod Columns
+pub mod Filters
+pub mod Kept
+pub mod Kinds
+pub mod MemberRows
+pub mod Numbers
+pub mod Parts
+pub mod GroupNumbers
+pub mod Rows

@@ -1,6 +1,0 @@
-use Rattle.std.proofs.Common.{◌≡◌, take}
-use Rattle.group_plan.specs.Parts.{part_by}
-use Rattle.group_plan.proofs.digits.part_by.Given as goal
-
-abbrev pub invariant-loop-digit : goal.invariant-loop-digit
-invariant-loop-digit l = l.part ≡ part_by l.dims l.place (take l.digit-index l.digits)

@@ -1,5 +1,0 @@
-use Rattle.group_plan.proofs.KindsLemmas.{AreFirst}
-use Rattle.group_plan.proofs.kinds.first_places.Given as goal
-
-abbrev pub invariant-loop-place : goal.invariant-loop-place
-invariant-loop-place l = AreFirst l.count l.codes l.place l.places.items

@@ -1,5 +1,0 @@
-use Rattle.group_plan.proofs.MemberRowsLemmas.{HaveSoFar}
-use Rattle.group_plan.proofs.member_rows.member_places.Given as goal
-
-abbrev pub invariant-loop-i : goal.invariant-loop-i
-invariant-loop-i l = HaveSoFar l.dims l.attr l.rows.items l.i l.places.items

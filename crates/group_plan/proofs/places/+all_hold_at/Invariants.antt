@@ -1,5 +1,0 @@
-use Rattle.std.proofs.Common.{length}
-use Rattle.group_plan.proofs.places.+all_hold_at.Given as goal
-
-abbrev pub decreases-all_hold_at : goal.decreases-all_hold_at
-decreases-all_hold_at l = length l.conditions.now
