@@ -14,7 +14,9 @@ use Rattle.dictionary.specs.Spelling.{AreShort, texts_spelling}
 use Rattle.dictionary.specs.Columns.{codes_of, codes_spelling, column_spelling, text_of_code}
 use Rattle.dictionary.proofs.ColumnLaws.{AreCodes-below, AreProper-firsts, column_has_codes, length-firsts}
 use Rattle.dictionary.proofs.ColumnLaws.{texts_spelling-one}
-use Rattle.column_segment.specs.Columns.{Column, FitsColumn, figure_columns, number_columns, text_columns, text_of}
+use Rattle.column_segment.specs.declared.columns.FactColumn.{FactColumn}
+use Rattle.column_segment.specs.Columns.{FitsColumn, fact_value, figure_columns, limit_of, number_columns, text_columns}
+use Rattle.column_segment.specs.Columns.{text_of, width_of}
 use Rattle.column_segment.specs.Encoding.{HaveFigures, HaveRows}
 use Rattle.column_segment.specs.declared.gathering.Figures.{Figures}
 use Rattle.column_segment.specs.declared.encoding.BatchColumns.{BatchColumns}
@@ -73,32 +75,34 @@ texts-one column others xs ys many few short also same =
 
 -- ---- the columns of numbers
 
-abbrev Wide : List Column → Type 0
-Wide columns = AllByRecursion (λ column. column.limit ≤ 256 ^ column.width) columns
+abbrev Wide : List FactColumn → Type 0
+Wide columns = AllByRecursion (λ column. limit_of column ≤ 256 ^ width_of column) columns
 
-abbrev Fit : List Column → List LineOrder → Type 0
+abbrev Fit : List FactColumn → List LineOrder → Type 0
 Fit columns rows = AllByRecursion (λ column. All (FitsColumn column) rows) columns
 
-abbrev Same : List Column → List LineOrder → List LineOrder → Type 0
-Same columns rows others = AllByRecursion (λ column. map column.value rows ≡ map column.value others) columns
+abbrev Same : List FactColumn → List LineOrder → List LineOrder → Type 0
+Same columns rows others = AllByRecursion (λ column. map (fact_value column) rows ≡ map (fact_value column) others)
+    columns
 
-below : (column : Column) (rows : List LineOrder) → column.limit ≤ 256 ^ column.width → All (FitsColumn column) rows
-    → AllByRecursion (λ x. x < 256 ^ column.width) (map column.value rows)
+below : (column : FactColumn) (rows : List LineOrder) → limit_of column ≤ 256 ^ width_of column
+    → All (FitsColumn column) rows
+    → AllByRecursion (λ x. x < 256 ^ width_of column) (map (fact_value column) rows)
 below column [] wide fit = tt
 below column (row ∷ rows) wide fit =
     let head = All-head (FitsColumn column) row rows fit in
     (omega (arith, head, wide), below column rows wide (All-tail (FitsColumn column) row rows fit))
 
-columns-one : (columns : List Column) (rows others : List LineOrder) (xs ys : List ℕ) → length rows ≡ length others
+columns-one : (columns : List FactColumn) (rows others : List LineOrder) (xs ys : List ℕ) → length rows ≡ length others
     → Wide columns → Fit columns rows → Fit columns others
     → flat_map (number_column rows) columns ++ xs ≡ flat_map (number_column others) columns ++ ys
     → Same columns rows others × (xs ≡ ys)
 columns-one [] rows others xs ys many wide fit also same = (tt, same)
 columns-one (column ∷ columns) rows others xs ys many wide fit also same =
-    let a : List ℕ = flat_map (spelling column.width) (map column.value rows) in
-    let b : List ℕ = flat_map (spelling column.width) (map column.value others) in
-    let a_is : a ≡ number_column rows column = flat_map-map (spelling column.width) column.value rows in
-    let b_is : b ≡ number_column others column = flat_map-map (spelling column.width) column.value others in
+    let a : List ℕ = flat_map (spelling (width_of column)) (map (fact_value column) rows) in
+    let b : List ℕ = flat_map (spelling (width_of column)) (map (fact_value column) others) in
+    let a_is : a ≡ number_column rows column = flat_map-map (spelling (width_of column)) (fact_value column) rows in
+    let b_is : b ≡ number_column others column = flat_map-map (spelling (width_of column)) (fact_value column) others in
     let rest1 : List ℕ = flat_map (number_column rows) columns ++ xs in
     let rest2 : List ℕ = flat_map (number_column others) columns ++ ys in
     let parts : a ++ rest1 ≡ b ++ rest2 =
@@ -106,9 +110,11 @@ columns-one (column ∷ columns) rows others xs ys many wide fit also same =
     ∙ sym (append_assoc (number_column rows column) (flat_map (number_column rows) columns) xs) ∙ same
     ∙ append_assoc (number_column others column) (flat_map (number_column others) columns) ys
     ∙ ap (λ (l : List ℕ). l ++ rest2) (sym b_is) in
-    let len : length (map column.value rows) ≡ length (map column.value others) = length-map rows column.value ∙ many
-    ∙ sym (length-map others column.value) in
-    let first = numbers-one column.width (map column.value rows) (map column.value others) rest1 rest2 len
+    let len : length (map (fact_value column) rows) ≡ length (map (fact_value column) others) =
+    length-map rows (fact_value column) ∙ many
+    ∙ sym (length-map others (fact_value column)) in
+    let first = numbers-one (width_of column) (map (fact_value column) rows) (map (fact_value column) others) rest1
+    rest2 len
     (below column rows wide.0 fit.0) (below column others wide.0 also.0) parts in
     let more = columns-one columns rows others xs ys many wide.1 fit.1 also.1 first.1 in
     ((first.0, more.0), more.1)
@@ -145,7 +151,8 @@ text_columns-one (column ∷ columns) rows others xs ys many batch also same =
 -- ---- the rows
 
 -- a row is its columns
-row_of : (one other : LineOrder) → AllByRecursion (λ column. column.value one ≡ column.value other) number_columns
+row_of : (one other : LineOrder)
+    → AllByRecursion (λ column. fact_value column one ≡ fact_value column other) number_columns
     → AllByRecursion (λ column. text_of column one ≡ text_of column other) text_columns → one ≡ other
 row_of one other n t =
     let orderkey : one.orderkey ≡ other.orderkey = n.0 in
@@ -186,12 +193,13 @@ row_of one other n t =
       shipmode = shipmode i;
     }
 
-heads : (columns : List Column) (one other : LineOrder) (rows others : List LineOrder)
+heads : (columns : List FactColumn) (one other : LineOrder) (rows others : List LineOrder)
     → Same columns (one ∷ rows) (other ∷ others)
-    → AllByRecursion (λ column. column.value one ≡ column.value other) columns × Same columns rows others
+    → AllByRecursion (λ column. fact_value column one ≡ fact_value column other) columns × Same columns rows others
 heads [] one other rows others same = (tt, tt)
 heads (column ∷ columns) one other rows others same =
-    let parts = split (column.value one) (column.value other) (map column.value rows) (map column.value others)
+    let parts = split (fact_value column one) (fact_value column other) (map (fact_value column) rows)
+    (map (fact_value column) others)
     same.0 in
     let rest = heads columns one other rows others same.1 in
     ((parts.0, rest.0), (parts.1, rest.1))

@@ -1,13 +1,13 @@
 -- A column of texts while it is being coded. Our own.
-use Rattle.std.proofs.Common.{◌≡◌, ◌<◌, ◌≤◌, ◌+◌, ◌∙◌, sym, ap, subst, arith, ℕ, MatchOption, Option, Some, None, List}
+use Rattle.std.proofs.Common.{◌≡◌, ◌<◌, ◌≤◌, ◌+◌, ◌∙◌, sym, ap, subst, arith, ℕ, Some, List}
 use Rattle.std.proofs.Common.{[], ◌∷◌, ◌++◌, map, length}
 use Rattle.std.proofs.Common.{take, get_or, append_assoc}
-use Rattle.std.proofs.lemmas.List.{flat_map_more, length-append, length-map, map-append, take_more}
+use Rattle.std.proofs.lemmas.List.{flat_map_more, length-map, map-append, take_more}
 use Rattle.std.proofs.lemmas.List.Elements.{All-map}
 use Rattle.cube_model.specs.Limits.{longest_text, most_batch_rows}
 use Rattle.cube_model.specs.declared.rows.LineOrder.{LineOrder}
 use Rattle.wire.specs.Spelling.{spelling}
-use Rattle.dictionary.specs.Dictionary.{Adds, Texts, code_of, with_text}
+use Rattle.dictionary.specs.Dictionary.{Adds, Texts}
 use Rattle.dictionary.specs.Spelling.{AreShort, texts_spelling}
 use Rattle.dictionary.specs.Columns.{codes_of, codes_spelling, column_spelling}
 use Rattle.dictionary.proofs.ColumnLaws.{AreProper-firsts, adds_column, codes_more, length-firsts}

@@ -8,7 +8,8 @@ use Rattle.std.proofs.lemmas.List.{flat_map_more, length-map, length-take-le, ma
 use Rattle.cube_model.specs.Limits.{most_batch_rows}
 use Rattle.cube_model.specs.declared.rows.LineOrder.{LineOrder}
 use Rattle.wire.specs.Spelling.{spelling}
-use Rattle.column_segment.specs.Columns.{Column, FitsColumn, text_of}
+use Rattle.column_segment.specs.declared.columns.FactColumn.{FactColumn}
+use Rattle.column_segment.specs.Columns.{FitsColumn, fact_value, text_of, width_of}
 use Rattle.column_segment.specs.Encoding.{CodingHasRoom, CodingsHaveRoom, HaveTexts, IsCoding, IsColumnOf, PutsColumn}
 use Rattle.column_segment.specs.Encoding.{number_chunks}
 use Rattle.column_segment.specs.Segment.{number_column}
@@ -21,14 +22,14 @@ use Rattle.column_segment.proofs.Coded.{has_room}
 
 -- ---- numbers
 
-flat_chunks : (column : Column) (rows : List LineOrder) → flat_map (λ chunk. chunk) (number_chunks column rows)
+flat_chunks : (column : FactColumn) (rows : List LineOrder) → flat_map (λ chunk. chunk) (number_chunks column rows)
     ≡ number_column rows column
 flat_chunks column [] = refl
 flat_chunks column (row ∷ rows) =
-    ap (λ (l : List ℕ). spelling column.width (column.value row) ++ l) (flat_chunks column rows)
+    ap (λ (l : List ℕ). spelling (width_of column) (fact_value column row) ++ l) (flat_chunks column rows)
 
 -- the bytes of all rows, one after the other, are the column
-pub column_after : (column : Column) (rows : List LineOrder) (items slice : List (List ℕ)) (s0 s1 : List ℕ)
+pub column_after : (column : FactColumn) (rows : List LineOrder) (items slice : List (List ℕ)) (s0 s1 : List ℕ)
     → IsColumnOf column rows items → slice ≡ items
     → s1 ≡ s0 ++ flat_map (λ chunk. chunk) slice → s1 ≡ s0 ++ number_column rows column
 column_after column rows items slice s0 s1 are same put =
@@ -70,11 +71,11 @@ length_after before rows i le = length-append before (take i rows)
 -- ---- pieces of rows
 
 -- the bytes of a piece after those of the rows before
-pub chunks_after : (column : Column) (before piece : List LineOrder) (old new : List (List ℕ))
+pub chunks_after : (column : FactColumn) (before piece : List LineOrder) (old new : List (List ℕ))
     → IsColumnOf column before old → PutsColumn column piece old new → IsColumnOf column (before ++ piece) new
 chunks_after column before piece old new are puts = record {
   chunks = puts.put ∙ ap (λ (l : List (List ℕ)). l ++ number_chunks column piece) are.chunks
-      ∙ sym (map-append (λ (r : LineOrder). spelling column.width (column.value r)) before piece);
+      ∙ sym (map-append (λ (r : LineOrder). spelling (width_of column) (fact_value column r)) before piece);
   fits = All-append (FitsColumn column) before piece are.fits puts.fits;
 }
 

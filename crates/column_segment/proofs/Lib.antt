@@ -4,6 +4,7 @@ mod Gathered
 mod Chunked
 mod Coded
 mod CodingLemmas
+mod ColumnsLemmas
 mod ExtremesLemmas
 mod ProjectingLemmas
 mod ReadingLemmas

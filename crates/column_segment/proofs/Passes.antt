@@ -18,14 +18,16 @@ use Rattle.dictionary.specs.Dictionary.{firsts}
 use Rattle.dictionary.specs.Spelling.{AreProper, AreShort, BeginsWithNone, ReadsTexts, texts_spelling}
 use Rattle.dictionary.proofs.ColumnLaws.{AreCodes-below, AreProper-firsts, column_has_codes, length-firsts}
 use Rattle.dictionary.proofs.ColumnLaws.{texts_spelling-one}
-use Rattle.column_segment.specs.declared.columns.AmountColumn.{AmountColumn}
-use Rattle.column_segment.specs.declared.columns.AmountColumn.TheVariants.{OrderKey, ExtendedPrice, OrdTotalPrice}
-use Rattle.column_segment.specs.declared.columns.AmountColumn.TheVariants.{Revenue, SupplyCost}
+use Rattle.column_segment.specs.declared.columns.FactColumn.{FactColumn}
+use Rattle.column_segment.specs.declared.columns.FactColumn.TheVariants.{OrderKey, LineNumber, CustKey, PartKey}
+use Rattle.column_segment.specs.declared.columns.FactColumn.TheVariants.{SuppKey, OrderDate, Quantity, ExtendedPrice}
+use Rattle.column_segment.specs.declared.columns.FactColumn.TheVariants.{OrdTotalPrice, Discount, Revenue, SupplyCost}
+use Rattle.column_segment.specs.declared.columns.FactColumn.TheVariants.{Tax}
 use Rattle.column_segment.specs.declared.columns.TextColumn.{TextColumn}
 use Rattle.column_segment.specs.declared.columns.TextColumn.TheVariants.{OrderPriority, ShipPriority, CommitDate}
 use Rattle.column_segment.specs.declared.columns.TextColumn.TheVariants.{ShipMode}
 use Rattle.column_segment.specs.declared.layout.Coded.{Coded}
-use Rattle.column_segment.specs.Columns.{Column, FitsColumn, amount_of, amounts, number_columns, text_columns, text_of}
+use Rattle.column_segment.specs.Columns.{FitsColumn, fact_value, number_columns, text_columns, text_of, width_of}
 use Rattle.column_segment.specs.Decoded.{amounts_in, column_bytes, texts_in}
 use Rattle.column_segment.specs.Reading.{BeginsWithCodes, BeginsWithNoColumn, HasColumn, HasHeader, HasNumbers}
 use Rattle.column_segment.specs.Reading.{SpellNoTexts, SpellNone}
@@ -72,18 +74,19 @@ header_same text number other rows others one two =
 
 -- ---- the columns of numbers
 
-abbrev pub Sections : List Column → ℕ → ℕ → List LineOrder → List ℕ → Type 0
+abbrev pub Sections : List FactColumn → ℕ → ℕ → List LineOrder → List ℕ → Type 0
 Sections [] place n rows xs = Unit {0}
 Sections (column ∷ columns) place n rows xs =
-    (take (column.width * n) (drop (place * n) xs) ≡ number_column rows column)
-    × Sections columns (place + column.width) n rows xs
+    (take (width_of column * n) (drop (place * n) xs) ≡ number_column rows column)
+    × Sections columns (place + width_of column) n rows xs
 
-length-column : (rows : List LineOrder) (column : Column)
-    → length (number_column rows column) ≡ column.width * length rows
-length-column rows column = length-parts column.width (λ (row : LineOrder). spelling column.width (column.value row))
-    (λ row. length-spelling column.width (column.value row)) rows
+length-column : (rows : List LineOrder) (column : FactColumn)
+    → length (number_column rows column) ≡ width_of column * length rows
+length-column rows column =
+    length-parts (width_of column) (λ (row : LineOrder). spelling (width_of column) (fact_value column row))
+    (λ row. length-spelling (width_of column) (fact_value column row)) rows
 
-sections : (columns : List Column) (place n : ℕ) (rows : List LineOrder) (xs rest : List ℕ) → length rows ≡ n
+sections : (columns : List FactColumn) (place n : ℕ) (rows : List LineOrder) (xs rest : List ℕ) → length rows ≡ n
     → drop (place * n) xs ≡ flat_map (number_column rows) columns ++ rest
     → Sections columns place n rows xs
 sections [] place n rows xs rest many is = tt
@@ -92,15 +95,17 @@ sections (column ∷ columns) place n rows xs rest many is =
     let more : List ℕ = flat_map (number_column rows) columns ++ rest in
     let parts : drop (place * n) xs ≡ own ++ more = is
     ∙ append_assoc own (flat_map (number_column rows) columns) rest in
-    let long : length own ≡ column.width * n = length-column rows column ∙ ap (λ (m : ℕ). column.width * m) many in
-    let left : drop ((place + column.width) * n) xs ≡ more =
-    ap (λ (m : ℕ). drop m xs) (sum_times place column.width n) ∙ sym (drop-drop (column.width * n) (place * n) xs)
-    ∙ ap (drop (column.width * n)) parts ∙ drop_at own more (column.width * n) long in (
-      ap (take (column.width * n)) parts ∙ take_at own more (column.width * n) long,
-      sections columns (place + column.width) n rows xs rest many left,
+    let long : length own ≡ width_of column * n = length-column rows column
+    ∙ ap (λ (m : ℕ). width_of column * m) many in
+    let left : drop ((place + width_of column) * n) xs ≡ more =
+    ap (λ (m : ℕ). drop m xs) (sum_times place (width_of column) n)
+    ∙ sym (drop-drop (width_of column * n) (place * n) xs)
+    ∙ ap (drop (width_of column * n)) parts ∙ drop_at own more (width_of column * n) long in (
+      ap (take (width_of column * n)) parts ∙ take_at own more (width_of column * n) long,
+      sections columns (place + width_of column) n rows xs rest many left,
     )
 
-length-columns : (columns : List Column) (rows : List LineOrder)
+length-columns : (columns : List FactColumn) (rows : List LineOrder)
     → length (flat_map (number_column rows) columns) ≡ total columns * length rows
 length-columns [] rows = omega arith
 length-columns (column ∷ columns) rows =
@@ -109,7 +114,7 @@ length-columns (column ∷ columns) rows =
       length-append (number_column rows column) (flat_map (number_column rows) columns),
       length-column rows column,
       length-columns columns rows,
-      sum_times column.width (total columns) (length rows),
+      sum_times (width_of column) (total columns) (length rows),
     )
 
 -- numbers that are read back from their bytes, each from its own
@@ -162,16 +167,17 @@ module _ (text : List ℕ) (number : ℕ) (rows : List LineOrder) (is : IsSegmen
       sections number_columns 0 (length rows) rows (drop 12 text) (flat_map (text_column rows) text_columns) refl
       (ap (λ (m : ℕ). drop m (drop 12 text)) start ∙ left)
 
-  amount_column : (place : ℕ) (column : AmountColumn)
-      → take (8 * length rows) (drop (place * length rows) (drop 12 text)) ≡ number_column rows (amounts column)
-      → All (FitsColumn (amounts column)) rows
+  amount_column : (place : ℕ) (value : LineOrder → ℕ)
+      → take (8 * length rows) (drop (place * length rows) (drop 12 text))
+      ≡ flat_map (λ row. spelling 8 (value row)) rows
+      → All (λ row. value row < 2 ^ 63) rows
       → all_below (2 ^ 63)
       (map (from_le_bytes w64) (first_chunks 8 (length rows) (column_bytes place 8 (length rows) text))) ≡ true
-  amount_column place column holds fit =
+  amount_column place value holds fit =
       ap (λ (l : List ℕ). all_below (2 ^ 63) (map (from_le_bytes w64) (first_chunks 8 (length rows) l))) holds
       ∙ ap (all_below (2 ^ 63))
-      (column_back 8 (from_le_bytes w64) (2 ^ 63) (λ x h. read_8 x (omega (arith, h))) (amount_of column) rows fit)
-      ∙ all_below_of (amount_of column) (2 ^ 63) rows fit
+      (column_back 8 (from_le_bytes w64) (2 ^ 63) (λ x h. read_8 x (omega (arith, h))) value rows fit)
+      ∙ all_below_of value (2 ^ 63) rows fit
 
   pub has_numbers : HasNumbers text (length rows)
   has_numbers =
@@ -189,17 +195,26 @@ module _ (text : List ℕ) (number : ℕ) (rows : List LineOrder) (is : IsSegmen
               (flat_map (number_column rows) number_columns ++ flat_map (text_column rows) text_columns),
           length-header number (length rows),
         );
-        amounts = λ column. by column s f;
+        amounts = λ column wide. by column wide s f;
       }
     where
-      by : (column : AmountColumn) → Sections number_columns 0 (length rows) rows (drop 12 text)
+      by : (column : FactColumn) → width_of column ≡ 8 → Sections number_columns 0 (length rows) rows (drop 12 text)
           → AllByRecursion (λ c. All (FitsColumn c) rows) number_columns
           → all_below (2 ^ 63) (amounts_in text (length rows) column) ≡ true
-      by OrderKey s f = amount_column 0 OrderKey s.0 f.0
-      by ExtendedPrice s f = amount_column 29 ExtendedPrice s.1.1.1.1.1.1.1.0 f.1.1.1.1.1.1.1.0
-      by OrdTotalPrice s f = amount_column 37 OrdTotalPrice s.1.1.1.1.1.1.1.1.0 f.1.1.1.1.1.1.1.1.0
-      by Revenue s f = amount_column 46 Revenue s.1.1.1.1.1.1.1.1.1.1.0 f.1.1.1.1.1.1.1.1.1.1.0
-      by SupplyCost s f = amount_column 54 SupplyCost s.1.1.1.1.1.1.1.1.1.1.1.0 f.1.1.1.1.1.1.1.1.1.1.1.0
+      by OrderKey wide s f = amount_column 0 (fact_value OrderKey) s.0 f.0
+      by LineNumber wide s f = absurd (omega (arith, wide))
+      by CustKey wide s f = absurd (omega (arith, wide))
+      by PartKey wide s f = absurd (omega (arith, wide))
+      by SuppKey wide s f = absurd (omega (arith, wide))
+      by OrderDate wide s f = absurd (omega (arith, wide))
+      by Quantity wide s f = absurd (omega (arith, wide))
+      by ExtendedPrice wide s f = amount_column 29 (fact_value ExtendedPrice) s.1.1.1.1.1.1.1.0 f.1.1.1.1.1.1.1.0
+      by OrdTotalPrice wide s f = amount_column 37 (fact_value OrdTotalPrice) s.1.1.1.1.1.1.1.1.0 f.1.1.1.1.1.1.1.1.0
+      by Discount wide s f = absurd (omega (arith, wide))
+      by Revenue wide s f = amount_column 46 (fact_value Revenue) s.1.1.1.1.1.1.1.1.1.1.0 f.1.1.1.1.1.1.1.1.1.1.0
+      by SupplyCost wide s f =
+          amount_column 54 (fact_value SupplyCost) s.1.1.1.1.1.1.1.1.1.1.1.0 f.1.1.1.1.1.1.1.1.1.1.1.0
+      by Tax wide s f = absurd (omega (arith, wide))
 
   pub texts_left : drop (12 + 63 * length rows) text ≡ flat_map (text_column rows) text_columns
   texts_left =

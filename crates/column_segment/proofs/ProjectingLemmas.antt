@@ -7,15 +7,14 @@ use Rattle.std.specs.Simd.{first_chunks}
 use Rattle.std.proofs.lemmas.Bool.{ltb-false, ltb-true}
 use Rattle.std.proofs.lemmas.List.{ext_get_or, get_or-drop, get_or-take, length-take-le, take-append-drop}
 use Rattle.column_kernels.specs.Checks.{all_below}
-use Rattle.column_segment.specs.declared.columns.AmountColumn.TheVariants.{OrderKey, ExtendedPrice, OrdTotalPrice}
-use Rattle.column_segment.specs.declared.columns.AmountColumn.TheVariants.{Revenue, SupplyCost}
-use Rattle.column_segment.specs.declared.columns.NumberColumn.TheVariants.{LineNumber, CustKey, PartKey, SuppKey}
-use Rattle.column_segment.specs.declared.columns.NumberColumn.TheVariants.{OrderDate}
-use Rattle.column_segment.specs.declared.columns.ByteColumn.TheVariants.{Quantity, Discount, Tax}
 use Rattle.column_segment.specs.declared.columns.FactColumn.{FactColumn}
-use Rattle.column_segment.specs.declared.columns.FactColumn.TheVariants.{Amount, Number, Figure}
-use Rattle.column_segment.specs.Decoded.{column_bytes}
-use Rattle.column_segment.specs.Projected.{FitsColumnIn, ShareColumn, StaysOutside, fact_place, width_of, HasColumns}
+use Rattle.column_segment.specs.declared.columns.FactColumn.TheVariants.{OrderKey, LineNumber, CustKey, PartKey}
+use Rattle.column_segment.specs.declared.columns.FactColumn.TheVariants.{SuppKey, OrderDate, Quantity, ExtendedPrice}
+use Rattle.column_segment.specs.declared.columns.FactColumn.TheVariants.{OrdTotalPrice, Discount, Revenue, SupplyCost}
+use Rattle.column_segment.specs.declared.columns.FactColumn.TheVariants.{Tax}
+use Rattle.column_segment.specs.Columns.{width_of}
+use Rattle.column_segment.specs.Decoded.{column_bytes, fact_place}
+use Rattle.column_segment.specs.Projected.{FitsColumnIn, HasColumns, ShareColumn, StaysOutside}
 use Rattle.column_segment.proofs.Chunked.{within_rows}
 use Rattle.std.specs.List.{AllByRecursion}
 use Rattle.std.specs.Option.{IsSomeAnd}
@@ -74,19 +73,19 @@ side at count place = by (nat_lt place at) refl
 -- ---- where columns are
 
 pub column_place : (column : FactColumn) → fact_place column + width_of column ≤ 63
-column_place (Amount OrderKey) = omega arith
-column_place (Amount ExtendedPrice) = omega arith
-column_place (Amount OrdTotalPrice) = omega arith
-column_place (Amount Revenue) = omega arith
-column_place (Amount SupplyCost) = omega arith
-column_place (Number LineNumber) = omega arith
-column_place (Number CustKey) = omega arith
-column_place (Number PartKey) = omega arith
-column_place (Number SuppKey) = omega arith
-column_place (Number OrderDate) = omega arith
-column_place (Figure Quantity) = omega arith
-column_place (Figure Discount) = omega arith
-column_place (Figure Tax) = omega arith
+column_place OrderKey = omega arith
+column_place LineNumber = omega arith
+column_place CustKey = omega arith
+column_place PartKey = omega arith
+column_place SuppKey = omega arith
+column_place OrderDate = omega arith
+column_place Quantity = omega arith
+column_place ExtendedPrice = omega arith
+column_place OrdTotalPrice = omega arith
+column_place Discount = omega arith
+column_place Revenue = omega arith
+column_place SupplyCost = omega arith
+column_place Tax = omega arith
 
 pub column_within : (column : FactColumn) (rows : ℕ)
     → 12 + fact_place column * rows + width_of column * rows ≤ 12 + 63 * rows
@@ -137,9 +136,11 @@ module _ (old new : List ℕ) (rows : ℕ) (column : FactColumn) (room : 12 + 63
 -- a column that shares its numbers with one that fits
 pub fits_shared : (new text : List ℕ) (rows : ℕ) (column : FactColumn) → ShareColumn rows new text column
     → FitsColumnIn text rows column → FitsColumnIn new rows column
-fits_shared new text rows column same all amount is =
-    let own : ShareColumn rows new text (Amount amount) = subst (ShareColumn rows new text) is same in
-    ap (λ (part : List ℕ). all_below (2 ^ 63) (map (from_le_bytes w64) (first_chunks 8 rows part))) own ∙ all amount is
+fits_shared new text rows column same all wide =
+    let own : column_bytes (fact_place column) 8 rows new ≡ column_bytes (fact_place column) 8 rows text =
+    subst (λ (width : ℕ). column_bytes (fact_place column) width rows new
+    ≡ column_bytes (fact_place column) width rows text) wide same in
+    ap (λ (part : List ℕ). all_below (2 ^ 63) (map (from_le_bytes w64) (first_chunks 8 rows part))) own ∙ all wide
 
 -- ==== Bytes over whose front that of a text was read. Our own.
 
@@ -200,7 +201,7 @@ module _ (new text : List ℕ) (rows : ℕ) (room : 12 + 63 * rows ≤ length ne
       → HasHeader new number rows × All (FitsColumnIn new rows) columns
   front_fits number columns header numbers = (
     header_moved text new number rows (sym first_same) header,
-    λ i d lt. fits_shared new text rows _ (front_shares _) (λ amount is. numbers.amounts amount),
+    λ i d lt. fits_shared new text rows _ (front_shares _) (numbers.amounts _),
   )
 
 -- the same of the text at an id, if there is one

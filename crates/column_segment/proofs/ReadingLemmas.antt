@@ -18,10 +18,13 @@ use Rattle.std.specs.Result.{IsErrAnd}
 use Rattle.cube_model.specs.declared.fault.Fault.{Fault}
 use Rattle.cube_model.specs.declared.fault.Fault.TheVariants.{BadLayout, Memory}
 use Rattle.column_kernels.specs.Checks.{all_below}
+use Rattle.column_segment.specs.Columns.{width_of}
 use Rattle.column_segment.specs.Decoded.{amounts_in}
-use Rattle.column_segment.specs.declared.columns.AmountColumn.{AmountColumn}
-use Rattle.column_segment.specs.declared.columns.AmountColumn.TheVariants.{OrderKey, ExtendedPrice, OrdTotalPrice}
-use Rattle.column_segment.specs.declared.columns.AmountColumn.TheVariants.{Revenue, SupplyCost}
+use Rattle.column_segment.specs.declared.columns.FactColumn.{FactColumn}
+use Rattle.column_segment.specs.declared.columns.FactColumn.TheVariants.{OrderKey, LineNumber, CustKey, PartKey}
+use Rattle.column_segment.specs.declared.columns.FactColumn.TheVariants.{SuppKey, OrderDate, Quantity, ExtendedPrice}
+use Rattle.column_segment.specs.declared.columns.FactColumn.TheVariants.{OrdTotalPrice, Discount, Revenue, SupplyCost}
+use Rattle.column_segment.specs.declared.columns.FactColumn.TheVariants.{Tax}
 
 -- ==== What the parts of a header that were read say of the bytes. Our own.
 
@@ -120,20 +123,28 @@ refused {A = A} (Err own) fault is so says = weaker own so (rw is says)
 
 -- ==== Tests that say together that the columns of numbers are there. Our own.
 
-each_amount : (P : AmountColumn → Type 0) → P OrderKey → P ExtendedPrice → P OrdTotalPrice → P Revenue → P SupplyCost
-    → (column : AmountColumn) → P column
-each_amount P one two three four five OrderKey = one
-each_amount P one two three four five ExtendedPrice = two
-each_amount P one two three four five OrdTotalPrice = three
-each_amount P one two three four five Revenue = four
-each_amount P one two three four five SupplyCost = five
+each_amount : (P : FactColumn → Type 0) → P OrderKey → P ExtendedPrice → P OrdTotalPrice → P Revenue → P SupplyCost
+    → (column : FactColumn) → width_of column ≡ 8 → P column
+each_amount P one two three four five OrderKey wide = one
+each_amount P one two three four five LineNumber wide = absurd (omega (arith, wide))
+each_amount P one two three four five CustKey wide = absurd (omega (arith, wide))
+each_amount P one two three four five PartKey wide = absurd (omega (arith, wide))
+each_amount P one two three four five SuppKey wide = absurd (omega (arith, wide))
+each_amount P one two three four five OrderDate wide = absurd (omega (arith, wide))
+each_amount P one two three four five Quantity wide = absurd (omega (arith, wide))
+each_amount P one two three four five ExtendedPrice wide = two
+each_amount P one two three four five OrdTotalPrice wide = three
+each_amount P one two three four five Discount wide = absurd (omega (arith, wide))
+each_amount P one two three four five Revenue wide = four
+each_amount P one two three four five SupplyCost wide = five
+each_amount P one two three four five Tax wide = absurd (omega (arith, wide))
 
 both : (a b : Bool) → (a && b) ≡ true → (a ≡ true) × (b ≡ true)
 both true b is = (refl, is)
 both false b is = absurd (true≢false (sym is))
 
 module _ (bytes : List ℕ) (rows : ℕ) (room : 12 + 63 * rows ≤ length bytes) where
-  abbrev fine : AmountColumn → Bool
+  abbrev fine : FactColumn → Bool
   fine column = all_below (2 ^ 63) (amounts_in bytes rows column)
 
   pub has_all : (a b c d e : Bool) → a ≡ fine OrderKey → b ≡ fine ExtendedPrice → c ≡ fine OrdTotalPrice
@@ -152,6 +163,6 @@ module _ (bytes : List ℕ) (rows : ℕ) (room : 12 + 63 * rows ≤ length bytes
         },
     λ has.
         let f = has.amounts in
-        λ i. ((((one ∙ f OrderKey) i && (two ∙ f ExtendedPrice) i) && (three ∙ f OrdTotalPrice) i) && (four ∙ f Revenue)
-        i) && (five ∙ f SupplyCost) i,
+        λ i. ((((one ∙ f OrderKey refl) i && (two ∙ f ExtendedPrice refl) i) && (three ∙ f OrdTotalPrice refl) i)
+        && (four ∙ f Revenue refl) i) && (five ∙ f SupplyCost refl) i,
   )

@@ -8,19 +8,15 @@ use Rattle.std.specs.Option.{IsSomeAnd}
 use Rattle.std.specs.Simd.{first_chunks}
 use Rattle.wire.specs.Spelling.{spelling}
 use Rattle.cube_model.specs.declared.rows.LineOrder.{LineOrder}
-use Rattle.column_segment.specs.declared.columns.AmountColumn.{AmountColumn}
-use Rattle.column_segment.specs.declared.columns.AmountColumn.TheVariants.{OrderKey, ExtendedPrice, OrdTotalPrice}
-use Rattle.column_segment.specs.declared.columns.AmountColumn.TheVariants.{Revenue, SupplyCost}
-use Rattle.column_segment.specs.declared.columns.NumberColumn.TheVariants.{LineNumber, CustKey, PartKey, SuppKey}
-use Rattle.column_segment.specs.declared.columns.NumberColumn.TheVariants.{OrderDate}
-use Rattle.column_segment.specs.declared.columns.ByteColumn.TheVariants.{Quantity, Discount, Tax}
 use Rattle.column_segment.specs.declared.columns.FactColumn.{FactColumn}
-use Rattle.column_segment.specs.declared.columns.FactColumn.TheVariants.{Amount, Number, Figure}
+use Rattle.column_segment.specs.declared.columns.FactColumn.TheVariants.{OrderKey, LineNumber, CustKey, PartKey}
+use Rattle.column_segment.specs.declared.columns.FactColumn.TheVariants.{SuppKey, OrderDate, Quantity, ExtendedPrice}
+use Rattle.column_segment.specs.declared.columns.FactColumn.TheVariants.{OrdTotalPrice, Discount, Revenue, SupplyCost}
+use Rattle.column_segment.specs.declared.columns.FactColumn.TheVariants.{Tax}
 use Rattle.column_segment.specs.declared.layout.Layout.{Layout}
-use Rattle.column_segment.specs.Columns.{Column, FitsColumn, amount_of, amounts, byte_of, bytes, column_number}
-use Rattle.column_segment.specs.Columns.{number_columns, numbers}
-use Rattle.column_segment.specs.Decoded.{HoldsColumns, column_bytes, decoded_rows}
-use Rattle.column_segment.specs.Projected.{AgreeOn, HasColumns, ShareColumn, fact_place, fact_value, width_of}
+use Rattle.column_segment.specs.Columns.{FitsColumn, fact_value, number_columns, width_of}
+use Rattle.column_segment.specs.Decoded.{HoldsColumns, column_bytes, decoded_rows, fact_place}
+use Rattle.column_segment.specs.Projected.{AgreeOn, HasColumns, ShareColumn}
 use Rattle.column_segment.specs.Reading.{HasHeader, HasNumbers}
 use Rattle.column_segment.specs.Segment.{FitColumns, IsSegment, number_column}
 use Rattle.column_segment.proofs.CallerLemmas.{header-one}
@@ -28,47 +24,37 @@ use Rattle.column_segment.proofs.Chunked.{read_4, read_8}
 use Rattle.column_segment.proofs.Passes.{Sections, column_back, has_header, has_numbers, segment_sections}
 use Rattle.column_segment.proofs.Values.{amount_values, byte_values, number_values, rows_many}
 
--- a column of any numbers of its width
-abbrev column_of : FactColumn → Column
-column_of (Amount column) = record { width = 8; limit = 2 ^ 64; value = amount_of column }
-column_of (Number column) = numbers column
-column_of (Figure column) = bytes column
-
-wider : (column : AmountColumn) (rows : List LineOrder) → All (FitsColumn (amounts column)) rows
-    → All (FitsColumn (column_of (Amount column))) rows
-wider column rows fit = λ i d lt. omega (arith, fit i d lt)
-
-fits : (column : FactColumn) (rows : List LineOrder) → FitColumns rows → All (FitsColumn (column_of column)) rows
-fits (Amount OrderKey) rows f = wider OrderKey rows f.0
-fits (Number LineNumber) rows f = f.1.0
-fits (Number CustKey) rows f = f.1.1.0
-fits (Number PartKey) rows f = f.1.1.1.0
-fits (Number SuppKey) rows f = f.1.1.1.1.0
-fits (Number OrderDate) rows f = f.1.1.1.1.1.0
-fits (Figure Quantity) rows f = f.1.1.1.1.1.1.0
-fits (Amount ExtendedPrice) rows f = wider ExtendedPrice rows f.1.1.1.1.1.1.1.0
-fits (Amount OrdTotalPrice) rows f = wider OrdTotalPrice rows f.1.1.1.1.1.1.1.1.0
-fits (Figure Discount) rows f = f.1.1.1.1.1.1.1.1.1.0
-fits (Amount Revenue) rows f = wider Revenue rows f.1.1.1.1.1.1.1.1.1.1.0
-fits (Amount SupplyCost) rows f = wider SupplyCost rows f.1.1.1.1.1.1.1.1.1.1.1.0
-fits (Figure Tax) rows f = f.1.1.1.1.1.1.1.1.1.1.1.1.0
+fits : (column : FactColumn) (rows : List LineOrder) → FitColumns rows → All (FitsColumn column) rows
+fits OrderKey rows f = f.0
+fits LineNumber rows f = f.1.0
+fits CustKey rows f = f.1.1.0
+fits PartKey rows f = f.1.1.1.0
+fits SuppKey rows f = f.1.1.1.1.0
+fits OrderDate rows f = f.1.1.1.1.1.0
+fits Quantity rows f = f.1.1.1.1.1.1.0
+fits ExtendedPrice rows f = f.1.1.1.1.1.1.1.0
+fits OrdTotalPrice rows f = f.1.1.1.1.1.1.1.1.0
+fits Discount rows f = f.1.1.1.1.1.1.1.1.1.0
+fits Revenue rows f = f.1.1.1.1.1.1.1.1.1.1.0
+fits SupplyCost rows f = f.1.1.1.1.1.1.1.1.1.1.1.0
+fits Tax rows f = f.1.1.1.1.1.1.1.1.1.1.1.1.0
 
 holds : (column : FactColumn) (n : ℕ) (rows : List LineOrder) (text : List ℕ)
     → Sections number_columns 0 n rows (drop 12 text)
-    → column_bytes (fact_place column) (width_of column) n text ≡ number_column rows (column_of column)
-holds (Amount OrderKey) n rows text s = s.0
-holds (Number LineNumber) n rows text s = s.1.0
-holds (Number CustKey) n rows text s = s.1.1.0
-holds (Number PartKey) n rows text s = s.1.1.1.0
-holds (Number SuppKey) n rows text s = s.1.1.1.1.0
-holds (Number OrderDate) n rows text s = s.1.1.1.1.1.0
-holds (Figure Quantity) n rows text s = s.1.1.1.1.1.1.0
-holds (Amount ExtendedPrice) n rows text s = s.1.1.1.1.1.1.1.0
-holds (Amount OrdTotalPrice) n rows text s = s.1.1.1.1.1.1.1.1.0
-holds (Figure Discount) n rows text s = s.1.1.1.1.1.1.1.1.1.0
-holds (Amount Revenue) n rows text s = s.1.1.1.1.1.1.1.1.1.1.0
-holds (Amount SupplyCost) n rows text s = s.1.1.1.1.1.1.1.1.1.1.1.0
-holds (Figure Tax) n rows text s = s.1.1.1.1.1.1.1.1.1.1.1.1.0
+    → column_bytes (fact_place column) (width_of column) n text ≡ number_column rows column
+holds OrderKey n rows text s = s.0
+holds LineNumber n rows text s = s.1.0
+holds CustKey n rows text s = s.1.1.0
+holds PartKey n rows text s = s.1.1.1.0
+holds SuppKey n rows text s = s.1.1.1.1.0
+holds OrderDate n rows text s = s.1.1.1.1.1.0
+holds Quantity n rows text s = s.1.1.1.1.1.1.0
+holds ExtendedPrice n rows text s = s.1.1.1.1.1.1.1.0
+holds OrdTotalPrice n rows text s = s.1.1.1.1.1.1.1.1.0
+holds Discount n rows text s = s.1.1.1.1.1.1.1.1.1.0
+holds Revenue n rows text s = s.1.1.1.1.1.1.1.1.1.1.0
+holds SupplyCost n rows text s = s.1.1.1.1.1.1.1.1.1.1.1.0
+holds Tax n rows text s = s.1.1.1.1.1.1.1.1.1.1.1.1.0
 
 -- numbers of a byte are their bytes
 each_byte : (value : LineOrder → ℕ) (rows : List LineOrder) → All (λ row. value row < 2 ^ 8) rows
@@ -81,19 +67,54 @@ each_byte value (row ∷ rows) fit =
     let tail = each_byte value rows (All-tail (λ (r : LineOrder). value r < 2 ^ 8) row rows fit) in
     λ i. head i ∷ tail i
 
+-- the numbers that bytes are, eight or four bytes each
+abbrev eights : ℕ → List ℕ → List ℕ
+eights rows bytes = map (from_le_bytes w64) (first_chunks 8 rows bytes)
+
+abbrev fours : ℕ → List ℕ → List ℕ
+fours rows bytes = map (from_le_bytes w32) (first_chunks 4 rows bytes)
+
 -- the numbers that bytes of a column are, any bytes
 abbrev numbers_in_bytes : FactColumn → ℕ → List ℕ → List ℕ
-numbers_in_bytes (Amount column) rows bytes = map (from_le_bytes w64) (first_chunks 8 rows bytes)
-numbers_in_bytes (Number column) rows bytes = map (from_le_bytes w32) (first_chunks 4 rows bytes)
-numbers_in_bytes (Figure column) rows bytes = bytes
+numbers_in_bytes OrderKey rows bytes = eights rows bytes
+numbers_in_bytes LineNumber rows bytes = fours rows bytes
+numbers_in_bytes CustKey rows bytes = fours rows bytes
+numbers_in_bytes PartKey rows bytes = fours rows bytes
+numbers_in_bytes SuppKey rows bytes = fours rows bytes
+numbers_in_bytes OrderDate rows bytes = fours rows bytes
+numbers_in_bytes Quantity rows bytes = bytes
+numbers_in_bytes ExtendedPrice rows bytes = eights rows bytes
+numbers_in_bytes OrdTotalPrice rows bytes = eights rows bytes
+numbers_in_bytes Discount rows bytes = bytes
+numbers_in_bytes Revenue rows bytes = eights rows bytes
+numbers_in_bytes SupplyCost rows bytes = eights rows bytes
+numbers_in_bytes Tax rows bytes = bytes
+
+module _ (value : LineOrder → ℕ) (rows : List LineOrder) where
+  amount_back : All (λ row. value row < 2 ^ 63) rows
+      → eights (length rows) (flat_map (λ row. spelling 8 (value row)) rows) ≡ map value rows
+  amount_back fit = column_back 8 (from_le_bytes w64) (2 ^ 63) (λ x h. read_8 x (omega (arith, h))) value rows fit
+
+  number_back : All (λ row. value row < 2 ^ 32) rows
+      → fours (length rows) (flat_map (λ row. spelling 4 (value row)) rows) ≡ map value rows
+  number_back fit = column_back 4 (from_le_bytes w32) (2 ^ 32) read_4 value rows fit
 
 -- those of a batch's column are its numbers
-numbers_back : (column : FactColumn) (rows : List LineOrder) → All (FitsColumn (column_of column)) rows
-    → numbers_in_bytes column (length rows) (number_column rows (column_of column)) ≡ map (fact_value column) rows
-numbers_back (Amount column) rows fit = column_back 8 (from_le_bytes w64) (2 ^ 64) read_8 (amount_of column) rows fit
-numbers_back (Number column) rows fit =
-    column_back 4 (from_le_bytes w32) (2 ^ 32) read_4 (column_number column) rows fit
-numbers_back (Figure column) rows fit = each_byte (byte_of column) rows fit
+numbers_back : (column : FactColumn) (rows : List LineOrder) → All (FitsColumn column) rows
+    → numbers_in_bytes column (length rows) (number_column rows column) ≡ map (fact_value column) rows
+numbers_back OrderKey rows fit = amount_back (fact_value OrderKey) rows fit
+numbers_back LineNumber rows fit = number_back (fact_value LineNumber) rows fit
+numbers_back CustKey rows fit = number_back (fact_value CustKey) rows fit
+numbers_back PartKey rows fit = number_back (fact_value PartKey) rows fit
+numbers_back SuppKey rows fit = number_back (fact_value SuppKey) rows fit
+numbers_back OrderDate rows fit = number_back (fact_value OrderDate) rows fit
+numbers_back Quantity rows fit = each_byte (fact_value Quantity) rows fit
+numbers_back ExtendedPrice rows fit = amount_back (fact_value ExtendedPrice) rows fit
+numbers_back OrdTotalPrice rows fit = amount_back (fact_value OrdTotalPrice) rows fit
+numbers_back Discount rows fit = each_byte (fact_value Discount) rows fit
+numbers_back Revenue rows fit = amount_back (fact_value Revenue) rows fit
+numbers_back SupplyCost rows fit = amount_back (fact_value SupplyCost) rows fit
+numbers_back Tax rows fit = each_byte (fact_value Tax) rows fit
 
 -- ---- the rows of some bytes
 
@@ -101,9 +122,19 @@ module _ (own : List ℕ) (layout : Layout) (has : HoldsColumns own layout.rows)
   own_numbers : (column : FactColumn) → map (fact_value column) (decoded_rows own layout)
       ≡ numbers_in_bytes column layout.rows
       (column_bytes (fact_place column) (width_of column) layout.rows own)
-  own_numbers (Amount column) = amount_values own layout column
-  own_numbers (Number column) = number_values own layout column
-  own_numbers (Figure column) = byte_values own layout has.room column
+  own_numbers OrderKey = amount_values own layout OrderKey refl
+  own_numbers LineNumber = number_values own layout LineNumber refl
+  own_numbers CustKey = number_values own layout CustKey refl
+  own_numbers PartKey = number_values own layout PartKey refl
+  own_numbers SuppKey = number_values own layout SuppKey refl
+  own_numbers OrderDate = number_values own layout OrderDate refl
+  own_numbers Quantity = byte_values own layout has.room Quantity refl
+  own_numbers ExtendedPrice = amount_values own layout ExtendedPrice refl
+  own_numbers OrdTotalPrice = amount_values own layout OrdTotalPrice refl
+  own_numbers Discount = byte_values own layout has.room Discount refl
+  own_numbers Revenue = amount_values own layout Revenue refl
+  own_numbers SupplyCost = amount_values own layout SupplyCost refl
+  own_numbers Tax = byte_values own layout has.room Tax refl
 
   module _ (text : List ℕ) (another : ℕ) (others : List LineOrder) (is : IsSegment text another others)
       (many : layout.rows ≡ length others) where

@@ -12,23 +12,18 @@ use Rattle.std.proofs.lemmas.Simd.{map-map, pick_l_whole}
 use Rattle.cube_model.specs.declared.rows.LineOrder.{LineOrder}
 use Rattle.wire.specs.Spelling.{spelling}
 use Rattle.dictionary.specs.Columns.{text_of_code}
-use Rattle.column_segment.specs.declared.columns.AmountColumn.{AmountColumn}
-use Rattle.column_segment.specs.declared.columns.AmountColumn.TheVariants.{OrderKey, ExtendedPrice, OrdTotalPrice}
-use Rattle.column_segment.specs.declared.columns.AmountColumn.TheVariants.{Revenue, SupplyCost}
-use Rattle.column_segment.specs.declared.columns.NumberColumn.{NumberColumn}
-use Rattle.column_segment.specs.declared.columns.NumberColumn.TheVariants.{LineNumber, CustKey, PartKey, SuppKey}
-use Rattle.column_segment.specs.declared.columns.NumberColumn.TheVariants.{OrderDate}
-use Rattle.column_segment.specs.declared.columns.ByteColumn.{ByteColumn}
-use Rattle.column_segment.specs.declared.columns.ByteColumn.TheVariants.{Quantity, Discount, Tax}
+use Rattle.column_segment.specs.declared.columns.FactColumn.{FactColumn}
+use Rattle.column_segment.specs.declared.columns.FactColumn.TheVariants.{OrderKey, LineNumber, CustKey, PartKey}
+use Rattle.column_segment.specs.declared.columns.FactColumn.TheVariants.{SuppKey, OrderDate, Quantity, ExtendedPrice}
+use Rattle.column_segment.specs.declared.columns.FactColumn.TheVariants.{OrdTotalPrice, Discount, Revenue, SupplyCost}
+use Rattle.column_segment.specs.declared.columns.FactColumn.TheVariants.{Tax}
 use Rattle.column_segment.specs.declared.columns.TextColumn.{TextColumn}
 use Rattle.column_segment.specs.declared.columns.TextColumn.TheVariants.{OrderPriority, ShipPriority, CommitDate}
 use Rattle.column_segment.specs.declared.columns.TextColumn.TheVariants.{ShipMode}
 use Rattle.column_segment.specs.declared.layout.Layout.{Layout}
-use Rattle.column_segment.specs.Columns.{FitsColumn, amount_of, amounts, byte_of, bytes, column_number, numbers}
-use Rattle.column_segment.specs.Columns.{text_of}
-use Rattle.column_segment.specs.Decoded.{amount_place, amounts_in, byte_place, codes_in, coded_of, column_bytes}
-use Rattle.column_segment.specs.Decoded.{figures_in, number_place, numbers_in, row_in, decoded_rows, texts_in}
-use Rattle.column_segment.specs.Segment.{number_column}
+use Rattle.column_segment.specs.Columns.{fact_value, text_of, width_of}
+use Rattle.column_segment.specs.Decoded.{amounts_in, coded_of, codes_in, column_bytes, decoded_rows, fact_place}
+use Rattle.column_segment.specs.Decoded.{figures_in, numbers_in, row_in, texts_in}
 use Rattle.column_segment.proofs.Chunked.{AreBytes, AreBytes-drop, AreBytes-take, back_4, back_8, below_4, below_8}
 use Rattle.column_segment.proofs.Chunked.{bytes_back, bytes_below, chunks_back, length-read, read_below, within_rows}
 
@@ -54,38 +49,55 @@ module _ (text : List ℕ) (layout : Layout) where
   picked_text value column many same = map-map value (row_in text layout) (range_with_len 0 layout.rows) ∙ same
       ∙ pick_l_whole [] column layout.rows many
 
-  amounts_many : (column : AmountColumn) → length (amounts_in text layout.rows column) ≡ layout.rows
+  amounts_many : (column : FactColumn) → length (amounts_in text layout.rows column) ≡ layout.rows
   amounts_many column =
-      length-read (from_le_bytes w64) 8 layout.rows (column_bytes (amount_place column) 8 layout.rows text)
+      length-read (from_le_bytes w64) 8 layout.rows (column_bytes (fact_place column) 8 layout.rows text)
 
-  pub amount_values : (column : AmountColumn)
-      → map (amount_of column) (decoded_rows text layout) ≡ amounts_in text layout.rows column
-  amount_values OrderKey = picked (amount_of OrderKey) (amounts_in text layout.rows OrderKey) (amounts_many OrderKey)
+  pub amount_values : (column : FactColumn) → width_of column ≡ 8
+      → map (fact_value column) (decoded_rows text layout) ≡ amounts_in text layout.rows column
+  amount_values OrderKey wide =
+      picked (fact_value OrderKey) (amounts_in text layout.rows OrderKey) (amounts_many OrderKey) refl
+  amount_values LineNumber wide = absurd (omega (arith, wide))
+  amount_values CustKey wide = absurd (omega (arith, wide))
+  amount_values PartKey wide = absurd (omega (arith, wide))
+  amount_values SuppKey wide = absurd (omega (arith, wide))
+  amount_values OrderDate wide = absurd (omega (arith, wide))
+  amount_values Quantity wide = absurd (omega (arith, wide))
+  amount_values ExtendedPrice wide =
+      picked (fact_value ExtendedPrice) (amounts_in text layout.rows ExtendedPrice) (amounts_many ExtendedPrice) refl
+  amount_values OrdTotalPrice wide =
+      picked (fact_value OrdTotalPrice) (amounts_in text layout.rows OrdTotalPrice) (amounts_many OrdTotalPrice) refl
+  amount_values Discount wide = absurd (omega (arith, wide))
+  amount_values Revenue wide = picked (fact_value Revenue) (amounts_in text layout.rows Revenue) (amounts_many Revenue)
       refl
-  amount_values ExtendedPrice =
-      picked (amount_of ExtendedPrice) (amounts_in text layout.rows ExtendedPrice) (amounts_many ExtendedPrice) refl
-  amount_values OrdTotalPrice =
-      picked (amount_of OrdTotalPrice) (amounts_in text layout.rows OrdTotalPrice) (amounts_many OrdTotalPrice) refl
-  amount_values Revenue = picked (amount_of Revenue) (amounts_in text layout.rows Revenue) (amounts_many Revenue) refl
-  amount_values SupplyCost =
-      picked (amount_of SupplyCost) (amounts_in text layout.rows SupplyCost) (amounts_many SupplyCost) refl
+  amount_values SupplyCost wide =
+      picked (fact_value SupplyCost) (amounts_in text layout.rows SupplyCost) (amounts_many SupplyCost) refl
+  amount_values Tax wide = absurd (omega (arith, wide))
 
-  numbers_many : (column : NumberColumn) → length (numbers_in text layout.rows column) ≡ layout.rows
+  numbers_many : (column : FactColumn) → length (numbers_in text layout.rows column) ≡ layout.rows
   numbers_many column =
-      length-read (from_le_bytes w32) 4 layout.rows (column_bytes (number_place column) 4 layout.rows text)
+      length-read (from_le_bytes w32) 4 layout.rows (column_bytes (fact_place column) 4 layout.rows text)
 
-  pub number_values : (column : NumberColumn)
-      → map (column_number column) (decoded_rows text layout) ≡ numbers_in text layout.rows column
-  number_values LineNumber =
-      picked (column_number LineNumber) (numbers_in text layout.rows LineNumber) (numbers_many LineNumber) refl
-  number_values CustKey = picked (column_number CustKey) (numbers_in text layout.rows CustKey) (numbers_many CustKey)
+  pub number_values : (column : FactColumn) → width_of column ≡ 4
+      → map (fact_value column) (decoded_rows text layout) ≡ numbers_in text layout.rows column
+  number_values OrderKey wide = absurd (omega (arith, wide))
+  number_values LineNumber wide =
+      picked (fact_value LineNumber) (numbers_in text layout.rows LineNumber) (numbers_many LineNumber) refl
+  number_values CustKey wide = picked (fact_value CustKey) (numbers_in text layout.rows CustKey) (numbers_many CustKey)
       refl
-  number_values PartKey = picked (column_number PartKey) (numbers_in text layout.rows PartKey) (numbers_many PartKey)
+  number_values PartKey wide = picked (fact_value PartKey) (numbers_in text layout.rows PartKey) (numbers_many PartKey)
       refl
-  number_values SuppKey = picked (column_number SuppKey) (numbers_in text layout.rows SuppKey) (numbers_many SuppKey)
+  number_values SuppKey wide = picked (fact_value SuppKey) (numbers_in text layout.rows SuppKey) (numbers_many SuppKey)
       refl
-  number_values OrderDate =
-      picked (column_number OrderDate) (numbers_in text layout.rows OrderDate) (numbers_many OrderDate) refl
+  number_values OrderDate wide =
+      picked (fact_value OrderDate) (numbers_in text layout.rows OrderDate) (numbers_many OrderDate) refl
+  number_values Quantity wide = absurd (omega (arith, wide))
+  number_values ExtendedPrice wide = absurd (omega (arith, wide))
+  number_values OrdTotalPrice wide = absurd (omega (arith, wide))
+  number_values Discount wide = absurd (omega (arith, wide))
+  number_values Revenue wide = absurd (omega (arith, wide))
+  number_values SupplyCost wide = absurd (omega (arith, wide))
+  number_values Tax wide = absurd (omega (arith, wide))
 
   pub text_values : (column : TextColumn)
       → map (text_of column) (decoded_rows text layout) ≡ texts_in text layout.rows (coded_of column layout.texts)
@@ -123,23 +135,34 @@ module _ (text : List ℕ) (layout : Layout) where
           length-drop (place * layout.rows) (drop 12 text),
         ))
 
-    pub byte_values : (column : ByteColumn)
-        → map (byte_of column) (decoded_rows text layout) ≡ figures_in text layout.rows column
-    byte_values Quantity =
-        picked (byte_of Quantity) (figures_in text layout.rows Quantity) (omega (arith, column_long 28 1 (omega arith)))
-        refl
-    byte_values Discount =
-        picked (byte_of Discount) (figures_in text layout.rows Discount) (omega (arith, column_long 45 1 (omega arith)))
-        refl
-    byte_values Tax =
-        picked (byte_of Tax) (figures_in text layout.rows Tax) (omega (arith, column_long 62 1 (omega arith))) refl
+    pub byte_values : (column : FactColumn) → width_of column ≡ 1
+        → map (fact_value column) (decoded_rows text layout) ≡ figures_in text layout.rows column
+    byte_values OrderKey wide = absurd (omega (arith, wide))
+    byte_values LineNumber wide = absurd (omega (arith, wide))
+    byte_values CustKey wide = absurd (omega (arith, wide))
+    byte_values PartKey wide = absurd (omega (arith, wide))
+    byte_values SuppKey wide = absurd (omega (arith, wide))
+    byte_values OrderDate wide = absurd (omega (arith, wide))
+    byte_values Quantity wide =
+        picked (fact_value Quantity) (figures_in text layout.rows Quantity)
+        (omega (arith, column_long 28 1 (omega arith))) refl
+    byte_values ExtendedPrice wide = absurd (omega (arith, wide))
+    byte_values OrdTotalPrice wide = absurd (omega (arith, wide))
+    byte_values Discount wide =
+        picked (fact_value Discount) (figures_in text layout.rows Discount)
+        (omega (arith, column_long 45 1 (omega arith))) refl
+    byte_values Revenue wide = absurd (omega (arith, wide))
+    byte_values SupplyCost wide = absurd (omega (arith, wide))
+    byte_values Tax wide =
+        picked (fact_value Tax) (figures_in text layout.rows Tax) (omega (arith, column_long 62 1 (omega arith))) refl
 
     -- numbers that were read as bytes fit them
-    pub read_fit : (column : ByteColumn) (read : List ℕ) → read ≡ figures_in text layout.rows column
-        → All (λ x. x < 2 ^ 8) read → All (FitsColumn (bytes column)) (decoded_rows text layout)
-    read_fit column read is fit =
-        All-unmap (λ (x : ℕ). x < 2 ^ 8) (byte_of column) (decoded_rows text layout)
-        (subst (All (λ (x : ℕ). x < 2 ^ 8)) (is ∙ sym (byte_values column)) fit)
+    pub read_fit : (column : FactColumn) → width_of column ≡ 1 → (read : List ℕ)
+        → read ≡ figures_in text layout.rows column
+        → All (λ x. x < 2 ^ 8) read → All (λ row. fact_value column row < 2 ^ 8) (decoded_rows text layout)
+    read_fit column wide read is fit =
+        All-unmap (λ (x : ℕ). x < 2 ^ 8) (fact_value column) (decoded_rows text layout)
+        (subst (All (λ (x : ℕ). x < 2 ^ 8)) (is ∙ sym (byte_values column wide)) fit)
 
     -- the columns of the rows are those of the bytes
     module _ (are : AreBytes text) where
@@ -153,27 +176,28 @@ module _ (text : List ℕ) (layout : Layout) where
       spelled width value column is = sym (flat_map-map (spelling width) value (decoded_rows text layout))
           ∙ ap (flat_map (spelling width)) is
 
-      pub amounts_hold : (column : AmountColumn) → amount_place column + 8 ≤ 63
-          → number_column (decoded_rows text layout) (amounts column) ≡ column_bytes (amount_place column) 8 layout.rows
-          text
-      amounts_hold column within =
-          spelled 8 (amount_of column) (amounts_in text layout.rows column) (amount_values column)
-          ∙ chunks_back 8 (from_le_bytes w64) back_8 layout.rows (column_bytes (amount_place column) 8 layout.rows text)
-          (column_long (amount_place column) 8 within) (column_are (amount_place column) 8)
+      pub amounts_hold : (column : FactColumn) → width_of column ≡ 8 → fact_place column + 8 ≤ 63
+          → flat_map (λ row. spelling 8 (fact_value column row)) (decoded_rows text layout)
+          ≡ column_bytes (fact_place column) 8 layout.rows text
+      amounts_hold column wide within =
+          spelled 8 (fact_value column) (amounts_in text layout.rows column) (amount_values column wide)
+          ∙ chunks_back 8 (from_le_bytes w64) back_8 layout.rows (column_bytes (fact_place column) 8 layout.rows text)
+          (column_long (fact_place column) 8 within) (column_are (fact_place column) 8)
 
-      pub numbers_hold : (column : NumberColumn) → number_place column + 4 ≤ 63
-          → number_column (decoded_rows text layout) (numbers column) ≡ column_bytes (number_place column) 4 layout.rows
-          text
-      numbers_hold column within =
-          spelled 4 (column_number column) (numbers_in text layout.rows column) (number_values column)
-          ∙ chunks_back 4 (from_le_bytes w32) back_4 layout.rows (column_bytes (number_place column) 4 layout.rows text)
-          (column_long (number_place column) 4 within) (column_are (number_place column) 4)
+      pub numbers_hold : (column : FactColumn) → width_of column ≡ 4 → fact_place column + 4 ≤ 63
+          → flat_map (λ row. spelling 4 (fact_value column row)) (decoded_rows text layout)
+          ≡ column_bytes (fact_place column) 4 layout.rows text
+      numbers_hold column wide within =
+          spelled 4 (fact_value column) (numbers_in text layout.rows column) (number_values column wide)
+          ∙ chunks_back 4 (from_le_bytes w32) back_4 layout.rows (column_bytes (fact_place column) 4 layout.rows text)
+          (column_long (fact_place column) 4 within) (column_are (fact_place column) 4)
 
-      pub bytes_hold : (column : ByteColumn) → number_column (decoded_rows text layout) (bytes column)
-          ≡ column_bytes (byte_place column) 1 layout.rows text
-      bytes_hold column =
-          spelled 1 (byte_of column) (figures_in text layout.rows column) (byte_values column)
-          ∙ bytes_back (column_bytes (byte_place column) 1 layout.rows text) (column_are (byte_place column) 1)
+      pub bytes_hold : (column : FactColumn) → width_of column ≡ 1
+          → flat_map (λ row. spelling 1 (fact_value column row)) (decoded_rows text layout)
+          ≡ column_bytes (fact_place column) 1 layout.rows text
+      bytes_hold column wide =
+          spelled 1 (fact_value column) (figures_in text layout.rows column) (byte_values column wide)
+          ∙ bytes_back (column_bytes (fact_place column) 1 layout.rows text) (column_are (fact_place column) 1)
 
       -- and they fit
       fit : (limit : ℕ) (value : LineOrder → ℕ) (column : List ℕ) → map value (decoded_rows text layout) ≡ column
@@ -182,25 +206,29 @@ module _ (text : List ℕ) (layout : Layout) where
           All-unmap (λ (x : ℕ). x < limit) value (decoded_rows text layout)
           (subst (All (λ (x : ℕ). x < limit)) (sym is) (All-from_recursion (λ (x : ℕ). x < limit) column below))
 
-      pub numbers_fit : (column : NumberColumn) → All (FitsColumn (numbers column)) (decoded_rows text layout)
-      numbers_fit column =
-          fit (2 ^ 32) (column_number column) (numbers_in text layout.rows column) (number_values column)
+      pub numbers_fit : (column : FactColumn) → width_of column ≡ 4
+          → All (λ row. fact_value column row < 2 ^ 32) (decoded_rows text layout)
+      numbers_fit column wide =
+          fit (2 ^ 32) (fact_value column) (numbers_in text layout.rows column) (number_values column wide)
           (read_below 4 (from_le_bytes w32) (2 ^ 32) below_4 layout.rows
-          (column_bytes (number_place column) 4 layout.rows text) (column_are (number_place column) 4))
+          (column_bytes (fact_place column) 4 layout.rows text) (column_are (fact_place column) 4))
 
-      pub bytes_fit : (column : ByteColumn) → All (FitsColumn (bytes column)) (decoded_rows text layout)
-      bytes_fit column = fit (2 ^ 8) (byte_of column) (figures_in text layout.rows column) (byte_values column)
-          (bytes_below (figures_in text layout.rows column) (column_are (byte_place column) 1))
+      pub bytes_fit : (column : FactColumn) → width_of column ≡ 1
+          → All (λ row. fact_value column row < 2 ^ 8) (decoded_rows text layout)
+      bytes_fit column wide =
+          fit (2 ^ 8) (fact_value column) (figures_in text layout.rows column) (byte_values column wide)
+          (bytes_below (figures_in text layout.rows column) (column_are (fact_place column) 1))
 
-      pub amounts_fit : (column : AmountColumn) → AllByRecursion (λ x. x < 2 ^ 63) (amounts_in text layout.rows column)
-          → All (FitsColumn (amounts column)) (decoded_rows text layout)
-      amounts_fit column below =
-          fit (2 ^ 63) (amount_of column) (amounts_in text layout.rows column) (amount_values column) below
+      pub amounts_fit : (column : FactColumn) → width_of column ≡ 8
+          → AllByRecursion (λ x. x < 2 ^ 63) (amounts_in text layout.rows column)
+          → All (λ row. fact_value column row < 2 ^ 63) (decoded_rows text layout)
+      amounts_fit column wide below =
+          fit (2 ^ 63) (fact_value column) (amounts_in text layout.rows column) (amount_values column wide) below
 
       -- amounts of any bytes
-      pub amounts_small : (column : AmountColumn)
-          → All (λ row. amount_of column row < 2 ^ 64) (decoded_rows text layout)
-      amounts_small column =
-          fit (2 ^ 64) (amount_of column) (amounts_in text layout.rows column) (amount_values column)
+      pub amounts_small : (column : FactColumn) → width_of column ≡ 8
+          → All (λ row. fact_value column row < 2 ^ 64) (decoded_rows text layout)
+      amounts_small column wide =
+          fit (2 ^ 64) (fact_value column) (amounts_in text layout.rows column) (amount_values column wide)
           (read_below 8 (from_le_bytes w64) (2 ^ 64) below_8 layout.rows
-          (column_bytes (amount_place column) 8 layout.rows text) (column_are (amount_place column) 8))
+          (column_bytes (fact_place column) 8 layout.rows text) (column_are (fact_place column) 8))

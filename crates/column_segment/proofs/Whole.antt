@@ -13,19 +13,18 @@ use Rattle.column_kernels.specs.Checks.{all_below}
 use Rattle.dictionary.specs.Columns.{codes_spelling, column_spelling, text_of_code}
 use Rattle.dictionary.specs.Spelling.{AreShort, texts_spelling}
 use Rattle.dictionary.proofs.ColumnLaws.{AreCodes-below, one_column}
-use Rattle.column_segment.specs.declared.columns.AmountColumn.{AmountColumn}
-use Rattle.column_segment.specs.declared.columns.AmountColumn.TheVariants.{OrderKey, ExtendedPrice, OrdTotalPrice}
-use Rattle.column_segment.specs.declared.columns.AmountColumn.TheVariants.{Revenue, SupplyCost}
-use Rattle.column_segment.specs.declared.columns.NumberColumn.TheVariants.{LineNumber, CustKey, PartKey, SuppKey}
-use Rattle.column_segment.specs.declared.columns.NumberColumn.TheVariants.{OrderDate}
-use Rattle.column_segment.specs.declared.columns.ByteColumn.TheVariants.{Quantity, Discount, Tax}
+use Rattle.column_segment.specs.declared.columns.FactColumn.{FactColumn}
+use Rattle.column_segment.specs.declared.columns.FactColumn.TheVariants.{OrderKey, LineNumber, CustKey, PartKey}
+use Rattle.column_segment.specs.declared.columns.FactColumn.TheVariants.{SuppKey, OrderDate, Quantity, ExtendedPrice}
+use Rattle.column_segment.specs.declared.columns.FactColumn.TheVariants.{OrdTotalPrice, Discount, Revenue, SupplyCost}
+use Rattle.column_segment.specs.declared.columns.FactColumn.TheVariants.{Tax}
 use Rattle.column_segment.specs.declared.columns.TextColumn.{TextColumn}
 use Rattle.column_segment.specs.declared.columns.TextColumn.TheVariants.{OrderPriority, ShipPriority, CommitDate}
 use Rattle.column_segment.specs.declared.columns.TextColumn.TheVariants.{ShipMode}
 use Rattle.column_segment.specs.declared.layout.Coded.{Coded}
 use Rattle.column_segment.specs.declared.layout.Layout.{Layout}
-use Rattle.column_segment.specs.Columns.{Column, FitsColumn, amounts, number_columns, text_columns, text_of}
-use Rattle.column_segment.specs.Decoded.{HasCodes, IsDecoded, amounts_in, codes_in, coded_of, decoded_rows, texts_in}
+use Rattle.column_segment.specs.Columns.{fact_value, number_columns, text_columns, text_of, width_of}
+use Rattle.column_segment.specs.Decoded.{HasCodes, IsDecoded, amounts_in, coded_of, codes_in, decoded_rows, texts_in}
 use Rattle.column_segment.specs.Reading.{HasColumn, HasHeader, HasNumbers, HasTexts}
 use Rattle.column_segment.specs.Segment.{FitColumns, segment_header, number_column, text_column}
 use Rattle.column_segment.proofs.Chunked.{AreBytes, AreBytes-drop, AreBytes-take, back_2, chunks_back, length-read}
@@ -34,14 +33,14 @@ use Rattle.column_segment.proofs.Values.{numbers_hold, rows_many, text_values}
 
 -- ---- columns of numbers, one after the other
 
-abbrev pub total : List Column → ℕ
+abbrev pub total : List FactColumn → ℕ
 total [] = 0
-total (column ∷ columns) = column.width + total columns
+total (column ∷ columns) = width_of column + total columns
 
-abbrev pieces : List Column → ℕ → ℕ → List ℕ → List ℕ
+abbrev pieces : List FactColumn → ℕ → ℕ → List ℕ → List ℕ
 pieces [] place n xs = []
-pieces (column ∷ columns) place n xs = take (column.width * n) (drop (place * n) xs)
-    ++ pieces columns (place + column.width) n xs
+pieces (column ∷ columns) place n xs = take (width_of column * n) (drop (place * n) xs)
+    ++ pieces columns (place + width_of column) n xs
 
 pub sum_times : (a b n : ℕ) → (a + b) * n ≡ a * n + b * n
 sum_times a b zero = omega arith
@@ -51,17 +50,18 @@ sum_times a b (suc n) =
     let second : b * suc n ≡ b + b * n = omega arith in
     omega (arith, sum_times a b n, left, first, second)
 
-pieces_whole : (columns : List Column) (place n : ℕ) (xs : List ℕ)
+pieces_whole : (columns : List FactColumn) (place n : ℕ) (xs : List ℕ)
     → pieces columns place n xs ≡ take (total columns * n) (drop (place * n) xs)
 pieces_whole [] place n xs = let none : 0 ≡ 0 * n = omega arith in ap (λ (m : ℕ). take m (drop (place * n) xs)) none
 pieces_whole (column ∷ columns) place n xs =
-    let next : drop ((place + column.width) * n) xs ≡ drop (column.width * n) (drop (place * n) xs) =
-    ap (λ (m : ℕ). drop m xs) (sum_times place column.width n) ∙ sym (drop-drop (column.width * n) (place * n) xs) in
-    ap (λ (l : List ℕ). take (column.width * n) (drop (place * n) xs) ++ l)
-    (pieces_whole columns (place + column.width) n xs)
-    ∙ ap (λ (l : List ℕ). take (column.width * n) (drop (place * n) xs) ++ take (total columns * n) l) next
-    ∙ sym (take-add (column.width * n) (total columns * n) (drop (place * n) xs))
-    ∙ ap (λ (m : ℕ). take m (drop (place * n) xs)) (sym (sum_times column.width (total columns) n))
+    let next : drop ((place + width_of column) * n) xs ≡ drop (width_of column * n) (drop (place * n) xs) =
+    ap (λ (m : ℕ). drop m xs) (sum_times place (width_of column) n)
+    ∙ sym (drop-drop (width_of column * n) (place * n) xs) in
+    ap (λ (l : List ℕ). take (width_of column * n) (drop (place * n) xs) ++ l)
+    (pieces_whole columns (place + width_of column) n xs)
+    ∙ ap (λ (l : List ℕ). take (width_of column * n) (drop (place * n) xs) ++ take (total columns * n) l) next
+    ∙ sym (take-add (width_of column * n) (total columns * n) (drop (place * n) xs))
+    ∙ ap (λ (m : ℕ). take m (drop (place * n) xs)) (sym (sum_times (width_of column) (total columns) n))
 
 below_of : (limit : ℕ) (xs : List ℕ) → all_below limit xs ≡ true → AllByRecursion (λ x. x < limit) xs
 below_of limit [] fine = tt
@@ -78,19 +78,19 @@ module _ (text : List ℕ) (layout : Layout) (are : AreBytes text) (numbers_are 
       ≡ take (63 * layout.rows) (drop 12 text)
   keys_hold =
       let room = numbers_are.room in
-      let c1 = amounts_hold text layout room are OrderKey (omega arith) in
-      let c2 = numbers_hold text layout room are LineNumber (omega arith) in
-      let c3 = numbers_hold text layout room are CustKey (omega arith) in
-      let c4 = numbers_hold text layout room are PartKey (omega arith) in
-      let c5 = numbers_hold text layout room are SuppKey (omega arith) in
-      let c6 = numbers_hold text layout room are OrderDate (omega arith) in
-      let c7 = bytes_hold text layout room are Quantity in
-      let c8 = amounts_hold text layout room are ExtendedPrice (omega arith) in
-      let c9 = amounts_hold text layout room are OrdTotalPrice (omega arith) in
-      let c10 = bytes_hold text layout room are Discount in
-      let c11 = amounts_hold text layout room are Revenue (omega arith) in
-      let c12 = amounts_hold text layout room are SupplyCost (omega arith) in
-      let c13 = bytes_hold text layout room are Tax in
+      let c1 = amounts_hold text layout room are OrderKey refl (omega arith) in
+      let c2 = numbers_hold text layout room are LineNumber refl (omega arith) in
+      let c3 = numbers_hold text layout room are CustKey refl (omega arith) in
+      let c4 = numbers_hold text layout room are PartKey refl (omega arith) in
+      let c5 = numbers_hold text layout room are SuppKey refl (omega arith) in
+      let c6 = numbers_hold text layout room are OrderDate refl (omega arith) in
+      let c7 = bytes_hold text layout room are Quantity refl in
+      let c8 = amounts_hold text layout room are ExtendedPrice refl (omega arith) in
+      let c9 = amounts_hold text layout room are OrdTotalPrice refl (omega arith) in
+      let c10 = bytes_hold text layout room are Discount refl in
+      let c11 = amounts_hold text layout room are Revenue refl (omega arith) in
+      let c12 = amounts_hold text layout room are SupplyCost refl (omega arith) in
+      let c13 = bytes_hold text layout room are Tax refl in
       let cut : flat_map (number_column (decoded_rows text layout)) number_columns
       ≡ pieces number_columns 0 layout.rows (drop 12 text) =
       λ i. c1 i ++ (c2 i
@@ -103,27 +103,31 @@ module _ (text : List ℕ) (layout : Layout) (are : AreBytes text) (numbers_are 
   numbers_all_fit : FitColumns (decoded_rows text layout)
   numbers_all_fit =
       let room = numbers_are.room in
-      let amount : (column : AmountColumn) → All (FitsColumn (amounts column)) (decoded_rows text layout) =
-      λ column. amounts_fit text layout room are column
-      (below_of (2 ^ 63) (amounts_in text layout.rows column) (numbers_are.amounts column)) in
+      let amount : (column : FactColumn) → width_of column ≡ 8
+      → All (λ row. fact_value column row < 2 ^ 63) (decoded_rows text layout) =
+      λ column wide. amounts_fit text layout room are column wide
+      (below_of (2 ^ 63) (amounts_in text layout.rows column) (numbers_are.amounts column wide)) in
       let number = numbers_fit text layout room are in
       let byte = bytes_fit text layout room are in (
-        amount OrderKey,
+        amount OrderKey refl,
         (
-          number LineNumber,
+          number LineNumber refl,
           (
-            number CustKey,
+            number CustKey refl,
             (
-              number PartKey,
+              number PartKey refl,
               (
-                number SuppKey,
+                number SuppKey refl,
                 (
-                  number OrderDate,
+                  number OrderDate refl,
                   (
-                    byte Quantity,
+                    byte Quantity refl,
                     (
-                      amount ExtendedPrice,
-                      (amount OrdTotalPrice, (byte Discount, (amount Revenue, (amount SupplyCost, (byte Tax, tt))))),
+                      amount ExtendedPrice refl,
+                      (
+                        amount OrdTotalPrice refl,
+                        (byte Discount refl, (amount Revenue refl, (amount SupplyCost refl, (byte Tax refl, tt)))),
+                      ),
                     ),
                   ),
                 ),
@@ -249,8 +253,8 @@ module _ (text : List ℕ) (layout : Layout) (are : AreBytes text) (header : Has
         readable = record {
           few = header.few;
           room = numbers_are.room;
-          amounts = λ column. All-from_recursion (λ (x : ℕ). x < 2 ^ 63) (amounts_in text n column)
-              (below_of (2 ^ 63) (amounts_in text n column) (numbers_are.amounts column));
+          amounts = λ column wide. All-from_recursion (λ (x : ℕ). x < 2 ^ 63) (amounts_in text n column)
+              (below_of (2 ^ 63) (amounts_in text n column) (numbers_are.amounts column wide));
           codes = each_codes;
         };
       }

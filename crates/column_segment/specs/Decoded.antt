@@ -1,63 +1,57 @@
 -- What the bytes of a batch hold, column by column, and its rows. Our layout.
-use Rattle.std.specs.Prelude.{ℕ, ◌+◌, ◌*◌, ◌^◌, ◌<◌, ◌≤◌, List, [], All, map, length, take, drop, slice_index}
-use Rattle.std.specs.Prelude.{slice_index_or}
+use Rattle.std.specs.Prelude.{◌≡◌, ℕ, ◌+◌, ◌*◌, ◌^◌, ◌<◌, ◌≤◌, List, [], All, map, length, take, drop}
+use Rattle.std.specs.Prelude.{slice_index, slice_index_or}
 use Rattle.std.specs.Int.{from_le_bytes, w16, w32, w64}
 use Rattle.std.specs.List.{range_with_len}
 use Rattle.std.specs.Simd.{first_chunks}
 use Rattle.cube_model.specs.Limits.{most_batch_rows}
 use Rattle.cube_model.specs.declared.rows.LineOrder.{LineOrder}
 use Rattle.dictionary.specs.Columns.{text_of_code}
-use Rattle.column_segment.specs.declared.columns.AmountColumn.{AmountColumn}
-use Rattle.column_segment.specs.declared.columns.AmountColumn.TheVariants.{OrderKey, ExtendedPrice, OrdTotalPrice}
-use Rattle.column_segment.specs.declared.columns.AmountColumn.TheVariants.{Revenue, SupplyCost}
-use Rattle.column_segment.specs.declared.columns.NumberColumn.{NumberColumn}
-use Rattle.column_segment.specs.declared.columns.NumberColumn.TheVariants.{LineNumber, CustKey, PartKey, SuppKey}
-use Rattle.column_segment.specs.declared.columns.NumberColumn.TheVariants.{OrderDate}
-use Rattle.column_segment.specs.declared.columns.ByteColumn.{ByteColumn}
-use Rattle.column_segment.specs.declared.columns.ByteColumn.TheVariants.{Quantity, Discount, Tax}
+use Rattle.column_segment.specs.declared.columns.FactColumn.{FactColumn}
+use Rattle.column_segment.specs.declared.columns.FactColumn.TheVariants.{OrderKey, LineNumber, CustKey, PartKey}
+use Rattle.column_segment.specs.declared.columns.FactColumn.TheVariants.{SuppKey, OrderDate, Quantity, ExtendedPrice}
+use Rattle.column_segment.specs.declared.columns.FactColumn.TheVariants.{OrdTotalPrice, Discount, Revenue, SupplyCost}
+use Rattle.column_segment.specs.declared.columns.FactColumn.TheVariants.{Tax}
 use Rattle.column_segment.specs.declared.columns.TextColumn.{TextColumn}
 use Rattle.column_segment.specs.declared.columns.TextColumn.TheVariants.{OrderPriority, ShipPriority, CommitDate}
 use Rattle.column_segment.specs.declared.columns.TextColumn.TheVariants.{ShipMode}
 use Rattle.column_segment.specs.declared.layout.Coded.{Coded}
 use Rattle.column_segment.specs.declared.layout.CodedTexts.{CodedTexts}
 use Rattle.column_segment.specs.declared.layout.Layout.{Layout}
+use Rattle.column_segment.specs.Columns.{width_of}
 use Rattle.column_segment.specs.Segment.{IsSegment}
 
 -- how many bytes of a row are in the columns before one
-abbrev pub amount_place : AmountColumn → ℕ
-amount_place OrderKey = 0
-amount_place ExtendedPrice = 29
-amount_place OrdTotalPrice = 37
-amount_place Revenue = 46
-amount_place SupplyCost = 54
-
-abbrev pub number_place : NumberColumn → ℕ
-number_place LineNumber = 8
-number_place CustKey = 12
-number_place PartKey = 16
-number_place SuppKey = 20
-number_place OrderDate = 24
-
-abbrev pub byte_place : ByteColumn → ℕ
-byte_place Quantity = 28
-byte_place Discount = 45
-byte_place Tax = 62
+abbrev pub fact_place : FactColumn → ℕ
+fact_place OrderKey = 0
+fact_place LineNumber = 8
+fact_place CustKey = 12
+fact_place PartKey = 16
+fact_place SuppKey = 20
+fact_place OrderDate = 24
+fact_place Quantity = 28
+fact_place ExtendedPrice = 29
+fact_place OrdTotalPrice = 37
+fact_place Discount = 45
+fact_place Revenue = 46
+fact_place SupplyCost = 54
+fact_place Tax = 62
 
 -- the bytes of a column of so many bytes a row, after the header and the columns before it
 abbrev pub column_bytes : ℕ → ℕ → ℕ → List ℕ → List ℕ
 column_bytes place width rows bytes = take (width * rows) (drop (place * rows) (drop 12 bytes))
 
--- the numbers of a column
-abbrev pub amounts_in : List ℕ → ℕ → AmountColumn → List ℕ
+-- the numbers of a column, if they have eight bytes each, four, or one
+abbrev pub amounts_in : List ℕ → ℕ → FactColumn → List ℕ
 amounts_in bytes rows column =
-    map (from_le_bytes w64) (first_chunks 8 rows (column_bytes (amount_place column) 8 rows bytes))
+    map (from_le_bytes w64) (first_chunks 8 rows (column_bytes (fact_place column) 8 rows bytes))
 
-abbrev pub numbers_in : List ℕ → ℕ → NumberColumn → List ℕ
+abbrev pub numbers_in : List ℕ → ℕ → FactColumn → List ℕ
 numbers_in bytes rows column =
-    map (from_le_bytes w32) (first_chunks 4 rows (column_bytes (number_place column) 4 rows bytes))
+    map (from_le_bytes w32) (first_chunks 4 rows (column_bytes (fact_place column) 4 rows bytes))
 
-abbrev pub figures_in : List ℕ → ℕ → ByteColumn → List ℕ
-figures_in bytes rows column = column_bytes (byte_place column) 1 rows bytes
+abbrev pub figures_in : List ℕ → ℕ → FactColumn → List ℕ
+figures_in bytes rows column = column_bytes (fact_place column) 1 rows bytes
 
 -- the codes that begin at a place, and the texts of a column
 abbrev pub codes_in : List ℕ → ℕ → ℕ → List ℕ
@@ -114,7 +108,8 @@ pub record HasCodes (bytes : List ℕ) (rows : ℕ) (coded : Coded) : Type 0 whe
 pub record IsReadable (bytes : List ℕ) (layout : Layout) : Type 0 where
   pub few : layout.rows ≤ most_batch_rows
   pub room : 12 + 63 * layout.rows ≤ length bytes
-  pub amounts : (column : AmountColumn) → All (λ amount. amount < 2 ^ 63) (amounts_in bytes layout.rows column)
+  pub amounts : (column : FactColumn) → width_of column ≡ 8
+      → All (λ amount. amount < 2 ^ 63) (amounts_in bytes layout.rows column)
   pub codes : (column : TextColumn) → HasCodes bytes layout.rows (coded_of column layout.texts)
 
 -- the bytes are those of a batch that is laid out in this way

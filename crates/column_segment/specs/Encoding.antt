@@ -4,11 +4,11 @@ use Rattle.std.specs.List.{All, flat_map}
 use Rattle.cube_model.specs.Limits.{most_batch_rows}
 use Rattle.cube_model.specs.declared.rows.LineOrder.{LineOrder}
 use Rattle.wire.specs.Spelling.{spelling}
-use Rattle.column_segment.specs.declared.columns.AmountColumn.TheVariants.{OrderKey, ExtendedPrice, OrdTotalPrice}
-use Rattle.column_segment.specs.declared.columns.AmountColumn.TheVariants.{Revenue, SupplyCost}
-use Rattle.column_segment.specs.declared.columns.NumberColumn.TheVariants.{LineNumber, CustKey, PartKey, SuppKey}
-use Rattle.column_segment.specs.declared.columns.NumberColumn.TheVariants.{OrderDate}
-use Rattle.column_segment.specs.declared.columns.ByteColumn.TheVariants.{Quantity, Discount, Tax}
+use Rattle.column_segment.specs.declared.columns.FactColumn.{FactColumn}
+use Rattle.column_segment.specs.declared.columns.FactColumn.TheVariants.{OrderKey, LineNumber, CustKey, PartKey}
+use Rattle.column_segment.specs.declared.columns.FactColumn.TheVariants.{SuppKey, OrderDate, Quantity, ExtendedPrice}
+use Rattle.column_segment.specs.declared.columns.FactColumn.TheVariants.{OrdTotalPrice, Discount, Revenue, SupplyCost}
+use Rattle.column_segment.specs.declared.columns.FactColumn.TheVariants.{Tax}
 use Rattle.column_segment.specs.declared.columns.TextColumn.TheVariants.{OrderPriority, ShipPriority, CommitDate}
 use Rattle.column_segment.specs.declared.columns.TextColumn.TheVariants.{ShipMode}
 use Rattle.column_segment.specs.declared.gathering.Keys.{Keys}
@@ -17,41 +17,41 @@ use Rattle.column_segment.specs.declared.coding.Coding.{Coding}
 use Rattle.column_segment.specs.declared.coding.Texts.{Texts}
 use Rattle.column_segment.specs.declared.encoding.BatchColumns.{BatchColumns}
 use Rattle.column_segment.specs.Coding.{AreCoded}
-use Rattle.column_segment.specs.Columns.{Column, FitsColumn, amounts, bytes, numbers, text_of}
+use Rattle.column_segment.specs.Columns.{FitsColumn, fact_value, text_of, width_of}
 use Rattle.column_segment.specs.Segment.{IsBatch}
 
 -- the bytes of each row's number in a column
-abbrev pub number_chunks : Column → List LineOrder → List (List ℕ)
-number_chunks column rows = map (λ row. spelling column.width (column.value row)) rows
+abbrev pub number_chunks : FactColumn → List LineOrder → List (List ℕ)
+number_chunks column rows = map (λ row. spelling (width_of column) (fact_value column row)) rows
 
 -- the column of some rows: the bytes of each row's number, which is below the limit
-pub record IsColumnOf (column : Column) (rows : List LineOrder) (items : List (List ℕ)) : Type 0 where
+pub record IsColumnOf (column : FactColumn) (rows : List LineOrder) (items : List (List ℕ)) : Type 0 where
   pub chunks : items ≡ number_chunks column rows
   pub fits : All (FitsColumn column) rows
 
 -- what further rows have in a column is put after the others
-pub record PutsColumn (column : Column) (rows : List LineOrder) (old new : List (List ℕ)) : Type 0 where
+pub record PutsColumn (column : FactColumn) (rows : List LineOrder) (old new : List (List ℕ)) : Type 0 where
   pub put : new ≡ old ++ number_chunks column rows
   pub fits : All (FitsColumn column) rows
 
 -- the columns of keys are those of the rows
 pub record HaveKeys (rows : List LineOrder) (keys : Keys) : Type 0 where
-  pub orderkey : IsColumnOf (amounts OrderKey) rows keys.orderkey.items
-  pub linenumber : IsColumnOf (numbers LineNumber) rows keys.linenumber.items
-  pub custkey : IsColumnOf (numbers CustKey) rows keys.custkey.items
-  pub partkey : IsColumnOf (numbers PartKey) rows keys.partkey.items
-  pub suppkey : IsColumnOf (numbers SuppKey) rows keys.suppkey.items
-  pub orderdate : IsColumnOf (numbers OrderDate) rows keys.orderdate.items
+  pub orderkey : IsColumnOf OrderKey rows keys.orderkey.items
+  pub linenumber : IsColumnOf LineNumber rows keys.linenumber.items
+  pub custkey : IsColumnOf CustKey rows keys.custkey.items
+  pub partkey : IsColumnOf PartKey rows keys.partkey.items
+  pub suppkey : IsColumnOf SuppKey rows keys.suppkey.items
+  pub orderdate : IsColumnOf OrderDate rows keys.orderdate.items
 
 -- the columns of figures are those of the rows
 pub record HaveFigures (rows : List LineOrder) (figures : Figures) : Type 0 where
-  pub quantity : IsColumnOf (bytes Quantity) rows figures.quantity.items
-  pub extendedprice : IsColumnOf (amounts ExtendedPrice) rows figures.extendedprice.items
-  pub ordtotalprice : IsColumnOf (amounts OrdTotalPrice) rows figures.ordtotalprice.items
-  pub discount : IsColumnOf (bytes Discount) rows figures.discount.items
-  pub revenue : IsColumnOf (amounts Revenue) rows figures.revenue.items
-  pub supplycost : IsColumnOf (amounts SupplyCost) rows figures.supplycost.items
-  pub tax : IsColumnOf (bytes Tax) rows figures.tax.items
+  pub quantity : IsColumnOf Quantity rows figures.quantity.items
+  pub extendedprice : IsColumnOf ExtendedPrice rows figures.extendedprice.items
+  pub ordtotalprice : IsColumnOf OrdTotalPrice rows figures.ordtotalprice.items
+  pub discount : IsColumnOf Discount rows figures.discount.items
+  pub revenue : IsColumnOf Revenue rows figures.revenue.items
+  pub supplycost : IsColumnOf SupplyCost rows figures.supplycost.items
+  pub tax : IsColumnOf Tax rows figures.tax.items
 
 -- a dictionary and codes are those of a column of texts
 abbrev pub IsCoding : List (List ℕ) → Coding → Type 0

@@ -3,35 +3,16 @@ use Rattle.std.specs.Prelude.{◌≡◌, ℕ, ◌+◌, ◌*◌, ◌^◌, ◌<◌
 use Rattle.std.specs.List.{AllByRecursion}
 use Rattle.column_kernels.specs.Checks.{all_below}
 use Rattle.cube_model.specs.declared.rows.LineOrder.{LineOrder}
-use Rattle.column_segment.specs.declared.columns.AmountColumn.{AmountColumn}
 use Rattle.column_segment.specs.declared.columns.FactColumn.{FactColumn}
-use Rattle.column_segment.specs.declared.columns.FactColumn.TheVariants.{Amount, Number, Figure}
-use Rattle.column_segment.specs.Columns.{amount_of, byte_of, bytes, column_number}
-use Rattle.column_segment.specs.Decoded.{amount_place, amounts_in, byte_place, column_bytes, number_place}
+use Rattle.column_segment.specs.Columns.{fact_value, width_of}
+use Rattle.column_segment.specs.Decoded.{amounts_in, column_bytes, fact_place}
 use Rattle.column_segment.specs.Reading.{HasHeader}
 use Rattle.column_segment.specs.Segment.{IsSegment}
-
--- what a row has in a column of numbers
-abbrev pub fact_value : FactColumn → LineOrder → ℕ
-fact_value (Amount column) = amount_of column
-fact_value (Number column) = column_number column
-fact_value (Figure column) = byte_of column
 
 -- two batches have as many rows as each other, and the same numbers in some columns
 pub record AgreeOn (columns : List FactColumn) (rows others : List LineOrder) : Type 0 where
   pub count : length rows ≡ length others
   pub each : AllByRecursion (λ column. map (fact_value column) rows ≡ map (fact_value column) others) columns
-
--- how many bytes of a row are in the columns before one, and in it
-abbrev pub fact_place : FactColumn → ℕ
-fact_place (Amount column) = amount_place column
-fact_place (Number column) = number_place column
-fact_place (Figure column) = byte_place column
-
-abbrev pub width_of : FactColumn → ℕ
-width_of (Amount column) = 8
-width_of (Number column) = 4
-width_of (Figure column) = 1
 
 -- the bytes have the same numbers in a column
 abbrev pub ShareColumn : ℕ → List ℕ → List ℕ → FactColumn → Type 0
@@ -63,5 +44,4 @@ HoldsNoneOf text number count = (bytes : List ℕ) (rows : List LineOrder) → t
 
 -- each number of a column is one: those of all but the amounts are
 abbrev pub FitsColumnIn : List ℕ → ℕ → FactColumn → Type 0
-FitsColumnIn bytes rows column = (amount : AmountColumn) → column ≡ Amount amount
-    → all_below (2 ^ 63) (amounts_in bytes rows amount) ≡ true
+FitsColumnIn bytes rows column = width_of column ≡ 8 → all_below (2 ^ 63) (amounts_in bytes rows column) ≡ true

@@ -8,11 +8,11 @@ use Rattle.cube_model.specs.declared.rows.LineOrder.{LineOrder}
 use Rattle.column_kernels.specs.Checks.{all_below}
 use Rattle.dictionary.specs.Columns.{AreCodes, column_spelling}
 use Rattle.dictionary.specs.Spelling.{AreProper, AreShort, texts_spelling}
-use Rattle.column_segment.specs.declared.columns.AmountColumn.{AmountColumn}
+use Rattle.column_segment.specs.declared.columns.FactColumn.{FactColumn}
 use Rattle.column_segment.specs.declared.columns.TextColumn.{TextColumn}
 use Rattle.column_segment.specs.declared.layout.Coded.{Coded}
 use Rattle.column_segment.specs.declared.layout.CodedTexts.{CodedTexts}
-use Rattle.column_segment.specs.Columns.{text_columns}
+use Rattle.column_segment.specs.Columns.{text_columns, width_of}
 use Rattle.column_segment.specs.Decoded.{amounts_in, codes_in}
 use Rattle.column_segment.specs.Segment.{IsBatch, segment_header, text_column}
 
@@ -25,7 +25,8 @@ pub record HasHeader (bytes : List ℕ) (number rows : ℕ) : Type 0 where
 -- the columns of numbers are there, and each amount is one
 pub record HasNumbers (bytes : List ℕ) (rows : ℕ) : Type 0 where
   pub room : 12 + 63 * rows ≤ length bytes
-  pub amounts : (column : AmountColumn) → all_below (2 ^ 63) (amounts_in bytes rows column) ≡ true
+  pub amounts : (column : FactColumn) → width_of column ≡ 8
+      → all_below (2 ^ 63) (amounts_in bytes rows column) ≡ true
 
 -- the bytes begin with codes in the order of their first use, which use each one below a count
 pub record BeginsWithCodes (bytes : List ℕ) (rows count : ℕ) : Type 0 where

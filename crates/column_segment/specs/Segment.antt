@@ -5,16 +5,17 @@ use Rattle.cube_model.specs.Limits.{longest_text, most_batch_rows}
 use Rattle.cube_model.specs.declared.rows.LineOrder.{LineOrder}
 use Rattle.wire.specs.Spelling.{spelling}
 use Rattle.dictionary.specs.Columns.{column_spelling}
+use Rattle.column_segment.specs.declared.columns.FactColumn.{FactColumn}
 use Rattle.column_segment.specs.declared.columns.TextColumn.{TextColumn}
-use Rattle.column_segment.specs.Columns.{Column, FitsColumn, number_columns, text_columns, text_of}
+use Rattle.column_segment.specs.Columns.{FitsColumn, fact_value, number_columns, text_columns, text_of, width_of}
 
 -- the 12 bytes before the columns: the name, the batch's number, how many rows
 abbrev pub segment_header : ℕ → ℕ → List ℕ
 segment_header number rows = codes "SEG1" ++ (spelling 4 number ++ spelling 4 rows)
 
 -- a column of numbers: that of each row
-abbrev pub number_column : List LineOrder → Column → List ℕ
-number_column rows column = flat_map (λ row. spelling column.width (column.value row)) rows
+abbrev pub number_column : List LineOrder → FactColumn → List ℕ
+number_column rows column = flat_map (λ row. spelling (width_of column) (fact_value column row)) rows
 
 -- a column of texts: its dictionary, then the code of each row's text
 abbrev pub text_column : List LineOrder → TextColumn → List ℕ

@@ -1,155 +1,177 @@
 //! The columns of a batch.
-#![tactic(auto, unfolding(wire::specs::Spelling::spelling))]
-
-ghost use Rattle.std.specs.Prelude.{◌≡◌, ◌+◌, ◌≤◌, ◌<◌, ℕ};
-ghost use Rattle.std.proofs.Common.{arith};
-ghost use Rattle.wire.specs.Spelling.{spelling};
-ghost use Rattle.column_segment.specs.Columns.{Column, FitsColumn, amounts, bytes, numbers};
-ghost use Rattle.column_segment.specs.Decoded.{amount_place, byte_place, number_place};
+ghost use Rattle.std.specs.Prelude.{◌≡◌, ◌+◌, ◌≤◌};
+ghost use Rattle.column_segment.specs.Columns.{width_of};
 
 use cube_model::LineOrder;
 
-/// Columns of numbers of so many bytes each, the lowest first.
-pub(crate) trait OfWidth<const WIDTH: usize>: Copy {
-    /// Its width, its limit, and which number of a row it has.
-    ghost column: { Self → Column };
-
-    /// How many bytes of a row are in the columns before it.
-    ghost place: { Self → ℕ };
-
-    // The bytes of what a row has in the column.
-    fn bytes_of(self, row: &LineOrder) -> [u8; WIDTH]
-        ensures value { result ≡ spelling (column self).width ((column self).value row.now) }
-        ensures fits { FitsColumn (column self) row.now };
-
-    // How many bytes of a row are in the columns before it.
-    fn place(self) -> usize
-        ensures value { result ≡ place self }
-        ensures within { result + WIDTH ≤ 63 };
-
-    /// Each number has a byte, and at most eight.
-    ghost width: { (0 < WIDTH) × (WIDTH ≤ 8) };
-}
-
-/// A column of amounts, eight bytes each.
+/// A column of numbers.
 #[derive(Clone, Copy, PartialEq, Eq)]
-pub enum AmountColumn {
+pub enum FactColumn {
     OrderKey,
-    ExtendedPrice,
-    OrdTotalPrice,
-    Revenue,
-    SupplyCost,
-}
-
-impl OfWidth<8> for AmountColumn {
-    ghost column = { amounts };
-
-    ghost place = { amount_place };
-
-    fn bytes_of(self, row: &LineOrder) -> [u8; 8] {
-        let number = match self {
-            AmountColumn::OrderKey => row.orderkey.get(),
-            AmountColumn::ExtendedPrice => row.extendedprice.get(),
-            AmountColumn::OrdTotalPrice => row.ordtotalprice.get(),
-            AmountColumn::Revenue => row.revenue.get(),
-            AmountColumn::SupplyCost => row.supplycost.get(),
-        };
-        u64::to_le_bytes(number)
-    }
-
-    fn place(self) -> usize {
-        match self {
-            AmountColumn::OrderKey => 0,
-            AmountColumn::ExtendedPrice => 29,
-            AmountColumn::OrdTotalPrice => 37,
-            AmountColumn::Revenue => 46,
-            AmountColumn::SupplyCost => 54,
-        }
-    }
-
-    ghost width = { (omega arith, omega arith) };
-}
-
-/// A column of numbers, four bytes each: the line number and the keys of the dimensions.
-#[derive(Clone, Copy, PartialEq, Eq)]
-pub enum NumberColumn {
     LineNumber,
     CustKey,
     PartKey,
     SuppKey,
     OrderDate,
-}
-
-impl NumberColumn {
-    ghost use Rattle.column_segment.specs.Columns.{column_number};
-
-    // What a row has in the column.
-    fn number_of(self, row: &LineOrder) -> u32
-        ensures { result ≡ column_number self row.now }
-    {
-        match self {
-            NumberColumn::LineNumber => row.linenumber,
-            NumberColumn::CustKey => row.custkey,
-            NumberColumn::PartKey => row.partkey,
-            NumberColumn::SuppKey => row.suppkey,
-            NumberColumn::OrderDate => row.orderdate,
-        }
-    }
-}
-
-impl OfWidth<4> for NumberColumn {
-    ghost column = { numbers };
-
-    ghost place = { number_place };
-
-    fn bytes_of(self, row: &LineOrder) -> [u8; 4] {
-        u32::to_le_bytes(self.number_of(row))
-    }
-
-    fn place(self) -> usize {
-        match self {
-            NumberColumn::LineNumber => 8,
-            NumberColumn::CustKey => 12,
-            NumberColumn::PartKey => 16,
-            NumberColumn::SuppKey => 20,
-            NumberColumn::OrderDate => 24,
-        }
-    }
-
-    ghost width = { (omega arith, omega arith) };
-}
-
-/// A column of small numbers, a byte each.
-#[derive(Clone, Copy, PartialEq, Eq)]
-pub enum ByteColumn {
     Quantity,
+    ExtendedPrice,
+    OrdTotalPrice,
     Discount,
+    Revenue,
+    SupplyCost,
     Tax,
 }
 
-impl OfWidth<1> for ByteColumn {
-    ghost column = { bytes };
+impl FactColumn {
+    ghost use Rattle.column_segment.specs.Columns.{FitsColumn, fact_value};
+    ghost use Rattle.column_segment.specs.Decoded.{fact_place};
 
-    ghost place = { byte_place };
-
-    fn bytes_of(self, row: &LineOrder) -> [u8; 1] {
-        let number = match self {
-            ByteColumn::Quantity => row.quantity,
-            ByteColumn::Discount => row.discount,
-            ByteColumn::Tax => row.tax,
-        };
-        u8::to_le_bytes(number)
-    }
-
-    fn place(self) -> usize {
+    // Which number of a row is in the column.
+    #[inline(always)]
+    fn number_of(self, row: &LineOrder) -> u64
+        ensures value { result ≡ fact_value self row.now }
+        ensures fits { FitsColumn self row.now }
+    {
         match self {
-            ByteColumn::Quantity => 28,
-            ByteColumn::Discount => 45,
-            ByteColumn::Tax => 62,
+            FactColumn::OrderKey => row.orderkey.get(),
+            FactColumn::LineNumber => u64::from(row.linenumber),
+            FactColumn::CustKey => u64::from(row.custkey),
+            FactColumn::PartKey => u64::from(row.partkey),
+            FactColumn::SuppKey => u64::from(row.suppkey),
+            FactColumn::OrderDate => u64::from(row.orderdate),
+            FactColumn::Quantity => u64::from(row.quantity),
+            FactColumn::ExtendedPrice => row.extendedprice.get(),
+            FactColumn::OrdTotalPrice => row.ordtotalprice.get(),
+            FactColumn::Discount => u64::from(row.discount),
+            FactColumn::Revenue => row.revenue.get(),
+            FactColumn::SupplyCost => row.supplycost.get(),
+            FactColumn::Tax => u64::from(row.tax),
         }
     }
 
-    ghost width = { (omega arith, omega arith) };
+    /// How many bytes each number of it has: eight, four or one.
+    pub fn width(self) -> usize
+        ensures { result ≡ width_of self }
+    {
+        match self {
+            FactColumn::OrderKey
+            | FactColumn::ExtendedPrice
+            | FactColumn::OrdTotalPrice
+            | FactColumn::Revenue
+            | FactColumn::SupplyCost => 8,
+            FactColumn::LineNumber
+            | FactColumn::CustKey
+            | FactColumn::PartKey
+            | FactColumn::SuppKey
+            | FactColumn::OrderDate => 4,
+            FactColumn::Quantity | FactColumn::Discount | FactColumn::Tax => 1,
+        }
+    }
+
+    // How many bytes of a row are in the columns before it.
+    pub(crate) fn place(self) -> usize
+        ensures value { result ≡ fact_place self }
+        ensures within { result + width_of self ≤ 63 }
+    {
+        match self {
+            FactColumn::OrderKey => 0,
+            FactColumn::LineNumber => 8,
+            FactColumn::CustKey => 12,
+            FactColumn::PartKey => 16,
+            FactColumn::SuppKey => 20,
+            FactColumn::OrderDate => 24,
+            FactColumn::Quantity => 28,
+            FactColumn::ExtendedPrice => 29,
+            FactColumn::OrdTotalPrice => 37,
+            FactColumn::Discount => 45,
+            FactColumn::Revenue => 46,
+            FactColumn::SupplyCost => 54,
+            FactColumn::Tax => 62,
+        }
+    }
+}
+
+/// A column of numbers of so many bytes each.
+#[derive(Clone, Copy)]
+pub struct Column<const WIDTH: usize> {
+    pub name: FactColumn,
+
+    /// Its numbers have that width.
+    ghost wide: { width_of name ≡ WIDTH },
+}
+
+impl<const WIDTH: usize> Column<WIDTH> {
+    ghost use Rattle.wire.specs.Spelling.{spelling};
+    ghost use Rattle.column_segment.specs.Columns.{FitsColumn, fact_value};
+
+    // The bytes of what a row has in it, the lowest first.
+    #[inline(always)]
+    pub(crate) fn bytes_of(self, row: &LineOrder) -> [u8; WIDTH]
+        ensures value { result ≡ spelling WIDTH (fact_value self.entry.name row.now) }
+        ensures fits { FitsColumn self.entry.name row.now }
+    {
+        let mut bytes = [0; WIDTH];
+        bytes.copy_from_slice(&self.name.number_of(row).to_le_bytes()[..WIDTH]);
+        bytes
+    }
+}
+
+impl Column<8> {
+    pub const ORDER_KEY: Column<8> = Column {
+        name: FactColumn::OrderKey,
+    };
+
+    pub const EXTENDED_PRICE: Column<8> = Column {
+        name: FactColumn::ExtendedPrice,
+    };
+
+    pub const ORD_TOTAL_PRICE: Column<8> = Column {
+        name: FactColumn::OrdTotalPrice,
+    };
+
+    pub const REVENUE: Column<8> = Column {
+        name: FactColumn::Revenue,
+    };
+
+    pub const SUPPLY_COST: Column<8> = Column {
+        name: FactColumn::SupplyCost,
+    };
+}
+
+impl Column<4> {
+    pub const LINE_NUMBER: Column<4> = Column {
+        name: FactColumn::LineNumber,
+    };
+
+    pub const CUST_KEY: Column<4> = Column {
+        name: FactColumn::CustKey,
+    };
+
+    pub const PART_KEY: Column<4> = Column {
+        name: FactColumn::PartKey,
+    };
+
+    pub const SUPP_KEY: Column<4> = Column {
+        name: FactColumn::SuppKey,
+    };
+
+    pub const ORDER_DATE: Column<4> = Column {
+        name: FactColumn::OrderDate,
+    };
+}
+
+impl Column<1> {
+    pub const QUANTITY: Column<1> = Column {
+        name: FactColumn::Quantity,
+    };
+
+    pub const DISCOUNT: Column<1> = Column {
+        name: FactColumn::Discount,
+    };
+
+    pub const TAX: Column<1> = Column {
+        name: FactColumn::Tax,
+    };
 }
 
 /// A column of texts: a dictionary, and two bytes each.
@@ -175,12 +197,4 @@ impl TextColumn {
             TextColumn::ShipMode => row.shipmode.as_slice(),
         }
     }
-}
-
-/// A column of numbers, of any width.
-#[derive(Clone, Copy, PartialEq, Eq)]
-pub enum FactColumn {
-    Amount(AmountColumn),
-    Number(NumberColumn),
-    Figure(ByteColumn),
 }

@@ -3,10 +3,10 @@ ghost use Rattle.std.specs.Prelude.{◌≡◌, ◌*◌, ◌-ℤ◌, pos, length,
 ghost use Rattle.cube_model.specs.Measures.{measure_of};
 ghost use Rattle.column_kernels.specs.Extremes.{extremes_of};
 ghost use Rattle.column_kernels.specs.Masks.{selected_by};
-ghost use Rattle.column_segment.specs.Columns.{amount_of, byte_of};
+ghost use Rattle.column_segment.specs.Columns.{fact_value};
 ghost use Rattle.column_segment.specs.Decoded.{HoldsColumns, decoded_rows};
 
-use crate::columns::{AmountColumn, ByteColumn};
+use crate::columns::Column;
 use crate::layout::{Layout, byte_part, chunks};
 use column_kernels::Mask;
 use cube_model::Measure;
@@ -24,12 +24,12 @@ pub(crate) fn selected_extremes(
         ≡ extremes_of (map (measure_of measure) (selected_by mask.now (decoded_rows bytes.now layout.now))) }
 {
     match measure {
-        Measure::Quantity => extremes_of_bytes(bytes, layout, ByteColumn::Quantity, mask),
+        Measure::Quantity => extremes_of_bytes(bytes, layout, Column::QUANTITY, mask),
         Measure::ExtendedPrice => {
-            extremes_of_amounts(bytes, layout, AmountColumn::ExtendedPrice, mask)
+            extremes_of_amounts(bytes, layout, Column::EXTENDED_PRICE, mask)
         }
-        Measure::Revenue => extremes_of_amounts(bytes, layout, AmountColumn::Revenue, mask),
-        Measure::SupplyCost => extremes_of_amounts(bytes, layout, AmountColumn::SupplyCost, mask),
+        Measure::Revenue => extremes_of_amounts(bytes, layout, Column::REVENUE, mask),
+        Measure::SupplyCost => extremes_of_amounts(bytes, layout, Column::SUPPLY_COST, mask),
         Measure::Discounted => extremes_of_discounted(bytes, layout, mask),
         Measure::Profit => extremes_of_profit(bytes, layout, mask),
     }
@@ -39,14 +39,14 @@ pub(crate) fn selected_extremes(
 fn extremes_of_bytes(
     bytes: &[u8],
     layout: &Layout,
-    column: ByteColumn,
+    column: Column<1>,
     mask: &Mask,
 ) -> Option<(i128, i128)>
     requires columns { HoldsColumns bytes.now layout.now.rows }
     requires rows { length mask.now ≡ layout.now.rows }
     ensures { result
         ≡ extremes_of
-        (map (λ row. pos (byte_of column row)) (selected_by mask.now (decoded_rows bytes.now layout.now))) }
+        (map (λ row. pos (fact_value column.name row)) (selected_by mask.now (decoded_rows bytes.now layout.now))) }
 {
     mask.extremes_of_bytes(byte_part(bytes, layout.rows, column))
 }
@@ -55,14 +55,14 @@ fn extremes_of_bytes(
 fn extremes_of_amounts(
     bytes: &[u8],
     layout: &Layout,
-    column: AmountColumn,
+    column: Column<8>,
     mask: &Mask,
 ) -> Option<(i128, i128)>
     requires columns { HoldsColumns bytes.now layout.now.rows }
     requires rows { length mask.now ≡ layout.now.rows }
     ensures { result
         ≡ extremes_of
-        (map (λ row. pos (amount_of column row)) (selected_by mask.now (decoded_rows bytes.now layout.now))) }
+        (map (λ row. pos (fact_value column.name row)) (selected_by mask.now (decoded_rows bytes.now layout.now))) }
 {
     mask.extremes_of_numbers(chunks(bytes, layout.rows, column))
 }
@@ -76,8 +76,8 @@ fn extremes_of_discounted(bytes: &[u8], layout: &Layout, mask: &Mask) -> Option<
         (map (λ row. pos (row.extendedprice * row.discount))
         (selected_by mask.now (decoded_rows bytes.now layout.now))) }
 {
-    let prices = chunks(bytes, layout.rows, AmountColumn::ExtendedPrice);
-    let discounts = byte_part(bytes, layout.rows, ByteColumn::Discount);
+    let prices = chunks(bytes, layout.rows, Column::EXTENDED_PRICE);
+    let discounts = byte_part(bytes, layout.rows, Column::DISCOUNT);
     mask.extremes_of_products(prices, discounts)
 }
 
@@ -90,7 +90,7 @@ fn extremes_of_profit(bytes: &[u8], layout: &Layout, mask: &Mask) -> Option<(i12
         (map (λ row. pos row.revenue -ℤ pos row.supplycost)
         (selected_by mask.now (decoded_rows bytes.now layout.now))) }
 {
-    let revenues = chunks(bytes, layout.rows, AmountColumn::Revenue);
-    let costs = chunks(bytes, layout.rows, AmountColumn::SupplyCost);
+    let revenues = chunks(bytes, layout.rows, Column::REVENUE);
+    let costs = chunks(bytes, layout.rows, Column::SUPPLY_COST);
     mask.extremes_of_differences(revenues, costs)
 }

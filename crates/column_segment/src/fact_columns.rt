@@ -9,11 +9,11 @@ ghost use Rattle.std.specs.Int.{from_le_bytes, w32};
 ghost use Rattle.column_kernels.specs.Extremes.{extremes_of};
 ghost use Rattle.column_kernels.specs.Masks.{lies_in, selected_by};
 ghost use Rattle.column_kernels.specs.Sums.{numbers_of};
-ghost use Rattle.column_segment.specs.Columns.{amount_of, byte_of, column_number};
+ghost use Rattle.column_segment.specs.Columns.{fact_value};
 ghost use Rattle.column_segment.specs.Decoded.{HoldsColumns, decoded_rows};
 ghost use Rattle.column_segment.specs.Projected.{HaveSmallFigures};
 
-use crate::columns::{AmountColumn, ByteColumn, NumberColumn};
+use crate::columns::Column;
 use crate::extremes::selected_extremes;
 use crate::layout::{Layout, byte_part, chunks};
 use crate::sums::selected_sum;
@@ -59,22 +59,22 @@ impl<'a> FactColumns<'a> {
     }
 
     /// A column of amounts, eight bytes a row, the lowest byte first.
-    pub fn amounts(&self, column: AmountColumn) -> &'a [[u8; 8]]
-        ensures { numbers_of result.now ≡ map (amount_of column) self.now }
+    pub fn amounts(&self, column: Column<8>) -> &'a [[u8; 8]]
+        ensures { numbers_of result.now ≡ map (fact_value column.name) self.now }
     {
         chunks(self.bytes, self.layout.rows, column)
     }
 
     /// A column of numbers, four bytes a row, the lowest byte first.
-    pub fn numbers(&self, column: NumberColumn) -> &'a [[u8; 4]]
-        ensures { map (from_le_bytes w32) result.now ≡ map (column_number column) self.now }
+    pub fn numbers(&self, column: Column<4>) -> &'a [[u8; 4]]
+        ensures { map (from_le_bytes w32) result.now ≡ map (fact_value column.name) self.now }
     {
         chunks(self.bytes, self.layout.rows, column)
     }
 
     /// A column of small numbers, a byte a row.
-    pub fn figures(&self, column: ByteColumn) -> &'a [u8]
-        ensures { result.now ≡ map (byte_of column) self.now }
+    pub fn figures(&self, column: Column<1>) -> &'a [u8]
+        ensures { result.now ≡ map (fact_value column.name) self.now }
     {
         byte_part(self.bytes, self.layout.rows, column)
     }
@@ -86,8 +86,8 @@ impl<'a> FactColumns<'a> {
         ensures memory { IfErr result (λ fault. fault ≡ Fault.Memory) }
         ensures figures { HaveSmallFigures self.now }
     {
-        let quantities = byte_part(self.bytes, self.layout.rows, ByteColumn::Quantity);
-        let discounts = byte_part(self.bytes, self.layout.rows, ByteColumn::Discount);
+        let quantities = byte_part(self.bytes, self.layout.rows, Column::QUANTITY);
+        let discounts = byte_part(self.bytes, self.layout.rows, Column::DISCOUNT);
         Mask::of_ranges(alloc, quantities, discounts, quantity, discount)
     }
 

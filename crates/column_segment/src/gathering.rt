@@ -7,7 +7,7 @@ ghost use Rattle.column_segment.specs.Columns.{figure_columns, key_columns};
 ghost use Rattle.column_segment.specs.Encoding.{PutsColumn};
 ghost use Rattle.column_segment.specs.Segment.{number_column};
 
-use crate::columns::{AmountColumn, ByteColumn, NumberColumn, OfWidth};
+use crate::columns::Column;
 use cube_model::{Fault, LineOrder};
 use std::alloc::Global;
 use wire::push_bytes;
@@ -58,12 +58,12 @@ impl Keys {
             → HaveKeys (before ++ rows.now) self.new) }
         ensures memory { IsOkUnless result Fault.Memory }
     {
-        put(&mut self.orderkey, rows, AmountColumn::OrderKey)?;
-        put(&mut self.linenumber, rows, NumberColumn::LineNumber)?;
-        put(&mut self.custkey, rows, NumberColumn::CustKey)?;
-        put(&mut self.partkey, rows, NumberColumn::PartKey)?;
-        put(&mut self.suppkey, rows, NumberColumn::SuppKey)?;
-        put(&mut self.orderdate, rows, NumberColumn::OrderDate)
+        put(&mut self.orderkey, rows, Column::ORDER_KEY)?;
+        put(&mut self.linenumber, rows, Column::LINE_NUMBER)?;
+        put(&mut self.custkey, rows, Column::CUST_KEY)?;
+        put(&mut self.partkey, rows, Column::PART_KEY)?;
+        put(&mut self.suppkey, rows, Column::SUPP_KEY)?;
+        put(&mut self.orderdate, rows, Column::ORDER_DATE)
     }
 
     // Adds the columns to bytes.
@@ -119,13 +119,13 @@ impl Figures {
             → HaveFigures (before ++ rows.now) self.new) }
         ensures memory { IsOkUnless result Fault.Memory }
     {
-        put(&mut self.quantity, rows, ByteColumn::Quantity)?;
-        put(&mut self.extendedprice, rows, AmountColumn::ExtendedPrice)?;
-        put(&mut self.ordtotalprice, rows, AmountColumn::OrdTotalPrice)?;
-        put(&mut self.discount, rows, ByteColumn::Discount)?;
-        put(&mut self.revenue, rows, AmountColumn::Revenue)?;
-        put(&mut self.supplycost, rows, AmountColumn::SupplyCost)?;
-        put(&mut self.tax, rows, ByteColumn::Tax)
+        put(&mut self.quantity, rows, Column::QUANTITY)?;
+        put(&mut self.extendedprice, rows, Column::EXTENDED_PRICE)?;
+        put(&mut self.ordtotalprice, rows, Column::ORD_TOTAL_PRICE)?;
+        put(&mut self.discount, rows, Column::DISCOUNT)?;
+        put(&mut self.revenue, rows, Column::REVENUE)?;
+        put(&mut self.supplycost, rows, Column::SUPPLY_COST)?;
+        put(&mut self.tax, rows, Column::TAX)
     }
 
     // Adds the columns to bytes.
@@ -146,13 +146,13 @@ impl Figures {
 
 // Adds what the rows of a piece have in a column.
 #[inline(always)]
-fn put<const WIDTH: usize, C: OfWidth<WIDTH>>(
+fn put<const WIDTH: usize>(
     to: &mut Vec<[u8; WIDTH]>,
     rows: &[LineOrder],
-    column: C,
+    column: Column<WIDTH>,
 ) -> Result<(), Fault>
     requires piece { length rows.now ≤ PIECE }
-    ensures ok { OnOk result (PutsColumn (C.column column) rows.now to.old.items to.new.items) }
+    ensures ok { OnOk result (PutsColumn column.entry.name rows.now to.old.items to.new.items) }
     ensures memory { IsOkUnless result Fault.Memory }
 {
     let mut chunks = [[0u8; WIDTH]; PIECE];

@@ -3,10 +3,9 @@ ghost use Rattle.std.specs.Prelude.{◌≡◌, ◌+◌, ◌*◌, ◌^◌, ◌≤
 ghost use Rattle.std.specs.Int.{from_le_bytes, w16};
 ghost use Rattle.std.specs.Simd.{first_chunks};
 ghost use Rattle.cube_model.specs.Limits.{most_batch_rows};
-ghost use Rattle.column_segment.specs.Decoded.{byte_place, codes_in, coded_of, column_bytes};
-ghost use Rattle.column_segment.specs.Projected.{fact_place, width_of};
+ghost use Rattle.column_segment.specs.Decoded.{codes_in, coded_of, column_bytes, fact_place};
 
-use crate::columns::{ByteColumn, FactColumn, OfWidth, TextColumn};
+use crate::columns::{Column, TextColumn};
 use dictionary::Dictionary;
 use std::alloc::Global;
 
@@ -99,30 +98,31 @@ impl Layout {
 }
 
 /// A column of bytes that have room for all columns of numbers.
-pub(crate) fn chunks<const WIDTH: usize, C: OfWidth<WIDTH>>(
+pub(crate) fn chunks<const WIDTH: usize>(
     bytes: &[u8],
     rows: usize,
-    column: C,
+    column: Column<WIDTH>,
 ) -> &[[u8; WIDTH]]
     requires few { rows ≤ most_batch_rows }
     requires room { 12 + 63 * rows ≤ length bytes.now }
-    ensures value { result.now ≡ first_chunks WIDTH rows (column_bytes (C.place column) WIDTH rows bytes.now) }
+    ensures value { result.now
+        ≡ first_chunks WIDTH rows (column_bytes (fact_place column.entry.name) WIDTH rows bytes.now) }
     ensures many { length result.now ≡ rows }
 {
-    part(bytes, rows, column.place(), WIDTH)
+    part(bytes, rows, column.name.place(), WIDTH)
         .as_chunks::<WIDTH>()
         .0
 }
 
 /// A column of small numbers.
-pub(crate) fn byte_part(bytes: &[u8], rows: usize, column: ByteColumn) -> &[u8]
+pub(crate) fn byte_part(bytes: &[u8], rows: usize, column: Column<1>) -> &[u8]
     requires few { rows ≤ most_batch_rows }
     requires room { 12 + 63 * rows ≤ length bytes.now }
-    ensures value { result.now ≡ column_bytes (byte_place column) 1 rows bytes.now }
+    ensures value { result.now ≡ column_bytes (fact_place column.name) 1 rows bytes.now }
     ensures many { length result.now ≡ rows }
     ensures fit { All (λ number. number < 2 ^ 8) result.now }
 {
-    part(bytes, rows, column.place(), 1)
+    part(bytes, rows, column.name.place(), 1)
 }
 
 /// The codes of a column of texts that begin at a place.
@@ -144,27 +144,4 @@ fn part(bytes: &[u8], rows: usize, place: usize, width: usize) -> &[u8]
 {
     let columns = bytes.split_at(HEADER_BYTES).1;
     columns.split_at(place * rows).1.split_at(width * rows).0
-}
-
-/// How many bytes of a row are in the columns before one.
-pub(crate) fn place_of(column: FactColumn) -> usize
-    ensures value { result ≡ fact_place column }
-    ensures within { result + width_of column ≤ 63 }
-{
-    match column {
-        FactColumn::Amount(column) => column.place(),
-        FactColumn::Number(column) => column.place(),
-        FactColumn::Figure(column) => column.place(),
-    }
-}
-
-/// How many bytes of a row are in a column.
-pub(crate) fn width_of(column: FactColumn) -> usize
-    ensures { result ≡ width_of column }
-{
-    match column {
-        FactColumn::Amount(_) => 8,
-        FactColumn::Number(_) => 4,
-        FactColumn::Figure(_) => 1,
-    }
 }

@@ -20,7 +20,7 @@ mod sums;
 
 pub use batch::is_batch;
 pub use column_buffer::ColumnBuffer;
-pub use columns::{AmountColumn, ByteColumn, FactColumn, NumberColumn, TextColumn};
+pub use columns::{Column, FactColumn, TextColumn};
 pub use encoding::{BatchColumns, encode};
 pub use fact_columns::FactColumns;
 pub use laws::bytes_are_one_batch;

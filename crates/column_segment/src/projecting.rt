@@ -9,10 +9,10 @@ ghost use Rattle.column_segment.specs.declared.columns.FactColumn.{FactColumn};
 ghost use Rattle.column_segment.specs.Decoded.{HoldsColumns};
 ghost use Rattle.column_segment.specs.Reading.{HasHeader, HasNumbers};
 ghost use Rattle.column_segment.specs.Projected.{FitsColumnIn, HasColumns, HoldsNoneOf, ShareColumn};
-ghost use Rattle.column_segment.specs.Projected.{StaysOutside, width_of};
+ghost use Rattle.column_segment.specs.Projected.{StaysOutside};
 
-use crate::columns::FactColumn;
-use crate::layout::{HEADER_BYTES, Layout, NUMBER_BYTES, place_of, width_of};
+use crate::columns::{Column, FactColumn};
+use crate::layout::{HEADER_BYTES, Layout, NUMBER_BYTES};
 use crate::reading::{fits, read_header};
 use cube_model::Fault;
 use wire::{Source, read_part};
@@ -167,8 +167,8 @@ fn read_column<S: Source>(
         → HasNumbers text rows → ⊥ }
     ensures run { ReadsSourceOr S.Source (λ fault. fault ≡ Fault.BadLayout) source.old source.new result }
 {
-    let at = HEADER_BYTES + place_of(column) * rows;
-    read_over(source, id, bytes, at, width_of(column) * rows)?;
+    let at = HEADER_BYTES + column.place() * rows;
+    read_over(source, id, bytes, at, column.width() * rows)?;
     if !fits_column(bytes, rows, column) {
         return Err(Fault::BadLayout);
     }
@@ -198,8 +198,5 @@ fn fits_column(bytes: &[u8], rows: usize, column: FactColumn) -> bool
     requires holds { HoldsColumns bytes.now rows }
     ensures { IsTrue result ↔ FitsColumnIn bytes.now rows column }
 {
-    match column {
-        FactColumn::Amount(amount) => fits(bytes, rows, amount),
-        _ => true,
-    }
+    column.width() != 8 || fits(bytes, rows, Column { name: column })
 }

@@ -11,7 +11,7 @@ ghost use Rattle.column_segment.specs.Reading.{HasNumbers, HasTexts, SpellNoText
 ghost use Rattle.column_segment.specs.declared.columns.TextColumn.TheVariants.{CommitDate, ShipMode};
 ghost use Rattle.column_segment.specs.Segment.{IsSegment};
 
-use crate::columns::AmountColumn;
+use crate::columns::Column;
 use crate::encoding::NAME;
 use crate::layout::{Coded, CodedTexts, HEADER_BYTES, Layout, NUMBER_BYTES, chunks};
 use column_kernels::are_amounts;
@@ -72,18 +72,18 @@ fn has_numbers(bytes: &[u8], rows: usize) -> bool
     if bytes.len() < HEADER_BYTES + NUMBER_BYTES * rows {
         return false;
     }
-    fits(bytes, rows, AmountColumn::OrderKey)
-        & fits(bytes, rows, AmountColumn::ExtendedPrice)
-        & fits(bytes, rows, AmountColumn::OrdTotalPrice)
-        & fits(bytes, rows, AmountColumn::Revenue)
-        & fits(bytes, rows, AmountColumn::SupplyCost)
+    fits(bytes, rows, Column::ORDER_KEY)
+        & fits(bytes, rows, Column::EXTENDED_PRICE)
+        & fits(bytes, rows, Column::ORD_TOTAL_PRICE)
+        & fits(bytes, rows, Column::REVENUE)
+        & fits(bytes, rows, Column::SUPPLY_COST)
 }
 
 // Whether each number of a column is an amount.
-pub(crate) fn fits(bytes: &[u8], rows: usize, column: AmountColumn) -> bool
+pub(crate) fn fits(bytes: &[u8], rows: usize, column: Column<8>) -> bool
     requires few { rows ≤ most_batch_rows }
     requires room { 12 + 63 * rows ≤ length bytes.now }
-    ensures { result ≡ all_below (2 ^ 63) (amounts_in bytes.now rows column) }
+    ensures { result ≡ all_below (2 ^ 63) (amounts_in bytes.now rows column.name) }
 {
     are_amounts(chunks(bytes, rows, column))
 }

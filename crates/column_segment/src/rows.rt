@@ -7,7 +7,7 @@ ghost use Rattle.column_segment.specs.Decoded.{HasCodes, IsReadable, amounts_in,
 ghost use Rattle.column_segment.specs.Decoded.{texts_in};
 ghost use Rattle.column_segment.specs.Rows.{figures_of, row_keys_of};
 
-use crate::columns::{AmountColumn, ByteColumn, NumberColumn};
+use crate::columns::Column;
 use crate::layout::{Coded, Layout, byte_part, chunks};
 use cube_model::{Amount, Fault, LineOrder, RowText};
 use std::alloc::Global;
@@ -112,12 +112,12 @@ fn keys_at(bytes: &[u8], layout: &Layout, row: usize) -> RowKeys
     ensures { result ≡ row_keys_of (row_in bytes.now layout.now row) }
 {
     RowKeys {
-        orderkey: amount_at(bytes, layout, AmountColumn::OrderKey, row),
-        linenumber: number_at(bytes, layout, NumberColumn::LineNumber, row),
-        custkey: number_at(bytes, layout, NumberColumn::CustKey, row),
-        partkey: number_at(bytes, layout, NumberColumn::PartKey, row),
-        suppkey: number_at(bytes, layout, NumberColumn::SuppKey, row),
-        orderdate: number_at(bytes, layout, NumberColumn::OrderDate, row),
+        orderkey: amount_at(bytes, layout, Column::ORDER_KEY, row),
+        linenumber: number_at(bytes, layout, Column::LINE_NUMBER, row),
+        custkey: number_at(bytes, layout, Column::CUST_KEY, row),
+        partkey: number_at(bytes, layout, Column::PART_KEY, row),
+        suppkey: number_at(bytes, layout, Column::SUPP_KEY, row),
+        orderdate: number_at(bytes, layout, Column::ORDER_DATE, row),
     }
 }
 
@@ -128,39 +128,39 @@ fn figures_at(bytes: &[u8], layout: &Layout, row: usize) -> RowFigures
     ensures { result ≡ figures_of (row_in bytes.now layout.now row) }
 {
     RowFigures {
-        quantity: byte_at(bytes, layout, ByteColumn::Quantity, row),
-        extendedprice: amount_at(bytes, layout, AmountColumn::ExtendedPrice, row),
-        ordtotalprice: amount_at(bytes, layout, AmountColumn::OrdTotalPrice, row),
-        discount: byte_at(bytes, layout, ByteColumn::Discount, row),
-        revenue: amount_at(bytes, layout, AmountColumn::Revenue, row),
-        supplycost: amount_at(bytes, layout, AmountColumn::SupplyCost, row),
-        tax: byte_at(bytes, layout, ByteColumn::Tax, row),
+        quantity: byte_at(bytes, layout, Column::QUANTITY, row),
+        extendedprice: amount_at(bytes, layout, Column::EXTENDED_PRICE, row),
+        ordtotalprice: amount_at(bytes, layout, Column::ORD_TOTAL_PRICE, row),
+        discount: byte_at(bytes, layout, Column::DISCOUNT, row),
+        revenue: amount_at(bytes, layout, Column::REVENUE, row),
+        supplycost: amount_at(bytes, layout, Column::SUPPLY_COST, row),
+        tax: byte_at(bytes, layout, Column::TAX, row),
     }
 }
 
 // The amount of a row in a column.
-fn amount_at(bytes: &[u8], layout: &Layout, column: AmountColumn, row: usize) -> Amount
+fn amount_at(bytes: &[u8], layout: &Layout, column: Column<8>, row: usize) -> Amount
     requires readable { IsReadable bytes.now layout.now }
     requires within { row < layout.now.rows }
-    ensures { result ≡ slice_index (amounts_in bytes.now layout.now.rows column) row }
+    ensures { result ≡ slice_index (amounts_in bytes.now layout.now.rows column.name) row }
 {
     Amount::new(u64::from_le_bytes(chunks(bytes, layout.rows, column)[row]))
 }
 
 // The number of a row in a column.
-fn number_at(bytes: &[u8], layout: &Layout, column: NumberColumn, row: usize) -> u32
+fn number_at(bytes: &[u8], layout: &Layout, column: Column<4>, row: usize) -> u32
     requires readable { IsReadable bytes.now layout.now }
     requires within { row < layout.now.rows }
-    ensures { result ≡ slice_index (numbers_in bytes.now layout.now.rows column) row }
+    ensures { result ≡ slice_index (numbers_in bytes.now layout.now.rows column.name) row }
 {
     u32::from_le_bytes(chunks(bytes, layout.rows, column)[row])
 }
 
 // The small number of a row in a column.
-fn byte_at(bytes: &[u8], layout: &Layout, column: ByteColumn, row: usize) -> u8
+fn byte_at(bytes: &[u8], layout: &Layout, column: Column<1>, row: usize) -> u8
     requires readable { IsReadable bytes.now layout.now }
     requires within { row < layout.now.rows }
-    ensures { result ≡ slice_index (figures_in bytes.now layout.now.rows column) row }
+    ensures { result ≡ slice_index (figures_in bytes.now layout.now.rows column.name) row }
 {
     byte_part(bytes, layout.rows, column)[row]
 }

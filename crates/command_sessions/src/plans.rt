@@ -20,7 +20,7 @@ use mode_queries::{ModeQuery, QueryRef};
 use report_formats::{Cell, Format, Records};
 use sector_device::Sectors;
 use std::alloc::{AllocError, Global};
-use warehouse::{Plan, Priced, Session};
+use warehouse::{AccessPath, Priced, Session};
 
 /// The fields of a record of a plan.
 const FIELDS: [&str; 10] = [
@@ -211,8 +211,8 @@ fn plan_records(
 fn plan_cells(name: &'static str, count: u32, one: &Priced) -> [Cell; 10] {
     let tail = count.saturating_sub(mark_of(one.plan));
     let ([view, customer, supplier, part, date, mode], mark) = match one.plan {
-        Plan::Scan => ([Cell::Empty; 6], Cell::Empty),
-        Plan::Cells { view, mark } => (view_cells(view), Cell::Number(u64::from(mark))),
+        AccessPath::Scan => ([Cell::Empty; 6], Cell::Empty),
+        AccessPath::Cells { view, mark } => (view_cells(view), Cell::Number(u64::from(mark))),
     };
     [
         Cell::Word(name),

@@ -1,12 +1,12 @@
 //! What a query reads, and how many groups it has at most.
 use crate::needs::CELL_BYTES;
-use column_segment::{AmountColumn, ByteColumn, FactColumn, NumberColumn, TextColumn};
+use column_segment::{FactColumn, TextColumn};
 use cube_model::{Fault, Kind};
 use cube_query::Fold;
 use dimensions::Dims;
 use mode_queries::QueryRef;
 use std::alloc::{AllocError, Global};
-use warehouse::{Plan, Priced};
+use warehouse::{AccessPath, Priced};
 
 /// The bytes of the ship mode of a cell, where the view groups by it.
 const MODE_BYTES: u64 = 2;
@@ -21,21 +21,21 @@ enum Column {
 
 /// All columns, in the order of the file.
 static WHOLE_ROW: [Column; 17] = [
-    Column::Figures(FactColumn::Amount(AmountColumn::OrderKey)),
-    Column::Figures(FactColumn::Number(NumberColumn::LineNumber)),
-    Column::Figures(FactColumn::Number(NumberColumn::CustKey)),
-    Column::Figures(FactColumn::Number(NumberColumn::PartKey)),
-    Column::Figures(FactColumn::Number(NumberColumn::SuppKey)),
-    Column::Figures(FactColumn::Number(NumberColumn::OrderDate)),
+    Column::Figures(FactColumn::OrderKey),
+    Column::Figures(FactColumn::LineNumber),
+    Column::Figures(FactColumn::CustKey),
+    Column::Figures(FactColumn::PartKey),
+    Column::Figures(FactColumn::SuppKey),
+    Column::Figures(FactColumn::OrderDate),
     Column::Texts(TextColumn::OrderPriority),
     Column::Texts(TextColumn::ShipPriority),
-    Column::Figures(FactColumn::Figure(ByteColumn::Quantity)),
-    Column::Figures(FactColumn::Amount(AmountColumn::ExtendedPrice)),
-    Column::Figures(FactColumn::Amount(AmountColumn::OrdTotalPrice)),
-    Column::Figures(FactColumn::Figure(ByteColumn::Discount)),
-    Column::Figures(FactColumn::Amount(AmountColumn::Revenue)),
-    Column::Figures(FactColumn::Amount(AmountColumn::SupplyCost)),
-    Column::Figures(FactColumn::Figure(ByteColumn::Tax)),
+    Column::Figures(FactColumn::Quantity),
+    Column::Figures(FactColumn::ExtendedPrice),
+    Column::Figures(FactColumn::OrdTotalPrice),
+    Column::Figures(FactColumn::Discount),
+    Column::Figures(FactColumn::Revenue),
+    Column::Figures(FactColumn::SupplyCost),
+    Column::Figures(FactColumn::Tax),
     Column::Texts(TextColumn::CommitDate),
     Column::Texts(TextColumn::ShipMode),
 ];
@@ -143,18 +143,18 @@ fn members(
 }
 
 // How many bytes the cells of a plan have each.
-fn cell_bytes(plan: Plan) -> u64 {
+fn cell_bytes(plan: AccessPath) -> u64 {
     match plan {
-        Plan::Cells { view, .. } if view.ship_mode => CELL_BYTES + MODE_BYTES,
-        Plan::Cells { .. } | Plan::Scan => CELL_BYTES,
+        AccessPath::Cells { view, .. } if view.ship_mode => CELL_BYTES + MODE_BYTES,
+        AccessPath::Cells { .. } | AccessPath::Scan => CELL_BYTES,
     }
 }
 
 /// After how many batches a plan reads fact rows.
-pub fn mark_of(plan: Plan) -> u32 {
+pub fn mark_of(plan: AccessPath) -> u32 {
     match plan {
-        Plan::Scan => 0,
-        Plan::Cells { mark, .. } => mark,
+        AccessPath::Scan => 0,
+        AccessPath::Cells { mark, .. } => mark,
     }
 }
 
@@ -196,9 +196,7 @@ fn row_bytes(columns: &[Column]) -> u64 {
 // How many bytes of a fact row are in a column.
 fn width(column: Column) -> u64 {
     match column {
-        Column::Figures(FactColumn::Amount(_)) => 8,
-        Column::Figures(FactColumn::Number(_)) => 4,
-        Column::Figures(FactColumn::Figure(_)) => 1,
+        Column::Figures(column) => column.width() as u64,
         Column::Texts(_) => 2,
     }
 }
@@ -217,18 +215,18 @@ fn name_of(column: Column) -> &'static str {
 // The name of a column of numbers.
 fn figures_name(column: FactColumn) -> &'static str {
     match column {
-        FactColumn::Amount(AmountColumn::OrderKey) => "orderkey",
-        FactColumn::Amount(AmountColumn::ExtendedPrice) => "extendedprice",
-        FactColumn::Amount(AmountColumn::OrdTotalPrice) => "ordtotalprice",
-        FactColumn::Amount(AmountColumn::Revenue) => "revenue",
-        FactColumn::Amount(AmountColumn::SupplyCost) => "supplycost",
-        FactColumn::Number(NumberColumn::LineNumber) => "linenumber",
-        FactColumn::Number(NumberColumn::CustKey) => "custkey",
-        FactColumn::Number(NumberColumn::PartKey) => "partkey",
-        FactColumn::Number(NumberColumn::SuppKey) => "suppkey",
-        FactColumn::Number(NumberColumn::OrderDate) => "orderdate",
-        FactColumn::Figure(ByteColumn::Quantity) => "quantity",
-        FactColumn::Figure(ByteColumn::Discount) => "discount",
-        FactColumn::Figure(ByteColumn::Tax) => "tax",
+        FactColumn::OrderKey => "orderkey",
+        FactColumn::ExtendedPrice => "extendedprice",
+        FactColumn::OrdTotalPrice => "ordtotalprice",
+        FactColumn::Revenue => "revenue",
+        FactColumn::SupplyCost => "supplycost",
+        FactColumn::LineNumber => "linenumber",
+        FactColumn::CustKey => "custkey",
+        FactColumn::PartKey => "partkey",
+        FactColumn::SuppKey => "suppkey",
+        FactColumn::OrderDate => "orderdate",
+        FactColumn::Quantity => "quantity",
+        FactColumn::Discount => "discount",
+        FactColumn::Tax => "tax",
     }
 }

@@ -25,13 +25,13 @@ use Rattle.cube_model.specs.Measures.{measure_of}
 use Rattle.cube_model.specs.Selection.{holds_of, is_selected, text_le}
 use Rattle.std.specs.Str.{bytes_eq}
 use Rattle.std.specs.Option.{unwrap_or}
-use Rattle.column_segment.specs.declared.columns.AmountColumn.TheVariants.{OrderKey, ExtendedPrice, OrdTotalPrice}
-use Rattle.column_segment.specs.declared.columns.AmountColumn.TheVariants.{Revenue, SupplyCost}
+use Rattle.column_segment.specs.declared.columns.FactColumn.TheVariants.{OrderKey, LineNumber, CustKey, PartKey}
+use Rattle.column_segment.specs.declared.columns.FactColumn.TheVariants.{SuppKey, OrderDate, ExtendedPrice}
+use Rattle.column_segment.specs.declared.columns.FactColumn.TheVariants.{OrdTotalPrice, Revenue, SupplyCost}
+use Rattle.column_segment.specs.declared.columns.FactColumn.TheVariants as facts
 use Rattle.column_segment.specs.declared.columns.FactColumn.{FactColumn}
-use Rattle.column_segment.specs.declared.columns.FactColumn.TheVariants.{Amount, Number, Figure}
-use Rattle.column_segment.specs.declared.columns.NumberColumn.TheVariants.{LineNumber, CustKey, PartKey, SuppKey}
-use Rattle.column_segment.specs.declared.columns.NumberColumn.TheVariants.{OrderDate}
-use Rattle.column_segment.specs.Projected.{AgreeOn, fact_value}
+use Rattle.column_segment.specs.Columns.{fact_value}
+use Rattle.column_segment.specs.Projected.{AgreeOn}
 use Rattle.cube_query.specs.Asked.{AreSame, SameIn, aggregate_asks, asked_columns, condition_asks, fact_columns}
 use Rattle.cube_query.specs.Asked.{has_keys_of, is_asked, is_made_of}
 use Rattle.cube_query.specs.Groups.{FoldState, RepresentsRows, Takes}
@@ -90,7 +90,6 @@ use Rattle.cube_query.proofs.CellSlotsLemmas.{cell_slots-length}
 use Rattle.cube_query.proofs.RowSlots.{HasSlot}
 use Rattle.cube_query.proofs.Wanted.{leaves_none, slots_for, slots_for-length, wanted_slot, with_wanted}
 use Rattle.cube_model.specs.declared.measure.Measure.TheVariants as measures
-use Rattle.column_segment.specs.declared.columns.ByteColumn.TheVariants as figures
 use Rattle.dimensions.specs.Shown.{AreStorable}
 use Rattle.cuboid_upkeep.proofs.LawsLemmas.{one_group}
 
@@ -110,24 +109,24 @@ or_right false b is = is
 
 pub key_same : (axis : Axis) (row other : LineOrder) → SameIn (has_keys_of axis) row other
     → key_on axis row ≡ key_on axis other
-key_same Customer row other same = same (Number CustKey) refl
-key_same Supplier row other same = same (Number SuppKey) refl
-key_same Part row other same = same (Number PartKey) refl
-key_same Date row other same = same (Number OrderDate) refl
+key_same Customer row other same = same CustKey refl
+key_same Supplier row other same = same SuppKey refl
+key_same Part row other same = same PartKey refl
+key_same Date row other same = same OrderDate refl
 
 measure_same : (measure : Measure) (row other : LineOrder) → SameIn (is_made_of measure) row other
     → measure_of measure row ≡ measure_of measure other
-measure_same measures.Quantity row other same = ap pos (same (Figure figures.Quantity) refl)
-measure_same measures.ExtendedPrice row other same = ap pos (same (Amount ExtendedPrice) refl)
-measure_same measures.Revenue row other same = ap pos (same (Amount Revenue) refl)
-measure_same measures.SupplyCost row other same = ap pos (same (Amount SupplyCost) refl)
+measure_same measures.Quantity row other same = ap pos (same facts.Quantity refl)
+measure_same measures.ExtendedPrice row other same = ap pos (same ExtendedPrice refl)
+measure_same measures.Revenue row other same = ap pos (same Revenue refl)
+measure_same measures.SupplyCost row other same = ap pos (same SupplyCost refl)
 measure_same measures.Discounted row other same =
-    let price = same (Amount ExtendedPrice) refl in
-    let discount = same (Figure figures.Discount) refl in
+    let price = same ExtendedPrice refl in
+    let discount = same facts.Discount refl in
     λ i. pos (price i * discount i)
 measure_same measures.Profit row other same =
-    let revenue = same (Amount Revenue) refl in
-    let cost = same (Amount SupplyCost) refl in
+    let revenue = same Revenue refl in
+    let cost = same SupplyCost refl in
     λ i. pos (revenue i) -ℤ pos (cost i)
 
 pub number_same : (agg : Agg) (row other : LineOrder) → SameIn (λ column. aggregate_asks column agg) row other
@@ -152,9 +151,9 @@ module _ (dimensions : DimRows) where
   condition_same (Between attr low high) row other same =
       ap (λ (own : List ℕ). text_le low own && text_le own high) (attribute_same attr row other same)
   condition_same (Quantity low high) row other same =
-      ap (λ (own : ℕ). nat_le low own && nat_le own high) (same (Figure figures.Quantity) refl)
+      ap (λ (own : ℕ). nat_le low own && nat_le own high) (same facts.Quantity refl)
   condition_same (Discount low high) row other same =
-      ap (λ (own : ℕ). nat_le low own && nat_le own high) (same (Figure figures.Discount) refl)
+      ap (λ (own : ℕ). nat_le low own && nat_le own high) (same facts.Discount refl)
 
   selected_same : (conditions : List Cond) (row other : LineOrder)
       → SameIn (λ column. list_any (condition_asks column) conditions) row other
@@ -287,19 +286,19 @@ module _ (dimensions : DimRows) (query : Query) where
       by rest false is found = ((λ yes. let no : true ≡ false = sym yes ∙ is in absurd cc), rest found)
 
   each_column : (P : FactColumn → Type 0) → AllByRecursion P fact_columns → (column : FactColumn) → P column
-  each_column P all (Amount OrderKey) = all.0
-  each_column P all (Number LineNumber) = all.1.0
-  each_column P all (Number CustKey) = all.1.1.0
-  each_column P all (Number PartKey) = all.1.1.1.0
-  each_column P all (Number SuppKey) = all.1.1.1.1.0
-  each_column P all (Number OrderDate) = all.1.1.1.1.1.0
-  each_column P all (Figure figures.Quantity) = all.1.1.1.1.1.1.0
-  each_column P all (Amount ExtendedPrice) = all.1.1.1.1.1.1.1.0
-  each_column P all (Amount OrdTotalPrice) = all.1.1.1.1.1.1.1.1.0
-  each_column P all (Figure figures.Discount) = all.1.1.1.1.1.1.1.1.1.0
-  each_column P all (Amount Revenue) = all.1.1.1.1.1.1.1.1.1.1.0
-  each_column P all (Amount SupplyCost) = all.1.1.1.1.1.1.1.1.1.1.1.0
-  each_column P all (Figure figures.Tax) = all.1.1.1.1.1.1.1.1.1.1.1.1.0
+  each_column P all OrderKey = all.0
+  each_column P all LineNumber = all.1.0
+  each_column P all CustKey = all.1.1.0
+  each_column P all PartKey = all.1.1.1.0
+  each_column P all SuppKey = all.1.1.1.1.0
+  each_column P all OrderDate = all.1.1.1.1.1.0
+  each_column P all facts.Quantity = all.1.1.1.1.1.1.0
+  each_column P all ExtendedPrice = all.1.1.1.1.1.1.1.0
+  each_column P all OrdTotalPrice = all.1.1.1.1.1.1.1.1.0
+  each_column P all facts.Discount = all.1.1.1.1.1.1.1.1.1.0
+  each_column P all Revenue = all.1.1.1.1.1.1.1.1.1.1.0
+  each_column P all SupplyCost = all.1.1.1.1.1.1.1.1.1.1.1.0
+  each_column P all facts.Tax = all.1.1.1.1.1.1.1.1.1.1.1.1.0
 
   row_by_row : (rows others : List LineOrder) → length rows ≡ length others
       → ((column : FactColumn) → is_asked query column ≡ true

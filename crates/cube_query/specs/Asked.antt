@@ -12,33 +12,31 @@ use Rattle.cube_model.specs.declared.query.Cond.TheVariants.{OneOf, Between, Qua
 use Rattle.cube_model.specs.declared.query.Query.{Query}
 use Rattle.cube_model.specs.declared.rows.LineOrder.{LineOrder}
 use Rattle.cube_model.specs.Attributes.{axis_of}
-use Rattle.column_segment.specs.declared.columns.AmountColumn.TheVariants.{OrderKey, ExtendedPrice, OrdTotalPrice}
-use Rattle.column_segment.specs.declared.columns.AmountColumn.TheVariants.{Revenue, SupplyCost}
-use Rattle.column_segment.specs.declared.columns.ByteColumn.TheVariants as figures
+use Rattle.column_segment.specs.declared.columns.FactColumn.TheVariants.{OrderKey, LineNumber, CustKey, PartKey}
+use Rattle.column_segment.specs.declared.columns.FactColumn.TheVariants.{SuppKey, OrderDate, ExtendedPrice}
+use Rattle.column_segment.specs.declared.columns.FactColumn.TheVariants.{OrdTotalPrice, Revenue, SupplyCost}
+use Rattle.column_segment.specs.declared.columns.FactColumn.TheVariants as facts
 use Rattle.column_segment.specs.declared.columns.FactColumn.{FactColumn}
-use Rattle.column_segment.specs.declared.columns.FactColumn.TheVariants.{Amount, Number, Figure}
-use Rattle.column_segment.specs.declared.columns.NumberColumn.TheVariants.{LineNumber, CustKey, PartKey, SuppKey}
-use Rattle.column_segment.specs.declared.columns.NumberColumn.TheVariants.{OrderDate}
-use Rattle.column_segment.specs.Projected.{fact_value}
+use Rattle.column_segment.specs.Columns.{fact_value}
 
 -- a column has the keys of a dimension
 abbrev pub has_keys_of : Axis → FactColumn → Bool
-has_keys_of Customer (Number CustKey) = true
-has_keys_of Supplier (Number SuppKey) = true
-has_keys_of Part (Number PartKey) = true
-has_keys_of Date (Number OrderDate) = true
+has_keys_of Customer CustKey = true
+has_keys_of Supplier SuppKey = true
+has_keys_of Part PartKey = true
+has_keys_of Date OrderDate = true
 has_keys_of _ _ = false
 
 -- a measure is made of what a column has
 abbrev pub is_made_of : Measure → FactColumn → Bool
-is_made_of measures.Quantity (Figure figures.Quantity) = true
-is_made_of measures.ExtendedPrice (Amount ExtendedPrice) = true
-is_made_of measures.Revenue (Amount Revenue) = true
-is_made_of measures.SupplyCost (Amount SupplyCost) = true
-is_made_of measures.Discounted (Amount ExtendedPrice) = true
-is_made_of measures.Discounted (Figure figures.Discount) = true
-is_made_of measures.Profit (Amount Revenue) = true
-is_made_of measures.Profit (Amount SupplyCost) = true
+is_made_of measures.Quantity facts.Quantity = true
+is_made_of measures.ExtendedPrice ExtendedPrice = true
+is_made_of measures.Revenue Revenue = true
+is_made_of measures.SupplyCost SupplyCost = true
+is_made_of measures.Discounted ExtendedPrice = true
+is_made_of measures.Discounted facts.Discount = true
+is_made_of measures.Profit Revenue = true
+is_made_of measures.Profit SupplyCost = true
 is_made_of _ _ = false
 
 -- a condition looks at a column
@@ -46,7 +44,7 @@ abbrev pub condition_asks : FactColumn → Cond → Bool
 condition_asks column (OneOf attr texts) = has_keys_of (axis_of attr) column
 condition_asks column (Between attr low high) = has_keys_of (axis_of attr) column
 condition_asks column (Quantity low high) = is_made_of measures.Quantity column
-condition_asks (Figure figures.Discount) (Discount low high) = true
+condition_asks facts.Discount (Discount low high) = true
 condition_asks column (Discount low high) = false
 
 -- an aggregate looks at it
@@ -64,10 +62,10 @@ is_asked query column = list_any (λ attr. has_keys_of (axis_of attr) column) qu
 
 -- the columns of numbers of fact rows, in the order of their places
 abbrev pub fact_columns : List FactColumn
-fact_columns = Amount OrderKey ∷ Number LineNumber ∷ Number CustKey ∷ Number PartKey ∷ Number SuppKey ∷ Number OrderDate
-    ∷ Figure figures.Quantity
-    ∷ Amount ExtendedPrice ∷ Amount OrdTotalPrice ∷ Figure figures.Discount ∷ Amount Revenue ∷ Amount SupplyCost
-    ∷ Figure figures.Tax ∷ []
+fact_columns = OrderKey ∷ LineNumber ∷ CustKey ∷ PartKey ∷ SuppKey ∷ OrderDate
+    ∷ facts.Quantity
+    ∷ ExtendedPrice ∷ OrdTotalPrice ∷ facts.Discount ∷ Revenue ∷ SupplyCost
+    ∷ facts.Tax ∷ []
 
 -- those at which a query looks
 abbrev pub asked_columns : Query → List FactColumn

@@ -5,24 +5,24 @@ ghost use Rattle.cube_model.specs.Attributes.{axis_of};
 ghost use Rattle.cube_query.specs.Asked.{aggregate_asks, asked_columns, condition_asks, has_keys_of, is_asked};
 ghost use Rattle.cube_query.specs.Asked.{is_made_of};
 
-use column_segment::{AmountColumn, ByteColumn, FactColumn, NumberColumn};
+use column_segment::FactColumn;
 use cube_model::{Agg, Attr, Axis, Cond, Measure, Query};
 use std::alloc::{AllocError, Global};
 
 const FACT_COLUMNS: [FactColumn; 13] = [
-    FactColumn::Amount(AmountColumn::OrderKey),
-    FactColumn::Number(NumberColumn::LineNumber),
-    FactColumn::Number(NumberColumn::CustKey),
-    FactColumn::Number(NumberColumn::PartKey),
-    FactColumn::Number(NumberColumn::SuppKey),
-    FactColumn::Number(NumberColumn::OrderDate),
-    FactColumn::Figure(ByteColumn::Quantity),
-    FactColumn::Amount(AmountColumn::ExtendedPrice),
-    FactColumn::Amount(AmountColumn::OrdTotalPrice),
-    FactColumn::Figure(ByteColumn::Discount),
-    FactColumn::Amount(AmountColumn::Revenue),
-    FactColumn::Amount(AmountColumn::SupplyCost),
-    FactColumn::Figure(ByteColumn::Tax),
+    FactColumn::OrderKey,
+    FactColumn::LineNumber,
+    FactColumn::CustKey,
+    FactColumn::PartKey,
+    FactColumn::SuppKey,
+    FactColumn::OrderDate,
+    FactColumn::Quantity,
+    FactColumn::ExtendedPrice,
+    FactColumn::OrdTotalPrice,
+    FactColumn::Discount,
+    FactColumn::Revenue,
+    FactColumn::SupplyCost,
+    FactColumn::Tax,
 ];
 
 /// The columns at which a query looks, in the order of their places.
@@ -86,7 +86,7 @@ fn condition_asks(condition: &Cond, column: FactColumn) -> bool
     match condition {
         Cond::OneOf(attr, _) | Cond::Between(attr, _, _) => has_keys_of(attr.axis(), column),
         Cond::Quantity(_, _) => is_made_of(Measure::Quantity, column),
-        Cond::Discount(_, _) => matches!(column, FactColumn::Figure(ByteColumn::Discount)),
+        Cond::Discount(_, _) => matches!(column, FactColumn::Discount),
     }
 }
 
@@ -108,10 +108,10 @@ fn has_keys_of(axis: Axis, column: FactColumn) -> bool
 {
     matches!(
         (axis, column),
-        (Axis::Customer, FactColumn::Number(NumberColumn::CustKey))
-            | (Axis::Supplier, FactColumn::Number(NumberColumn::SuppKey))
-            | (Axis::Part, FactColumn::Number(NumberColumn::PartKey))
-            | (Axis::Date, FactColumn::Number(NumberColumn::OrderDate))
+        (Axis::Customer, FactColumn::CustKey)
+            | (Axis::Supplier, FactColumn::SuppKey)
+            | (Axis::Part, FactColumn::PartKey)
+            | (Axis::Date, FactColumn::OrderDate)
     )
 }
 
@@ -120,18 +120,11 @@ fn is_made_of(measure: Measure, column: FactColumn) -> bool
     ensures { result ≡ is_made_of measure column }
 {
     match measure {
-        Measure::Quantity => matches!(column, FactColumn::Figure(ByteColumn::Quantity)),
-        Measure::ExtendedPrice => matches!(column, FactColumn::Amount(AmountColumn::ExtendedPrice)),
-        Measure::Revenue => matches!(column, FactColumn::Amount(AmountColumn::Revenue)),
-        Measure::SupplyCost => matches!(column, FactColumn::Amount(AmountColumn::SupplyCost)),
-        Measure::Discounted => matches!(
-            column,
-            FactColumn::Amount(AmountColumn::ExtendedPrice)
-                | FactColumn::Figure(ByteColumn::Discount)
-        ),
-        Measure::Profit => matches!(
-            column,
-            FactColumn::Amount(AmountColumn::Revenue) | FactColumn::Amount(AmountColumn::SupplyCost)
-        ),
+        Measure::Quantity => matches!(column, FactColumn::Quantity),
+        Measure::ExtendedPrice => matches!(column, FactColumn::ExtendedPrice),
+        Measure::Revenue => matches!(column, FactColumn::Revenue),
+        Measure::SupplyCost => matches!(column, FactColumn::SupplyCost),
+        Measure::Discounted => matches!(column, FactColumn::ExtendedPrice | FactColumn::Discount),
+        Measure::Profit => matches!(column, FactColumn::Revenue | FactColumn::SupplyCost),
     }
 }

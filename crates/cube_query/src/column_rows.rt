@@ -5,7 +5,7 @@ ghost use Rattle.cube_model.specs.declared.rows.LineOrder.{LineOrder};
 ghost use Rattle.cube_model.specs.Attributes.{key_on};
 ghost use Rattle.group_numbers.specs.Rows.{row_at};
 
-use column_segment::{AmountColumn, ByteColumn, FactColumns, NumberColumn};
+use column_segment::{Column, FactColumns};
 use cube_model::{Axis, Measure};
 use group_numbers::FactRows;
 use std::marker::Model;
@@ -44,15 +44,15 @@ impl<'a> ColumnRows<'a> {
     pub fn of(columns: FactColumns<'a>) -> ColumnRows<'a>
         ensures { result ≡ columns.entry }
     {
-        let customers = columns.numbers(NumberColumn::CustKey);
-        let suppliers = columns.numbers(NumberColumn::SuppKey);
-        let parts = columns.numbers(NumberColumn::PartKey);
-        let dates = columns.numbers(NumberColumn::OrderDate);
-        let quantities = columns.figures(ByteColumn::Quantity);
-        let discounts = columns.figures(ByteColumn::Discount);
-        let prices = columns.amounts(AmountColumn::ExtendedPrice);
-        let revenues = columns.amounts(AmountColumn::Revenue);
-        let costs = columns.amounts(AmountColumn::SupplyCost);
+        let customers = columns.numbers(Column::CUST_KEY);
+        let suppliers = columns.numbers(Column::SUPP_KEY);
+        let parts = columns.numbers(Column::PART_KEY);
+        let dates = columns.numbers(Column::ORDER_DATE);
+        let quantities = columns.figures(Column::QUANTITY);
+        let discounts = columns.figures(Column::DISCOUNT);
+        let prices = columns.amounts(Column::EXTENDED_PRICE);
+        let revenues = columns.amounts(Column::REVENUE);
+        let costs = columns.amounts(Column::SUPPLY_COST);
         ColumnRows {
             columns,
             customers,

@@ -8,8 +8,8 @@ use Rattle.cube_model.specs.declared.rows.DimRows.{DimRows}
 use Rattle.lattice.specs.declared.view.View.{View}
 use Rattle.lattice.specs.Views.{index_of}
 use Rattle.object_store.specs.Content.{Content}
-use Rattle.planner.specs.declared.price.Plan.{Plan}
-use Rattle.planner.specs.declared.price.Plan.TheVariants.{Scan, Cells}
+use Rattle.planner.specs.declared.price.AccessPath.{AccessPath}
+use Rattle.planner.specs.declared.price.AccessPath.TheVariants.{Scan, Cells}
 use Rattle.planner.specs.declared.stored.Stored.{Stored}
 use Rattle.warehouse_root.specs.declared.cuboid.StoredCuboid.{StoredCuboid}
 use Rattle.warehouse_objects.specs.Represents.{AreItsMembers, Represents, said_of}
@@ -38,7 +38,7 @@ seen_at (c ∷ cs) one (suc k) h is = let rest = seen_at cs one k (omega (arith,
     (rest.0, rest.1, rest.2, omega (arith, rest.3))
 
 -- the cells of a plan are those of a cuboid
-pub of_cuboid : (c : Content) (w : Warehouse) (as_of : ℕ) (query : Query) (plan : Plan) → Represents c w
+pub of_cuboid : (c : Content) (w : Warehouse) (as_of : ℕ) (query : Query) (plan : AccessPath) → Represents c w
     → IsPlanOf w as_of query plan → IsOfCuboid w plan
 of_cuboid c w as_of query Scan represents is = tt
 of_cuboid c w as_of query (Cells view mark) represents is =

@@ -9,8 +9,8 @@ use Rattle.lattice.specs.Views.{index_of}
 use Rattle.mode_queries.specs.declared.query.ModeQuery.{ModeQuery}
 use Rattle.mode_queries.specs.Lawful.{without_modes}
 use Rattle.object_store.specs.Content.{Content}
-use Rattle.planner.specs.declared.price.Plan.{Plan}
-use Rattle.planner.specs.declared.price.Plan.TheVariants.{Scan, Cells}
+use Rattle.planner.specs.declared.price.AccessPath.{AccessPath}
+use Rattle.planner.specs.declared.price.AccessPath.TheVariants.{Scan, Cells}
 use Rattle.planner.specs.declared.price.Priced.{Priced}
 use Rattle.planner.specs.declared.stored.Stored.{Stored}
 use Rattle.planner.specs.Listed.{HasCheapestFirst}
@@ -38,7 +38,7 @@ has_modes asked stored one kept =
     (filter_passes (λ one. has_modes_for asked one.view) stored) kept
 
 -- so a plan over what is kept has what the query asks for
-pub serves_by_modes : (asked : ModeQuery) (stored : List Stored) (rows : List ℕ) (as_of : ℕ) (plan : Plan)
+pub serves_by_modes : (asked : ModeQuery) (stored : List Stored) (rows : List ℕ) (as_of : ℕ) (plan : AccessPath)
     → IsPlan asked.query (stored_for asked stored) rows as_of plan → ServesByModes asked plan
 serves_by_modes asked stored rows as_of Scan is = (tt, tt)
 serves_by_modes asked stored rows as_of (Cells view mark) is =
@@ -48,7 +48,7 @@ serves_by_modes asked stored rows as_of (Cells view mark) is =
     )
 
 -- the cells of a plan are those of a cuboid
-pub of_cuboid : (c : Content) (w : Warehouse) (as_of : ℕ) (asked : ModeQuery) (plan : Plan) → Represents c w
+pub of_cuboid : (c : Content) (w : Warehouse) (as_of : ℕ) (asked : ModeQuery) (plan : AccessPath) → Represents c w
     → IsPlanByModes w as_of asked plan → IsOfCuboid w plan
 of_cuboid c w as_of asked Scan represents is = tt
 of_cuboid c w as_of asked (Cells view mark) represents is =

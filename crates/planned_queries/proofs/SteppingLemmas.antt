@@ -10,7 +10,7 @@ use Rattle.cube_model.specs.Admission.{all_rows}
 use Rattle.cube_model.specs.Answers.{answer}
 use Rattle.cube_query.specs.Groups.{FoldState, IsFoldable, RepresentsRows}
 use Rattle.group_tallies.specs.Limits.{AreFoldable}
-use Rattle.planner.specs.declared.price.Plan.{Plan}
+use Rattle.planner.specs.declared.price.AccessPath.{AccessPath}
 use Rattle.warehouse_objects.specs.Warehouse.{AreInOrder, Warehouse}
 use Rattle.warehouse_objects.proofs.CallerLemmas.{foldable}
 use Rattle.planned_queries.specs.Planned.{IsPlanOf, mark_of}
@@ -18,7 +18,7 @@ use Rattle.planned_queries.specs.Stepping.{Advances, Extends, IsRunning, Running
 
 -- a query that begins with the cells of its plan
 pub begun : (w : Warehouse) (as_of : ℕ) (query : Query) (running : RunningState)
-    → (plan : Plan) × IsPlanOf w as_of query plan × (running.done ≡ mark_of plan)
+    → (plan : AccessPath) × IsPlanOf w as_of query plan × (running.done ≡ mark_of plan)
     × RepresentsRows w.rows running.fold (all_rows (take running.done w.batches))
     → running.rows ≡ w.rows → running.fold.query ≡ query → running.as_of ≡ as_of → running.done ≤ as_of
     → as_of ≤ length w.batches → AreInOrder w.rows w.batches

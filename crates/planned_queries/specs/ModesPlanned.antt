@@ -4,8 +4,8 @@ use Rattle.std.specs.Prelude.{◌≡◌, ◌↔◌, ℕ, ◌||◌, nat_lt, Bool,
 use Rattle.std.specs.List.{Contains, filter}
 use Rattle.lattice.specs.declared.view.View.{View}
 use Rattle.mode_queries.specs.declared.query.ModeQuery.{ModeQuery}
-use Rattle.planner.specs.declared.price.Plan.{Plan}
-use Rattle.planner.specs.declared.price.Plan.TheVariants.{Scan, Cells}
+use Rattle.planner.specs.declared.price.AccessPath.{AccessPath}
+use Rattle.planner.specs.declared.price.AccessPath.TheVariants.{Scan, Cells}
 use Rattle.planner.specs.declared.price.Priced.{Priced}
 use Rattle.planner.specs.declared.stored.Stored.{Stored}
 use Rattle.planner.specs.Listed.{HasCheapestFirst}
@@ -26,7 +26,7 @@ abbrev pub stored_for : ModeQuery → List Stored → List Stored
 stored_for asked stored = filter (λ one. has_modes_for asked one.view) stored
 
 -- the plan of a query over the first batches of a warehouse: the one that reads least
-abbrev pub IsPlanByModes : Warehouse → ℕ → ModeQuery → Plan → Type 0
+abbrev pub IsPlanByModes : Warehouse → ℕ → ModeQuery → AccessPath → Type 0
 IsPlanByModes w as_of asked plan = IsPlan asked.query (stored_for asked (stored_of w)) (map length w.batches) as_of plan
 
 -- every plan that answers a query over the first batches of a warehouse, each with what it reads, the one to be taken
@@ -37,10 +37,10 @@ pub record ArePlansByModes (w : Warehouse) (as_of : ℕ) (asked : ModeQuery) (pl
   pub first : HasCheapestFirst asked.query (stored_for asked (stored_of w)) (map length w.batches) as_of plans
 
 -- the cells of a plan have the ship modes that a query looks at; a scan has those of its fact rows
-abbrev pub HasModesFor : ModeQuery → Plan → Type 0
+abbrev pub HasModesFor : ModeQuery → AccessPath → Type 0
 HasModesFor asked Scan = Unit {0}
 HasModesFor asked (Cells view mark) = has_modes_for asked view ≡ true
 
 -- the view of a plan has what a query asks for, and the ship modes that it looks at
-abbrev pub ServesByModes : ModeQuery → Plan → Type 0
+abbrev pub ServesByModes : ModeQuery → AccessPath → Type 0
 ServesByModes asked plan = ServesBy asked.query plan × HasModesFor asked plan

@@ -4,8 +4,8 @@ use Rattle.std.specs.List.{Contains}
 use Rattle.cube_model.specs.declared.query.Query.{Query}
 use Rattle.lattice.specs.Determined.{Serves}
 use Rattle.lattice.specs.Views.{index_of}
-use Rattle.planner.specs.declared.price.Plan.{Plan}
-use Rattle.planner.specs.declared.price.Plan.TheVariants.{Scan, Cells}
+use Rattle.planner.specs.declared.price.AccessPath.{AccessPath}
+use Rattle.planner.specs.declared.price.AccessPath.TheVariants.{Scan, Cells}
 use Rattle.planner.specs.declared.price.Priced.{Priced}
 use Rattle.planner.specs.declared.stored.Stored.{Stored}
 use Rattle.planner.specs.Listed.{HasCheapestFirst}
@@ -21,7 +21,7 @@ abbrev pub stored_of : Warehouse → List Stored
 stored_of w = map seen_of w.cuboids
 
 -- the plan of a query over the first batches of a warehouse
-abbrev pub IsPlanOf : Warehouse → ℕ → Query → Plan → Type 0
+abbrev pub IsPlanOf : Warehouse → ℕ → Query → AccessPath → Type 0
 IsPlanOf w as_of query plan = IsPlan query (stored_of w) (map length w.batches) as_of plan
 
 -- every plan that answers a query over the first batches of a warehouse, each with what it reads, the one to be taken
@@ -32,17 +32,17 @@ pub record ArePlansOf (w : Warehouse) (as_of : ℕ) (query : Query) (plans : Lis
   pub first : HasCheapestFirst query (stored_of w) (map length w.batches) as_of plans
 
 -- how many of the first batches the cells of a plan hold
-abbrev pub mark_of : Plan → ℕ
+abbrev pub mark_of : AccessPath → ℕ
 mark_of Scan = 0
 mark_of (Cells view mark) = mark
 
 -- the view of a plan has what a query asks for
-abbrev pub ServesBy : Query → Plan → Type 0
+abbrev pub ServesBy : Query → AccessPath → Type 0
 ServesBy query Scan = Unit {0}
 ServesBy query (Cells view mark) = Serves view query
 
 -- the cells of a plan are those of a stored cuboid of a warehouse
-abbrev pub IsOfCuboid : Warehouse → Plan → Type 0
+abbrev pub IsOfCuboid : Warehouse → AccessPath → Type 0
 IsOfCuboid w Scan = Unit {0}
 IsOfCuboid w (Cells view mark) = (cuboid : Cuboid) × (cuboid_at (index_of view) w.cuboids ≡ Some cuboid)
     × (cuboid.mark ≡ mark)

@@ -7,7 +7,7 @@ use Rattle.cube_model.specs.declared.rows.LineOrder.{LineOrder}
 use Rattle.cube_model.specs.Admission.{all_rows}
 use Rattle.cube_model.specs.Answers.{answer_as_of}
 use Rattle.cube_query.specs.Groups.{FoldState, RepresentsRows}
-use Rattle.planner.specs.declared.price.Plan.{Plan}
+use Rattle.planner.specs.declared.price.AccessPath.{AccessPath}
 use Rattle.warehouse_objects.specs.Warehouse.{AreInOrder, Warehouse}
 use Rattle.planned_queries.specs.Planned.{IsPlanOf, mark_of}
 
@@ -29,7 +29,7 @@ pub record Started : Type 0 where
 
 -- a query starts on a warehouse: a step for each batch after those that its plan's cells hold
 abbrev pub Starts : Warehouse → ℕ → Query → Started → Type 0
-Starts w as_of query s = (plan : Plan) × IsPlanOf w as_of query plan
+Starts w as_of query s = (plan : AccessPath) × IsPlanOf w as_of query plan
     × (s ≡ record { query = query; as_of = as_of; rows = w.rows; batches = w.batches; left = as_of - mark_of plan })
 
 -- the same with so many steps left

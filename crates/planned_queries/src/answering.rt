@@ -1,14 +1,12 @@
 //! Answers by plans.
-ghost use Rattle.std.specs.Prelude.{◌≡◌, ◌⊎◌, ◌≤◌, false, length, take, IfErr, IfOk, IsErrOf, OnOk};
-ghost use Rattle.cube_model.specs.declared.fault.Fault.TheVariants.{BadLayout, Device, Memory};
+ghost use Rattle.std.specs.Prelude.{◌≡◌, ◌≤◌, false, length, take, IfErr, IfOk, IsErrOf, OnOk};
+ghost use Rattle.cube_model.specs.declared.fault.Fault.TheVariants.{BadLayout};
 ghost use Rattle.cube_model.specs.Admission.{all_rows};
 ghost use Rattle.cube_model.specs.Answers.{answer};
 ghost use Rattle.cube_query.specs.Groups.{Begins, IsOver, RepresentsRows};
-ghost use Rattle.object_store.specs.Store.{content_of, device_of, has_failed};
-ghost use Rattle.warehouse_objects.specs.Warehouse.{Warehouse};
-ghost use Rattle.warehouse_objects.specs.Reads.{HoldsNoWarehouse, ReadsOnly};
-ghost use Rattle.warehouse_objects.specs.Represents.{AreItsMembers, Represents, root_of};
-ghost use Rattle.planner.specs.declared.price.Plan.{Plan};
+ghost use Rattle.object_store.specs.Store.{has_failed};
+ghost use Rattle.warehouse_objects.specs.Reads.{EndsReading, ForHeldWith, HoldsNoWarehouse, ReadsOnly};
+ghost use Rattle.planner.specs.declared.price.AccessPath.{AccessPath};
 ghost use Rattle.planned_queries.specs.Planned.{IsPlanOf, mark_of};
 
 use crate::following::begin_by_plan;
@@ -41,16 +39,15 @@ pub fn groups_by_plan<D: Sectors>(
     requires few { as_of ≤ length root.now.batches }
 
     // The answer is the definition's over the rows of these batches.
-    ensures answer { IfOk result (λ found. D.keeps_word (device_of store.new) → (w : Warehouse)
-        → Represents (content_of D.Sectors store.old) w
-        → root.now ≡ root_of w → AreItsMembers w dims.now.value modes.now
-        → found ≡ answer query.now dims.now.value (all_rows (take as_of w.batches))) }
+    ensures answer { IfOk result
+        (λ found. ForHeldWith D.Sectors store.old store.new root.now dims.now.value modes.now
+        (λ w. found ≡ answer query.now dims.now.value (all_rows (take as_of w.batches)))) }
     ensures refused { IsErrOf result BadLayout
         → HoldsNoWarehouse D.Sectors store.old store.new root.now dims.now.value modes.now }
 
     // The content stays, at each moment.
     ensures reads { ReadsOnly D.Sectors store.old store.new result }
-    ensures causes { IfErr result (λ fault. (fault ≡ Memory) ⊎ ((fault ≡ Device) ⊎ (fault ≡ BadLayout))) }
+    ensures causes { IfErr result EndsReading }
 {
     let rows: &Dims = dims;
     let mut fold = Fold::new(alloc, rows, query)?;
@@ -73,16 +70,15 @@ fn fold_by_plan<D: Sectors>(
     requires fine { has_failed store.old ≡ false }
     requires begins { Begins dims.now query.now fold.old }
     requires few { as_of ≤ length root.now.batches }
-    ensures ok { OnOk result (D.keeps_word (device_of store.new) → (w : Warehouse)
-        → Represents (content_of D.Sectors store.old) w
-        → root.now ≡ root_of w → AreItsMembers w dims.now modes.now
-        → RepresentsRows dims.now fold.new (all_rows (take as_of w.batches))) }
+    ensures ok { OnOk result
+        (ForHeldWith D.Sectors store.old store.new root.now dims.now modes.now
+        (λ w. RepresentsRows dims.now fold.new (all_rows (take as_of w.batches)))) }
     ensures over { IsOver dims.now fold.new }
     ensures query { fold.new.query ≡ query.now }
     ensures refused { IsErrOf result BadLayout
         → HoldsNoWarehouse D.Sectors store.old store.new root.now dims.now modes.now }
     ensures reads { ReadsOnly D.Sectors store.old store.new result }
-    ensures causes { IfErr result (λ fault. (fault ≡ Memory) ⊎ ((fault ≡ Device) ⊎ (fault ≡ BadLayout))) }
+    ensures causes { IfErr result EndsReading }
 {
     let from = begin_fold(alloc, store, root, dims, modes, fold, as_of, query)?;
     fold_batches(alloc, store, root, dims, fold, from, as_of)?;
@@ -104,18 +100,17 @@ pub(crate) fn begin_fold<D: Sectors>(
     requires fine { has_failed store.old ≡ false }
     requires begins { Begins dims.now query.now fold.old }
     requires few { as_of ≤ length root.now.batches }
-    ensures begun { IfOk result (λ done. D.keeps_word (device_of store.new) → (w : Warehouse)
-        → Represents (content_of D.Sectors store.old) w
-        → root.now ≡ root_of w → AreItsMembers w dims.now modes.now → (plan : Plan) × IsPlanOf w as_of query.now plan
-        × (done ≡ mark_of plan)
-        × RepresentsRows dims.now fold.new (all_rows (take done w.batches))) }
+    ensures begun { IfOk result
+        (λ done. ForHeldWith D.Sectors store.old store.new root.now dims.now modes.now
+        (λ w. (plan : AccessPath) × IsPlanOf w as_of query.now plan × (done ≡ mark_of plan)
+        × RepresentsRows dims.now fold.new (all_rows (take done w.batches)))) }
     ensures in_time { IfOk result (λ done. done ≤ as_of) }
     ensures over { IsOver dims.now fold.new }
     ensures query { fold.new.query ≡ query.now }
     ensures refused { IsErrOf result BadLayout
         → HoldsNoWarehouse D.Sectors store.old store.new root.now dims.now modes.now }
     ensures reads { ReadsOnly D.Sectors store.old store.new result }
-    ensures causes { IfErr result (λ fault. (fault ≡ Memory) ⊎ ((fault ≡ Device) ⊎ (fault ≡ BadLayout))) }
+    ensures causes { IfErr result EndsReading }
 {
     let plan = plan_of(alloc, root, as_of, query)?;
     let done = begin_by_plan(alloc, store, root, dims, modes, fold, plan)?;

@@ -1,15 +1,13 @@
 //! A fold that begins with the cells of a plan.
-ghost use Rattle.std.specs.Prelude.{◌≡◌, ◌⊎◌, ◌==◌, [], false, take, IfErr, IfOk, IsErrOf, OnOk};
+ghost use Rattle.std.specs.Prelude.{◌≡◌, ◌==◌, [], false, take, IfErr, IfOk, IsErrOf, OnOk};
 ghost use Rattle.std.specs.List.{find};
-ghost use Rattle.cube_model.specs.declared.fault.Fault.TheVariants.{BadLayout, Device, Memory};
+ghost use Rattle.cube_model.specs.declared.fault.Fault.TheVariants.{BadLayout};
 ghost use Rattle.cube_model.specs.Admission.{all_rows};
 ghost use Rattle.cube_query.specs.Groups.{IsOver, RepresentsRows};
 ghost use Rattle.lattice.specs.Determined.{Serves};
-ghost use Rattle.object_store.specs.Store.{content_of, device_of, has_failed};
-ghost use Rattle.planner.specs.declared.price.Plan.TheVariants as plans;
-ghost use Rattle.warehouse_objects.specs.Warehouse.{Warehouse};
-ghost use Rattle.warehouse_objects.specs.Reads.{ReadsOnly};
-ghost use Rattle.warehouse_objects.specs.Represents.{AreItsMembers, Represents, root_of};
+ghost use Rattle.object_store.specs.Store.{has_failed};
+ghost use Rattle.planner.specs.declared.price.AccessPath.TheVariants as plans;
+ghost use Rattle.warehouse_objects.specs.Reads.{EndsReading, ForHeldWith, ReadsOnly};
 ghost use Rattle.planned_queries.specs.Planned.{IsOfCuboid, ServesBy, mark_of};
 
 use cube_model::Fault;
@@ -17,7 +15,7 @@ use cube_query::Fold;
 use dimensions::Dims;
 use lattice::View;
 use object_store::Store;
-use planner::Plan;
+use planner::AccessPath;
 use sector_device::Sectors;
 use std::alloc::Global;
 use stored_cuboids::fold_runs;
@@ -35,31 +33,29 @@ pub fn begin_by_plan<D: Sectors>(
     dims: &Dims,
     modes: &ShipModes,
     fold: &mut Fold,
-    plan: Plan,
+    plan: AccessPath,
 ) -> Result<u32, Fault>
     requires fine { has_failed store.old ≡ false }
     requires begun { RepresentsRows dims.now fold.old [] }
     requires serves { ServesBy fold.old.query plan }
 
     // Then it represents the rows of these batches.
-    ensures ok { OnOk result (D.keeps_word (device_of store.new) → (w : Warehouse)
-        → Represents (content_of D.Sectors store.old) w
-        → root.now ≡ root_of w → AreItsMembers w dims.now modes.now → IsOfCuboid w plan
-        → RepresentsRows dims.now fold.new (all_rows (take (mark_of plan) w.batches))) }
+    ensures ok { OnOk result
+        (ForHeldWith D.Sectors store.old store.new root.now dims.now modes.now
+        (λ w. IsOfCuboid w plan → RepresentsRows dims.now fold.new (all_rows (take (mark_of plan) w.batches)))) }
     ensures from { IfOk result (λ from. from ≡ mark_of plan) }
     ensures over { IsOver dims.now fold.new }
     ensures query { fold.new.query ≡ fold.old.query }
-    ensures refused { IsErrOf result BadLayout → D.keeps_word (device_of store.new) → (w : Warehouse)
-        → Represents (content_of D.Sectors store.old) w
-        → root.now ≡ root_of w → AreItsMembers w dims.now modes.now → IsOfCuboid w plan → ⊥ }
+    ensures refused { IsErrOf result BadLayout
+        → ForHeldWith D.Sectors store.old store.new root.now dims.now modes.now (λ w. IsOfCuboid w plan → ⊥) }
 
     // The content stays, at each moment.
     ensures reads { ReadsOnly D.Sectors store.old store.new result }
-    ensures causes { IfErr result (λ fault. (fault ≡ Memory) ⊎ ((fault ≡ Device) ⊎ (fault ≡ BadLayout))) }
+    ensures causes { IfErr result EndsReading }
 {
     match plan {
-        Plan::Scan => Ok(0),
-        Plan::Cells { view, mark } => {
+        AccessPath::Scan => Ok(0),
+        AccessPath::Cells { view, mark } => {
             add_cuboid(alloc, store, root, dims, modes, fold, view, mark)?;
             Ok(mark)
         }
@@ -81,17 +77,17 @@ fn add_cuboid<D: Sectors>(
     requires fine { has_failed store.old ≡ false }
     requires begun { RepresentsRows dims.now fold.old [] }
     requires serves { Serves view fold.old.query }
-    ensures ok { OnOk result (D.keeps_word (device_of store.new) → (w : Warehouse)
-        → Represents (content_of D.Sectors store.old) w
-        → root.now ≡ root_of w → AreItsMembers w dims.now modes.now → IsOfCuboid w (plans.Cells view mark)
-        → RepresentsRows dims.now fold.new (all_rows (take mark w.batches))) }
+    ensures ok { OnOk result
+        (ForHeldWith D.Sectors store.old store.new root.now dims.now modes.now (λ w.
+        IsOfCuboid w (plans.Cells view mark)
+        → RepresentsRows dims.now fold.new (all_rows (take mark w.batches)))) }
     ensures over { IsOver dims.now fold.new }
     ensures query { fold.new.query ≡ fold.old.query }
-    ensures refused { IsErrOf result BadLayout → D.keeps_word (device_of store.new) → (w : Warehouse)
-        → Represents (content_of D.Sectors store.old) w
-        → root.now ≡ root_of w → AreItsMembers w dims.now modes.now → IsOfCuboid w (plans.Cells view mark) → ⊥ }
+    ensures refused { IsErrOf result BadLayout
+        → ForHeldWith D.Sectors store.old store.new root.now dims.now modes.now
+        (λ w. IsOfCuboid w (plans.Cells view mark) → ⊥) }
     ensures reads { ReadsOnly D.Sectors store.old store.new result }
-    ensures causes { IfErr result (λ fault. (fault ≡ Memory) ⊎ ((fault ≡ Device) ⊎ (fault ≡ BadLayout))) }
+    ensures causes { IfErr result EndsReading }
 {
     let Some(cuboid) = cuboid_of(root.cuboids(), view.index()) else {
         return Err(Fault::BadLayout);

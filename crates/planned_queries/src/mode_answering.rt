@@ -1,12 +1,10 @@
 //! Answers by plans, to queries that may look at ship modes.
-ghost use Rattle.std.specs.Prelude.{◌≡◌, ◌⊎◌, ◌≤◌, false, true, length, take, IfErr, IfOk, IsErrOf, OnOk};
-ghost use Rattle.cube_model.specs.declared.fault.Fault.TheVariants.{BadLayout, Device, Memory};
+ghost use Rattle.std.specs.Prelude.{◌≡◌, ◌≤◌, false, true, length, take, IfErr, IfOk, IsErrOf, OnOk};
+ghost use Rattle.cube_model.specs.declared.fault.Fault.TheVariants.{BadLayout};
 ghost use Rattle.cube_model.specs.Admission.{all_rows};
 ghost use Rattle.mode_folds.specs.States.{BeginsByModes, IsOverByModes, RepresentsModeRows};
-ghost use Rattle.object_store.specs.Store.{content_of, device_of, has_failed};
-ghost use Rattle.warehouse_objects.specs.Warehouse.{Warehouse};
-ghost use Rattle.warehouse_objects.specs.Reads.{HoldsNoWarehouse, ReadsOnly};
-ghost use Rattle.warehouse_objects.specs.Represents.{AreItsMembers, Represents, root_of};
+ghost use Rattle.object_store.specs.Store.{has_failed};
+ghost use Rattle.warehouse_objects.specs.Reads.{EndsReading, ForHeldWith, HoldsNoWarehouse, ReadsOnly};
 ghost use Rattle.planned_queries.specs.ModeAnswers.{moded_answer_as_of};
 ghost use Rattle.planned_queries.specs.ModesPlanned.{looks_at_modes};
 
@@ -44,16 +42,15 @@ pub fn answer_by_plan<D: Sectors>(
     requires few { as_of ≤ length root.now.batches }
 
     // The answer is the definition's over the rows of these batches.
-    ensures answer { IfOk result (λ found. D.keeps_word (device_of store.new) → (w : Warehouse)
-        → Represents (content_of D.Sectors store.old) w
-        → root.now ≡ root_of w → AreItsMembers w dims.now.value modes.now
-        → found ≡ moded_answer_as_of asked.entry as_of dims.now.value w.batches) }
+    ensures answer { IfOk result
+        (λ found. ForHeldWith D.Sectors store.old store.new root.now dims.now.value modes.now
+        (λ w. found ≡ moded_answer_as_of asked.entry as_of dims.now.value w.batches)) }
     ensures refused { IsErrOf result BadLayout
         → HoldsNoWarehouse D.Sectors store.old store.new root.now dims.now.value modes.now }
 
     // The content stays, at each moment.
     ensures reads { ReadsOnly D.Sectors store.old store.new result }
-    ensures causes { IfErr result (λ fault. (fault ≡ Memory) ⊎ ((fault ≡ Device) ⊎ (fault ≡ BadLayout))) }
+    ensures causes { IfErr result EndsReading }
 {
     let rows: &Dims = dims;
     let query = asked.get();
@@ -80,16 +77,15 @@ fn fold_by_plan<D: Sectors>(
     requires begins { BeginsByModes dims.now asked.now fold.old }
     requires looks { looks_at_modes asked.now ≡ true }
     requires few { as_of ≤ length root.now.batches }
-    ensures ok { OnOk result (D.keeps_word (device_of store.new) → (w : Warehouse)
-        → Represents (content_of D.Sectors store.old) w
-        → root.now ≡ root_of w → AreItsMembers w dims.now modes.now
-        → RepresentsModeRows dims.now fold.new (all_rows (take as_of w.batches))) }
+    ensures ok { OnOk result
+        (ForHeldWith D.Sectors store.old store.new root.now dims.now modes.now
+        (λ w. RepresentsModeRows dims.now fold.new (all_rows (take as_of w.batches)))) }
     ensures over { IsOverByModes dims.now fold.new }
     ensures query { OnOk result (fold.new.asked ≡ asked.now) }
     ensures refused { IsErrOf result BadLayout
         → HoldsNoWarehouse D.Sectors store.old store.new root.now dims.now modes.now }
     ensures reads { ReadsOnly D.Sectors store.old store.new result }
-    ensures causes { IfErr result (λ fault. (fault ≡ Memory) ⊎ ((fault ≡ Device) ⊎ (fault ≡ BadLayout))) }
+    ensures causes { IfErr result EndsReading }
 {
     let plan = mode_plan_of(alloc, root, as_of, asked)?;
     let from = begin_by_plan(alloc, store, root, dims, modes, fold, plan)?;

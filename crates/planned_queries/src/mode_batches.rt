@@ -1,15 +1,13 @@
 //! Batches of a store that are counted into the folds by ship mode, one after another.
-ghost use Rattle.std.specs.Prelude.{◌≡◌, ◌⊎◌, ◌<◌, ◌≤◌, ◌+◌, List, false, Some, length, slice_get, take};
+ghost use Rattle.std.specs.Prelude.{◌≡◌, ◌<◌, ◌≤◌, ◌+◌, List, false, Some, length, slice_get, take};
 ghost use Rattle.std.specs.Prelude.{IfErr, IfSome, IsErrOf, OnOk};
-ghost use Rattle.cube_model.specs.declared.fault.Fault.TheVariants.{BadLayout, Device, Memory};
+ghost use Rattle.cube_model.specs.declared.fault.Fault.TheVariants.{BadLayout};
 ghost use Rattle.cube_model.specs.declared.rows.LineOrder.{LineOrder};
 ghost use Rattle.cube_model.specs.Admission.{all_rows};
 ghost use Rattle.cube_model.specs.Limits.{most_batches};
 ghost use Rattle.mode_folds.specs.States.{CanTakeByModes, IsOverByModes, RepresentsModeRows};
 ghost use Rattle.object_store.specs.Store.{content_of, device_of, has_failed};
-ghost use Rattle.warehouse_objects.specs.Warehouse.{Warehouse};
-ghost use Rattle.warehouse_objects.specs.Reads.{ReadsOnly};
-ghost use Rattle.warehouse_objects.specs.Represents.{Represents, root_of};
+ghost use Rattle.warehouse_objects.specs.Reads.{EndsReading, ForHeld, ForHeldOfRoot, ReadsOnly};
 ghost use Rattle.planned_queries.specs.ModesCounted.{CountsBatchByModes, ServesWithModes};
 
 use crate::mode_counting::count_batch;
@@ -45,20 +43,19 @@ pub(crate) fn add_batches<D: Sectors>(
     requires few { as_of ≤ length root.now.batches }
 
     // A fold that represents the rows of the batches up to the first of them then represents those up to the last.
-    ensures ok { OnOk result (D.keeps_word (device_of store.new) → (w : Warehouse)
-        → Represents (content_of D.Sectors store.old) w
-        → RepresentsModeRows dims.now fold.old (all_rows (take from w.batches))
-        → RepresentsModeRows dims.now fold.new (all_rows (take as_of w.batches))) }
+    ensures ok { OnOk result
+        (ForHeld D.Sectors store.old store.new
+        (λ w. RepresentsModeRows dims.now fold.old (all_rows (take from w.batches))
+        → RepresentsModeRows dims.now fold.new (all_rows (take as_of w.batches)))) }
     ensures over { IsOverByModes dims.now fold.new }
     ensures query { OnOk result (fold.new.asked ≡ fold.old.asked) }
-    ensures refused { IsErrOf result BadLayout → D.keeps_word (device_of store.new) → (w : Warehouse)
-        → Represents (content_of D.Sectors store.old) w
-        → root.now ≡ root_of w → dims.now ≡ w.rows
-        → RepresentsModeRows dims.now fold.old (all_rows (take from w.batches)) → ⊥ }
+    ensures refused { IsErrOf result BadLayout
+        → ForHeldOfRoot D.Sectors store.old store.new root.now
+        (λ w. dims.now ≡ w.rows → RepresentsModeRows dims.now fold.old (all_rows (take from w.batches)) → ⊥) }
 
     // The content stays, at each moment.
     ensures reads { ReadsOnly D.Sectors store.old store.new result }
-    ensures causes { IfErr result (λ fault. (fault ≡ Memory) ⊎ ((fault ≡ Device) ⊎ (fault ≡ BadLayout))) }
+    ensures causes { IfErr result EndsReading }
 {
     let batches = root.batches();
     let view = moded_view(query);
@@ -99,12 +96,11 @@ fn add_batch<D: Sectors>(
         (content_of D.Sectors store.old)) }
     ensures over { IsOverByModes dims.now fold.new }
     ensures query { OnOk result (fold.new.asked ≡ fold.old.asked) }
-    ensures refused { IsErrOf result BadLayout → D.keeps_word (device_of store.new) → (w : Warehouse)
-        → Represents (content_of D.Sectors store.old) w
-        → (batch : List LineOrder) → slice_get w.batches before ≡ Some batch → rows ≡ length batch
-        → CanTakeByModes dims.now fold.old batch → ⊥ }
+    ensures refused { IsErrOf result BadLayout
+        → ForHeld D.Sectors store.old store.new (λ w. (batch : List LineOrder) → slice_get w.batches before ≡ Some batch
+        → rows ≡ length batch → CanTakeByModes dims.now fold.old batch → ⊥) }
     ensures reads { ReadsOnly D.Sectors store.old store.new result }
-    ensures causes { IfErr result (λ fault. (fault ≡ Memory) ⊎ ((fault ≡ Device) ⊎ (fault ≡ BadLayout))) }
+    ensures causes { IfErr result EndsReading }
 {
     let number = before + 1;
     let bytes = read_object(alloc, store, segment_id(number))?;

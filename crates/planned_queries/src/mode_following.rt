@@ -1,14 +1,12 @@
 //! Folds by ship mode that begin with the cells of a plan.
-ghost use Rattle.std.specs.Prelude.{◌≡◌, ◌⊎◌, ◌≤◌, [], true, false, length, take, IfErr, IfOk, IsErrOf, OnOk};
-ghost use Rattle.cube_model.specs.declared.fault.Fault.TheVariants.{BadLayout, Device, Memory};
+ghost use Rattle.std.specs.Prelude.{◌≡◌, ◌≤◌, [], true, false, length, take, IfErr, IfOk, IsErrOf, OnOk};
+ghost use Rattle.cube_model.specs.declared.fault.Fault.TheVariants.{BadLayout};
 ghost use Rattle.cube_model.specs.Admission.{all_rows};
 ghost use Rattle.mode_folds.specs.States.{IsOverByModes, RepresentsModeRows};
-ghost use Rattle.object_store.specs.Store.{content_of, device_of, has_failed};
+ghost use Rattle.object_store.specs.Store.{has_failed};
 ghost use Rattle.planned_queries.specs.Planned.{IsOfCuboid, mark_of};
-ghost use Rattle.planner.specs.declared.price.Plan.TheVariants as plans;
-ghost use Rattle.warehouse_objects.specs.Warehouse.{Warehouse};
-ghost use Rattle.warehouse_objects.specs.Reads.{ReadsOnly};
-ghost use Rattle.warehouse_objects.specs.Represents.{AreItsMembers, Represents, root_of};
+ghost use Rattle.planner.specs.declared.price.AccessPath.TheVariants as plans;
+ghost use Rattle.warehouse_objects.specs.Reads.{EndsReading, ForHeldWith, ReadsOnly};
 ghost use Rattle.planned_queries.specs.ModesCounted.{ServesWithModes};
 ghost use Rattle.planned_queries.specs.ModesPlanned.{ServesByModes, looks_at_modes};
 
@@ -18,7 +16,7 @@ use dimensions::Dims;
 use lattice::View;
 use mode_folds::ModeFold;
 use object_store::Store;
-use planner::Plan;
+use planner::AccessPath;
 use sector_device::Sectors;
 use std::alloc::Global;
 use stored_cuboids::merged_runs;
@@ -36,7 +34,7 @@ pub(crate) fn begin_by_plan<D: Sectors>(
     dims: &Dims,
     modes: &ShipModes,
     fold: &mut ModeFold<'_>,
-    plan: Plan,
+    plan: AccessPath,
 ) -> Result<u32, Fault>
     requires fine { has_failed store.old ≡ false }
     requires over { IsOverByModes dims.now fold.old }
@@ -46,24 +44,22 @@ pub(crate) fn begin_by_plan<D: Sectors>(
     requires few { mark_of plan ≤ length root.now.batches }
 
     // Then it represents the rows of these batches.
-    ensures ok { OnOk result (D.keeps_word (device_of store.new) → (w : Warehouse)
-        → Represents (content_of D.Sectors store.old) w
-        → root.now ≡ root_of w → AreItsMembers w dims.now modes.now → IsOfCuboid w plan
-        → RepresentsModeRows dims.now fold.new (all_rows (take (mark_of plan) w.batches))) }
+    ensures ok { OnOk result
+        (ForHeldWith D.Sectors store.old store.new root.now dims.now modes.now
+        (λ w. IsOfCuboid w plan → RepresentsModeRows dims.now fold.new (all_rows (take (mark_of plan) w.batches)))) }
     ensures from { IfOk result (λ from. from ≡ mark_of plan) }
     ensures over { IsOverByModes dims.now fold.new }
     ensures query { fold.new.asked ≡ fold.old.asked }
-    ensures refused { IsErrOf result BadLayout → D.keeps_word (device_of store.new) → (w : Warehouse)
-        → Represents (content_of D.Sectors store.old) w
-        → root.now ≡ root_of w → AreItsMembers w dims.now modes.now → IsOfCuboid w plan → ⊥ }
+    ensures refused { IsErrOf result BadLayout
+        → ForHeldWith D.Sectors store.old store.new root.now dims.now modes.now (λ w. IsOfCuboid w plan → ⊥) }
 
     // The content stays, at each moment.
     ensures reads { ReadsOnly D.Sectors store.old store.new result }
-    ensures causes { IfErr result (λ fault. (fault ≡ Memory) ⊎ ((fault ≡ Device) ⊎ (fault ≡ BadLayout))) }
+    ensures causes { IfErr result EndsReading }
 {
     match plan {
-        Plan::Scan => Ok(0),
-        Plan::Cells { view, mark } => {
+        AccessPath::Scan => Ok(0),
+        AccessPath::Cells { view, mark } => {
             add_cuboid(alloc, store, root, dims, modes, fold, view, mark)?;
             Ok(mark)
         }
@@ -87,17 +83,17 @@ fn add_cuboid<D: Sectors>(
     requires begun { RepresentsModeRows dims.now fold.old [] }
     requires serves { ServesWithModes fold.old.asked.query view }
     requires few { mark ≤ length root.now.batches }
-    ensures ok { OnOk result (D.keeps_word (device_of store.new) → (w : Warehouse)
-        → Represents (content_of D.Sectors store.old) w
-        → root.now ≡ root_of w → AreItsMembers w dims.now modes.now → IsOfCuboid w (plans.Cells view mark)
-        → RepresentsModeRows dims.now fold.new (all_rows (take mark w.batches))) }
+    ensures ok { OnOk result
+        (ForHeldWith D.Sectors store.old store.new root.now dims.now modes.now
+        (λ w. IsOfCuboid w (plans.Cells view mark)
+        → RepresentsModeRows dims.now fold.new (all_rows (take mark w.batches)))) }
     ensures over { IsOverByModes dims.now fold.new }
     ensures query { fold.new.asked ≡ fold.old.asked }
-    ensures refused { IsErrOf result BadLayout → D.keeps_word (device_of store.new) → (w : Warehouse)
-        → Represents (content_of D.Sectors store.old) w
-        → root.now ≡ root_of w → AreItsMembers w dims.now modes.now → IsOfCuboid w (plans.Cells view mark) → ⊥ }
+    ensures refused { IsErrOf result BadLayout
+        → ForHeldWith D.Sectors store.old store.new root.now dims.now modes.now
+        (λ w. IsOfCuboid w (plans.Cells view mark) → ⊥) }
     ensures reads { ReadsOnly D.Sectors store.old store.new result }
-    ensures causes { IfErr result (λ fault. (fault ≡ Memory) ⊎ ((fault ≡ Device) ⊎ (fault ≡ BadLayout))) }
+    ensures causes { IfErr result EndsReading }
 {
     let Some(cuboid) = cuboid_of(root.cuboids(), view.index()) else {
         return Err(Fault::BadLayout);

@@ -10,7 +10,7 @@ ghost use Rattle.planned_queries.specs.ModesPlanned.{looks_at_modes, stored_for}
 use crate::planning::stored_in;
 use cube_model::Fault;
 use mode_queries::ModeQuery;
-use planner::{Plan, Priced, Stored, plan, plans};
+use planner::{AccessPath, Priced, Stored, plan, plans};
 use std::alloc::Global;
 use warehouse_root::Root;
 
@@ -24,7 +24,7 @@ pub fn mode_plan_of(
     root: &Root,
     as_of: u32,
     asked: &ModeQuery,
-) -> Result<Plan, Fault>
+) -> Result<AccessPath, Fault>
     requires { as_of ≤ length root.now.batches }
     ensures plan { IfOk result (λ plan. (w : Warehouse) → root.now ≡ root_of w → IsPlanByModes w as_of asked.now plan) }
     ensures serves { IfOk result (ServesByModes asked.now) }

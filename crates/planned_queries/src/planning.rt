@@ -7,7 +7,7 @@ ghost use Rattle.planned_queries.specs.Planned.{ArePlansOf, IsPlanOf, ServesBy, 
 
 use cube_model::{Fault, Query};
 use lattice::View;
-use planner::{Plan, Priced, Stored, plan, plans};
+use planner::{AccessPath, Priced, Stored, plan, plans};
 use std::alloc::{AllocError, Global};
 use warehouse_root::{Root, StoredCuboid};
 
@@ -15,7 +15,7 @@ use warehouse_root::{Root, StoredCuboid};
 /// the cells of a stored cuboid and the fact rows of the batches after its mark.
 ///
 /// It can run out of memory.
-pub fn plan_of(alloc: Global, root: &Root, as_of: u32, query: &Query) -> Result<Plan, Fault>
+pub fn plan_of(alloc: Global, root: &Root, as_of: u32, query: &Query) -> Result<AccessPath, Fault>
     requires { as_of ≤ length root.now.batches }
     ensures plan { IfOk result (λ plan. (w : Warehouse) → root.now ≡ root_of w → IsPlanOf w as_of query.now plan) }
     ensures serves { IfOk result (ServesBy query.now) }

@@ -1,10 +1,8 @@
 //! A query that runs batch by batch.
-ghost use Rattle.std.specs.Prelude.{◌≡◌, ◌⊎◌, ◌≤◌, false, length, IfErr, IfOk, IsErrOf, OnErr};
-ghost use Rattle.cube_model.specs.declared.fault.Fault.TheVariants.{BadLayout, Device, Memory};
-ghost use Rattle.object_store.specs.Store.{content_of, device_of, has_failed};
-ghost use Rattle.warehouse_objects.specs.Warehouse.{Warehouse};
-ghost use Rattle.warehouse_objects.specs.Reads.{HoldsNoWarehouse, ReadsOnly};
-ghost use Rattle.warehouse_objects.specs.Represents.{AreItsMembers, Represents, root_of};
+ghost use Rattle.std.specs.Prelude.{◌≡◌, ◌≤◌, false, length, IfErr, IfOk, IsErrOf, OnErr};
+ghost use Rattle.cube_model.specs.declared.fault.Fault.TheVariants.{BadLayout};
+ghost use Rattle.object_store.specs.Store.{has_failed};
+ghost use Rattle.warehouse_objects.specs.Reads.{EndsReading, ForHeldOfRoot, ForHeldWith, HoldsNoWarehouse, ReadsOnly};
 
 use crate::answering::begin_fold;
 use cube_model::{Answer, Fault, ProperQuery};
@@ -75,16 +73,15 @@ impl Running {
     ) -> Result<Running, Fault>
         requires fine { has_failed store.old ≡ false }
         requires few { as_of ≤ length root.now.batches }
-        ensures begun { IfOk result (λ running. D.keeps_word (device_of store.new) → (w : Warehouse)
-            → Represents (content_of D.Sectors store.old) w
-            → root.now ≡ root_of w → AreItsMembers w dims.now.value modes.now
-            → (s : Started) × Starts w as_of query.now s × IsRunning running s) }
+        ensures begun { IfOk result
+            (λ running. ForHeldWith D.Sectors store.old store.new root.now dims.now.value modes.now
+            (λ w. (s : Started) × Starts w as_of query.now s × IsRunning running s)) }
         ensures refused { IsErrOf result BadLayout
             → HoldsNoWarehouse D.Sectors store.old store.new root.now dims.now.value modes.now }
 
         // The content stays, at each moment.
         ensures reads { ReadsOnly D.Sectors store.old store.new result }
-        ensures causes { IfErr result (λ fault. (fault ≡ Memory) ⊎ ((fault ≡ Device) ⊎ (fault ≡ BadLayout))) }
+        ensures causes { IfErr result EndsReading }
     {
         let rows: &Dims = dims;
         let mut fold = Fold::new(alloc, rows, query)?;
@@ -112,17 +109,17 @@ impl Running {
         requires fine { has_failed store.old ≡ false }
 
         // On a store that has what the query was started over, it goes on by a step.
-        ensures steps { IfOk result (λ found. D.keeps_word (device_of store.new) → (w : Warehouse)
-            → Represents (content_of D.Sectors store.old) w
-            → root.now ≡ root_of w → (s : Started) → Extends s w → IsRunning self.old s → Advances s self.new found) }
+        ensures steps { IfOk result
+            (λ found. ForHeldOfRoot D.Sectors store.old store.new root.now (λ w. (s : Started) → Extends s w
+            → IsRunning self.old s → Advances s self.new found)) }
         ensures err { OnErr result (self.new ≡ self.old) }
-        ensures refused { IsErrOf result BadLayout → D.keeps_word (device_of store.new) → (w : Warehouse)
-            → Represents (content_of D.Sectors store.old) w
-            → root.now ≡ root_of w → (s : Started) → Extends s w → IsRunning self.old s → ⊥ }
+        ensures refused { IsErrOf result BadLayout
+            → ForHeldOfRoot D.Sectors store.old store.new root.now (λ w. (s : Started) → Extends s w
+            → IsRunning self.old s → ⊥) }
 
         // The content stays, at each moment.
         ensures reads { ReadsOnly D.Sectors store.old store.new result }
-        ensures causes { IfErr result (λ fault. (fault ≡ Memory) ⊎ ((fault ≡ Device) ⊎ (fault ≡ BadLayout))) }
+        ensures causes { IfErr result EndsReading }
     {
         if self.done >= self.as_of {
             let found = self.fold.finish(&self.dims)?;

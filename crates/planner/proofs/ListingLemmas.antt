@@ -5,8 +5,8 @@ use Rattle.std.specs.List.{Contains}
 use Rattle.std.proofs.lemmas.List.{take_more}
 use Rattle.std.proofs.lemmas.List.Elements.{Contains-push}
 use Rattle.cube_model.specs.declared.query.Query.{Query}
-use Rattle.planner.specs.declared.price.Plan.{Plan}
-use Rattle.planner.specs.declared.price.Plan.TheVariants.{Cells}
+use Rattle.planner.specs.declared.price.AccessPath.{AccessPath}
+use Rattle.planner.specs.declared.price.AccessPath.TheVariants.{Cells}
 use Rattle.planner.specs.declared.price.Priced.{Priced}
 use Rattle.planner.specs.declared.stored.Stored.{Stored}
 use Rattle.planner.specs.Listed.{HasBetterFirst}
@@ -36,7 +36,7 @@ first_put [] other d comes first at = absurd cc
 first_put (plan ∷ plans) other d comes first at = let same : plan ≡ first = cc at in
     (other, refl, inr refl, subst (λ (p : Priced). ComesFirst other p) same comes, itself other)
 
-same_plan : (one : Priced) (plan : Plan) (cost : ℕ) → one.plan ≡ plan → one.cost ≡ cost
+same_plan : (one : Priced) (plan : AccessPath) (cost : ℕ) → one.plan ≡ plan → one.cost ≡ cost
     → one ≡ record { plan = plan; cost = cost }
 same_plan one plan cost p c = λ i. record { plan = p i; cost = c i }
 

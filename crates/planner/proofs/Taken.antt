@@ -5,8 +5,8 @@ use Rattle.std.proofs.lemmas.List.{take_more}
 use Rattle.std.proofs.lemmas.List.Elements.{Contains-append_left, Contains-append_cases, Contains-push}
 use Rattle.cube_model.specs.declared.query.Query.{Query}
 use Rattle.lattice.specs.Views.{index_of}
-use Rattle.planner.specs.declared.price.Plan.{Plan}
-use Rattle.planner.specs.declared.price.Plan.TheVariants.{Scan, Cells}
+use Rattle.planner.specs.declared.price.AccessPath.{AccessPath}
+use Rattle.planner.specs.declared.price.AccessPath.TheVariants.{Scan, Cells}
 use Rattle.planner.specs.declared.price.Priced.{Priced}
 use Rattle.planner.specs.declared.stored.Stored.{Stored}
 use Rattle.planner.specs.Plans.{ServesAsOf, AnswersAt, IsCheapest, ComesFirst, rank, cells_cost, rows_between}
@@ -22,13 +22,13 @@ only_at x y zero below is = is
 only_at x y (suc k) below is = absurd (omega arith)
 
 module _ (query : Query) (rows : List ℕ) (as_of : ℕ) (stored : List Stored) (one : Stored) where
-  pub more : (plan : Plan) (cost : ℕ) → AnswersAt query stored rows as_of plan cost
+  pub more : (plan : AccessPath) (cost : ℕ) → AnswersAt query stored rows as_of plan cost
       → AnswersAt query (stored ++ one ∷ []) rows as_of plan cost
   more Scan cost h = h
   more (Cells view mark) cost h = (h.0, Contains-append_left stored (one ∷ []) h.0 h.1, h.2, h.3, h.4, h.5)
 
   -- a plan over one more cuboid is one over those before, or by the cuboid
-  pub cases : (plan : Plan) (cost : ℕ) → AnswersAt query (stored ++ one ∷ []) rows as_of plan cost
+  pub cases : (plan : AccessPath) (cost : ℕ) → AnswersAt query (stored ++ one ∷ []) rows as_of plan cost
       → AnswersAt query stored rows as_of plan cost
       ⊎ (ServesAsOf query as_of one × (plan ≡ Cells one.view one.mark) × (cost ≡ cells_cost rows as_of one))
   cases Scan cost h = inl h
@@ -62,7 +62,8 @@ module _ (query : Query) (rows : List ℕ) (as_of : ℕ) (stored : List Stored) 
   }
 
   -- one that serves and does not come first changes nothing either
-  keep : (plan : Plan) (cost its : ℕ) → its ≡ cells_cost rows as_of one → IsCheapest query stored rows as_of plan cost
+  keep : (plan : AccessPath) (cost its : ℕ) → its ≡ cells_cost rows as_of one
+      → IsCheapest query stored rows as_of plan cost
       → (cost < its) ⊎ ((cost ≡ its) × (rank plan ≤ index_of one.view + 1))
       → IsCheapest query (stored ++ one ∷ []) rows as_of plan cost
   keep plan cost its priced least order = record {
@@ -84,7 +85,7 @@ module _ (query : Query) (rows : List ℕ) (as_of : ℕ) (stored : List Stored) 
   }
 
   -- one that comes first is taken
-  turn : (plan : Plan) (cost its : ℕ) → its ≡ cells_cost rows as_of one → ServesAsOf query as_of one
+  turn : (plan : AccessPath) (cost its : ℕ) → its ≡ cells_cost rows as_of one → ServesAsOf query as_of one
       → IsCheapest query stored rows as_of plan cost
       → (its < cost) ⊎ ((its ≡ cost) × (index_of one.view + 1 ≤ rank plan))
       → IsCheapest query (stored ++ one ∷ []) rows as_of (Cells one.view one.mark) its
@@ -136,12 +137,13 @@ scan_alone query rows as_of = record {
   tie = first;
 }
   where
-    only_scan : (other : Plan) (price : ℕ) → AnswersAt query [] rows as_of other price
+    only_scan : (other : AccessPath) (price : ℕ) → AnswersAt query [] rows as_of other price
         → rows_between rows 0 as_of ≤ price
     only_scan Scan price h = omega (arith, h)
     only_scan (Cells view mark) price h = absurd (omega (arith, h.1.1))
 
-    first : (other : Plan) → AnswersAt query [] rows as_of other (rows_between rows 0 as_of) → rank Scan ≤ rank other
+    first : (other : AccessPath) → AnswersAt query [] rows as_of other (rows_between rows 0 as_of)
+        → rank Scan ≤ rank other
     first Scan h = omega arith
     first (Cells view mark) h = omega arith
 

@@ -5,8 +5,8 @@ use Rattle.std.specs.List.{sum, Contains}
 use Rattle.cube_model.specs.declared.query.Query.{Query}
 use Rattle.lattice.specs.Determined.{Serves}
 use Rattle.lattice.specs.Views.{index_of}
-use Rattle.planner.specs.declared.price.Plan.{Plan}
-use Rattle.planner.specs.declared.price.Plan.TheVariants.{Scan, Cells}
+use Rattle.planner.specs.declared.price.AccessPath.{AccessPath}
+use Rattle.planner.specs.declared.price.AccessPath.TheVariants.{Scan, Cells}
 use Rattle.planner.specs.declared.price.Priced.{Priced}
 use Rattle.planner.specs.declared.stored.Stored.{Stored}
 
@@ -25,27 +25,27 @@ cells_cost batch_rows as_of stored = stored.cells + rows_between batch_rows stor
 
 -- A plan answers a query over the first batches, and reads so much. A scan always answers; it reads the fact rows of
 -- all these batches. Cells answer where they are of a stored cuboid that serves the query.
-abbrev pub AnswersAt : Query → List Stored → List ℕ → ℕ → Plan → ℕ → Type 0
+abbrev pub AnswersAt : Query → List Stored → List ℕ → ℕ → AccessPath → ℕ → Type 0
 AnswersAt query stored batch_rows as_of Scan cost = cost ≡ rows_between batch_rows 0 as_of
 AnswersAt query stored batch_rows as_of (Cells view mark) cost =
     (one : Stored) × Contains stored one × ServesAsOf query as_of one
     × (one.view ≡ view) × (one.mark ≡ mark) × (cost ≡ cells_cost batch_rows as_of one)
 
 -- the order of plans of one cost: the scan, then the cuboids by their numbers
-abbrev pub rank : Plan → ℕ
+abbrev pub rank : AccessPath → ℕ
 rank Scan = 0
 rank (Cells view mark) = index_of view + 1
 
 -- a plan of a cost is the one to take: it answers, no plan that answers reads less, and of those that read as much it
 -- is the first
-pub record IsCheapest (query : Query) (stored : List Stored) (batch_rows : List ℕ) (as_of : ℕ) (plan : Plan)
+pub record IsCheapest (query : Query) (stored : List Stored) (batch_rows : List ℕ) (as_of : ℕ) (plan : AccessPath)
     (cost : ℕ) : Type 0 where
   pub answers : AnswersAt query stored batch_rows as_of plan cost
-  pub none_cheaper : (other : Plan) (other_cost : ℕ) → AnswersAt query stored batch_rows as_of other other_cost
+  pub none_cheaper : (other : AccessPath) (other_cost : ℕ) → AnswersAt query stored batch_rows as_of other other_cost
       → cost ≤ other_cost
-  pub tie : (other : Plan) → AnswersAt query stored batch_rows as_of other cost → rank plan ≤ rank other
+  pub tie : (other : AccessPath) → AnswersAt query stored batch_rows as_of other cost → rank plan ≤ rank other
 
-abbrev pub IsPlan : Query → List Stored → List ℕ → ℕ → Plan → Type 0
+abbrev pub IsPlan : Query → List Stored → List ℕ → ℕ → AccessPath → Type 0
 IsPlan query stored batch_rows as_of plan = (cost : ℕ) × IsCheapest query stored batch_rows as_of plan cost
 
 -- one priced plan is taken before another: it reads less, or as much and is not after it in the order

@@ -1,10 +1,10 @@
 //! The plan of a query.
 ghost use Rattle.std.specs.Prelude.{◌≡◌, ◌≤◌, length};
-ghost use Rattle.planner.specs.declared.price.Plan.TheVariants as plans;
+ghost use Rattle.planner.specs.declared.price.AccessPath.TheVariants as plans;
 ghost use Rattle.planner.specs.Plans.{IsPlan, cells_cost, rows_between};
 
 use crate::cost::{cells_cost, rows_between};
-use crate::price::{Plan, Priced, better};
+use crate::price::{AccessPath, Priced, better};
 use crate::stored::Stored;
 use cube_model::Query;
 
@@ -13,7 +13,7 @@ use cube_model::Query;
 /// A scan reads the fact rows of all these batches. A stored cuboid that serves the query reads its cells, and the fact
 /// rows of the batches after its mark. At a tie the scan is taken before a cuboid, and a cuboid before those of greater
 /// index. It takes no memory.
-pub fn plan(query: &Query, stored: &[Stored], batch_rows: &[u32], as_of: u32) -> Plan
+pub fn plan(query: &Query, stored: &[Stored], batch_rows: &[u32], as_of: u32) -> AccessPath
     requires { as_of ≤ length batch_rows.now }
     ensures { IsPlan query.now stored.now batch_rows.now as_of result }
 {
@@ -32,7 +32,7 @@ pub(crate) fn by_scan(batch_rows: &[u32], as_of: u32) -> Priced
     ensures { result ≡ record { plan = plans.Scan; cost = rows_between batch_rows.now 0 as_of } }
 {
     Priced {
-        plan: Plan::Scan,
+        plan: AccessPath::Scan,
         cost: rows_between(batch_rows, 0, as_of),
     }
 }
@@ -47,7 +47,7 @@ pub(crate) fn by_cells(batch_rows: &[u32], one: &Stored, as_of: u32) -> Priced
     } }
 {
     Priced {
-        plan: Plan::Cells {
+        plan: AccessPath::Cells {
             view: one.view,
             mark: one.mark,
         },

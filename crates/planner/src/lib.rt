@@ -9,5 +9,5 @@ mod stored;
 
 pub use cheapest::plan;
 pub use listing::plans;
-pub use price::{Plan, Priced};
+pub use price::{AccessPath, AccessPath as Plan, Priced};
 pub use stored::Stored;

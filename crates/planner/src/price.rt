@@ -1,12 +1,12 @@
-//! Plans, and which of two is to be taken.
+//! The access paths of queries, and which of two is to be taken.
 ghost use Rattle.std.specs.Prelude.{◌≡◌, ◌⊎◌, IsTrue};
 ghost use Rattle.planner.specs.Plans.{rank, ComesFirst};
 
 use lattice::View;
 
-/// How a query is answered.
+/// From what a query is answered: its plan.
 #[derive(Clone, Copy, PartialEq, Eq)]
-pub enum Plan {
+pub enum AccessPath {
     /// From the fact rows of all batches.
     Scan,
     /// From the stored cells of a view, which group the batches up to the mark, and the fact rows of the batches after
@@ -17,18 +17,18 @@ pub enum Plan {
 /// A plan, and how many cells and fact rows it reads.
 #[derive(Clone, Copy, PartialEq, Eq)]
 pub struct Priced {
-    pub plan: Plan,
+    pub plan: AccessPath,
     pub cost: u64,
 }
 
-impl Plan {
+impl AccessPath {
     // Which plan is taken of those of one cost: the scan first, then the cuboids by their numbers.
     fn rank(self) -> u16
         ensures { result ≡ rank self }
     {
         match self {
-            Plan::Scan => 0,
-            Plan::Cells { view, .. } => view.index() + 1,
+            AccessPath::Scan => 0,
+            AccessPath::Cells { view, .. } => view.index() + 1,
         }
     }
 }

@@ -12,13 +12,23 @@ use Rattle.warehouse_root.specs.Root.{PlainRoot}
 use Rattle.warehouse_objects.specs.Facts.{facts_in}
 use Rattle.warehouse_objects.specs.Loaded.{IsLoaded}
 use Rattle.warehouse_objects.specs.Warehouse.{Cuboid, Warehouse, cuboid_at, ship_modes_of}
-use Rattle.warehouse_objects.specs.Represents.{Represents, root_of}
+use Rattle.warehouse_objects.specs.Represents.{AreItsMembers, Represents, root_of}
 
 -- a store represents a warehouse, and its root is kept in memory
 pub record StoreAt {D : Type 0} (g : Ghosts D) (store : Store D g) (root : PlainRoot) (w : Warehouse) : Type 0 where
   pub fine : stores.has_failed store ≡ false
   pub represents : (stores.disk_of g store).keeps_word → Represents (stores.content_of g store) w
   pub root_is : (stores.disk_of g store).keeps_word → root_of w ≡ root
+
+-- what is so of the warehouse that a store represents
+abbrev pub ForStored : {D : Type 0} (g : Ghosts D) → Store D g → PlainRoot → (Warehouse → Type 0) → Type 0
+ForStored g store root P = (w : Warehouse) → StoreAt g store root w → P w
+
+-- the same, given that dimensions and ship modes are its own
+abbrev pub ForStoredWith : {D : Type 0} (g : Ghosts D) → Store D g → PlainRoot → DimRows → List (List ℕ)
+    → (Warehouse → Type 0) → Type 0
+ForStoredWith g store root dimensions ship_modes P = ForStored g store root
+    (λ w. (g.keeps_word (stores.device_of store) → AreItsMembers w dimensions ship_modes) → P w)
 
 -- what was loaded of the content of a store, with its root, is still loaded of it, with the root of now
 abbrev pub StaysLoaded : {D : Type 0} (g : Ghosts D) → (old new : Store D g) → (before now : PlainRoot) → Type 0

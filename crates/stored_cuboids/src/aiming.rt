@@ -6,8 +6,8 @@ ghost use Rattle.object_store.specs.Store.{Breaks, IsAsBefore, Refuses, content_
 ghost use Rattle.object_store.specs.Store.{room_of};
 ghost use Rattle.warehouse_root.specs.Root as roots;
 ghost use Rattle.warehouse_objects.specs.Represents.{Represents, root_of};
-ghost use Rattle.warehouse_objects.specs.Warehouse.{Warehouse, aimed};
-ghost use Rattle.stored_cuboids.specs.Keeping.{StaysLoaded, StoreAt};
+ghost use Rattle.warehouse_objects.specs.Warehouse.{aimed};
+ghost use Rattle.stored_cuboids.specs.Keeping.{ForStored, StaysLoaded, StoreAt};
 
 use crate::replacing::replace_root;
 use cube_model::Fault;
@@ -24,28 +24,31 @@ pub fn aim<D: Sectors>(alloc: Global, store: &mut Store<D>, root: &mut Root) -> 
     requires fine { has_failed store.old ≡ false }
 
     // A crash at any point leaves the warehouse before or after.
-    ensures leaves { (w : Warehouse) → StoreAt D.Sectors store.old root.old w
-        → Leaves (disk_of D.Sectors store.old) (disk_of D.Sectors store.new)
-        (λ c. Represents c w ⊎ Represents c (aimed w)) }
+    ensures leaves { ForStored D.Sectors store.old root.old
+        (λ w. Leaves (disk_of D.Sectors store.old) (disk_of D.Sectors store.new)
+        (λ c. Represents c w ⊎ Represents c (aimed w))) }
 
     // Then the warehouse after.
-    ensures ok { OnOk result ((w : Warehouse) → StoreAt D.Sectors store.old root.old w
-        → StoreAt D.Sectors store.new root.new (aimed w)) }
+    ensures ok { OnOk result
+        (ForStored D.Sectors store.old root.old (λ w. StoreAt D.Sectors store.new root.new (aimed w))) }
     ensures once { OnOk result (D.keeps_word (device_of store.new)
         → (content_of D.Sectors store.new).generation ≡ (content_of D.Sectors store.old).generation + 1) }
     ensures fine { OnOk result (has_failed store.new ≡ false) }
     ensures failures { OnOk result ((disk_of D.Sectors store.new).failures ≡ (disk_of D.Sectors store.old).failures) }
 
     // What a refusal leaves, and when it comes.
-    ensures refused { IfErr result (λ fault. fault ≢ Device → (w : Warehouse) → StoreAt D.Sectors store.old root.old w
-        → StoreAt D.Sectors store.new root.new w
-        × Leaves (disk_of D.Sectors store.old) (disk_of D.Sectors store.new) (λ c. Represents c w)) }
+    ensures refused { IfErr result
+        (λ fault. fault ≢ Device
+        → ForStored D.Sectors store.old root.old
+        (λ w. StoreAt D.Sectors store.new root.new w
+        × Leaves (disk_of D.Sectors store.old) (disk_of D.Sectors store.new) (λ c. Represents c w))) }
     ensures kept { OnErr result (root.new ≡ root.old) }
     ensures as_before { IfErr result (λ fault. fault ≢ Device → IsAsBefore D.Sectors store.old store.new) }
-    ensures causes { IfErr result (λ fault. fault ≢ Device → (w : Warehouse) → StoreAt D.Sectors store.old root.old w
-        → D.keeps_word (device_of store.new)
+    ensures causes { IfErr result
+        (λ fault. fault ≢ Device
+        → ForStored D.Sectors store.old root.old (λ w. D.keeps_word (device_of store.new)
         → Refuses (content_of D.Sectors store.old) (room_of store.old) [] [] (roots.root_spelling (root_of (aimed w)))
-        fault) }
+        fault)) }
     ensures failed { IsErrOf result Failed → ⊥ }
     ensures device { IsErrOf result Device → Breaks D.Sectors store.old store.new }
 

@@ -1,12 +1,12 @@
 //! Whether stored cuboids are what they are to be.
-ghost use Rattle.std.specs.Prelude.{◌≡◌, ◌<◌, ◌≤◌, ◌⊎◌, ◌↔◌, Some, false, length, take, All, IfErr, IfOk, IsErrOf};
+ghost use Rattle.std.specs.Prelude.{◌≡◌, ◌<◌, ◌≤◌, ◌↔◌, Some, false, length, take, All, IfErr, IfOk, IsErrOf};
 ghost use Rattle.std.specs.Prelude.{IsTrue};
-ghost use Rattle.cube_model.specs.declared.fault.Fault.TheVariants.{BadLayout, Device, Memory};
+ghost use Rattle.cube_model.specs.declared.fault.Fault.TheVariants.{BadLayout};
 ghost use Rattle.cube_model.specs.Admission.{all_rows};
 ghost use Rattle.object_store.specs.Store.{content_of, device_of, has_failed};
 ghost use Rattle.cuboid_upkeep.specs.Grouping.{RepresentRows};
 ghost use Rattle.warehouse_objects.specs.Warehouse.{Cuboid, Warehouse, cuboid_at, ship_modes_of};
-ghost use Rattle.warehouse_objects.specs.Reads.{ReadsOnly};
+ghost use Rattle.warehouse_objects.specs.Reads.{EndsReading, ForLaidWith, ReadsOnly};
 ghost use Rattle.warehouse_objects.specs.Represents.{AreItsMembers, IsLaidOut, root_of, said_of};
 ghost use Rattle.warehouse_root.specs.Layouts.{view_count};
 ghost use Rattle.lattice.specs.Views.{index_of};
@@ -35,16 +35,15 @@ pub fn audited<D: Sectors>(
     modes: &ShipModes,
 ) -> Result<bool, Fault>
     requires fine { has_failed store.old ≡ false }
-    ensures answer { IfOk result (λ yes. D.keeps_word (device_of store.new) → (w : Warehouse)
-        → IsLaidOut (content_of D.Sectors store.old) w
-        → root.now ≡ root_of w → AreItsMembers w dims.now modes.now → IsTrue yes ↔ All (IsSound w) w.cuboids) }
-    ensures refused { IsErrOf result BadLayout → D.keeps_word (device_of store.new) → (w : Warehouse)
-        → IsLaidOut (content_of D.Sectors store.old) w
-        → root.now ≡ root_of w → AreItsMembers w dims.now modes.now → ⊥ }
+    ensures answer { IfOk result
+        (λ yes. ForLaidWith D.Sectors store.old store.new root.now dims.now modes.now
+        (λ w. IsTrue yes ↔ All (IsSound w) w.cuboids)) }
+    ensures refused { IsErrOf result BadLayout
+        → ForLaidWith D.Sectors store.old store.new root.now dims.now modes.now (λ w. ⊥) }
 
     // The content stays, at each moment.
     ensures reads { ReadsOnly D.Sectors store.old store.new result }
-    ensures causes { IfErr result (λ fault. (fault ≡ Memory) ⊎ ((fault ≡ Device) ⊎ (fault ≡ BadLayout))) }
+    ensures causes { IfErr result EndsReading }
 {
     for cuboid in root.cuboids() {
         let sound = is_sound(alloc, store, root, dims, modes, *cuboid)?;
@@ -77,7 +76,7 @@ pub fn is_sound<D: Sectors>(
         → root.now ≡ root_of w → AreItsMembers w dims.now modes.now → cuboid_at cuboid.view w.cuboids ≡ Some stored
         → said_of stored ≡ cuboid → ⊥ }
     ensures reads { ReadsOnly D.Sectors store.old store.new result }
-    ensures causes { IfErr result (λ fault. (fault ≡ Memory) ⊎ ((fault ≡ Device) ⊎ (fault ≡ BadLayout))) }
+    ensures causes { IfErr result EndsReading }
 {
     match merged_runs(alloc, store, cuboid) {
         Ok(cells) => are_grouping(alloc, store, root, dims, modes, &cells, cuboid.mark),
@@ -98,16 +97,15 @@ fn are_grouping<D: Sectors>(
 ) -> Result<bool, Fault>
     requires fine { has_failed store.old ≡ false }
     requires within { mark ≤ length root.now.batches }
-    ensures answer { IfOk result (λ yes. D.keeps_word (device_of store.new) → (w : Warehouse)
-        → IsLaidOut (content_of D.Sectors store.old) w
-        → root.now ≡ root_of w → AreItsMembers w dims.now modes.now → index_of cells.now.view < view_count w.layout
-        → IsTrue yes ↔ RepresentRows w.rows (ship_modes_of w) (all_rows (take mark w.batches)) cells.now) }
-    ensures refused { IsErrOf result BadLayout → D.keeps_word (device_of store.new) → (w : Warehouse)
-        → IsLaidOut (content_of D.Sectors store.old) w
-        → root.now ≡ root_of w → AreItsMembers w dims.now modes.now → index_of cells.now.view < view_count w.layout
-        → ⊥ }
+    ensures answer { IfOk result
+        (λ yes. ForLaidWith D.Sectors store.old store.new root.now dims.now modes.now
+        (λ w. index_of cells.now.view < view_count w.layout → IsTrue yes
+        ↔ RepresentRows w.rows (ship_modes_of w) (all_rows (take mark w.batches)) cells.now)) }
+    ensures refused { IsErrOf result BadLayout
+        → ForLaidWith D.Sectors store.old store.new root.now dims.now modes.now
+        (λ w. index_of cells.now.view < view_count w.layout → ⊥) }
     ensures reads { ReadsOnly D.Sectors store.old store.new result }
-    ensures causes { IfErr result (λ fault. (fault ≡ Memory) ⊎ ((fault ≡ Device) ⊎ (fault ≡ BadLayout))) }
+    ensures causes { IfErr result EndsReading }
 {
     let span = Span { from: 0, to: mark };
     match cells_of_batches(alloc, store, root, dims, modes, cells.view(), span) {

@@ -9,8 +9,8 @@ ghost use Rattle.lattice.specs.Views.{index_of};
 ghost use Rattle.cuboid_upkeep.specs.Grouping.{RepresentRows};
 ghost use Rattle.cuboid_upkeep.specs.Steps.{HaveTooMany};
 ghost use Rattle.warehouse_objects.specs.Warehouse.{Warehouse, ship_modes_of};
-ghost use Rattle.warehouse_objects.specs.Reads.{ReadsOnly};
-ghost use Rattle.warehouse_objects.specs.Represents.{AreItsMembers, IsLaidOut, root_of, rows_in};
+ghost use Rattle.warehouse_objects.specs.Reads.{ForLaidWith, ReadsOnly};
+ghost use Rattle.warehouse_objects.specs.Represents.{AreItsMembers, IsLaidOut, rows_in};
 ghost use Rattle.warehouse_root.specs.Layouts.{view_count};
 ghost use Rattle.cuboid_upkeep.specs.Growing.{GrowOver, grown};
 ghost use Rattle.stored_cuboids.specs.Grouped.{GroupsBatch, GroupsMore, IsAddFaultOf, RepresentSomeRows};
@@ -51,13 +51,13 @@ pub fn cells_of_batches<D: Sectors>(
         → IsLaidOut (content_of D.Sectors store.old) w
         → AreItsMembers w dims.now modes.now → RepresentRows w.rows (ship_modes_of w) (rows_in w.batches span) cells) }
     ensures view { IfOk result (λ cells. cells.view ≡ view) }
-    ensures large { IsErrOf result (TooManyCells (index_of view)) → D.keeps_word (device_of store.new) → (w : Warehouse)
-        → IsLaidOut (content_of D.Sectors store.old) w → root.now ≡ root_of w → AreItsMembers w dims.now modes.now
-        → index_of view < view_count w.layout
-        → HaveTooMany w.rows (ship_modes_of w) view (rows_in w.batches span) }
-    ensures refused { IsErrOf result BadLayout → D.keeps_word (device_of store.new) → (w : Warehouse)
-        → IsLaidOut (content_of D.Sectors store.old) w → root.now ≡ root_of w → AreItsMembers w dims.now modes.now
-        → index_of view < view_count w.layout → ⊥ }
+    ensures large { IsErrOf result (TooManyCells (index_of view))
+        → ForLaidWith D.Sectors store.old store.new root.now dims.now modes.now
+        (λ w. index_of view < view_count w.layout
+        → HaveTooMany w.rows (ship_modes_of w) view (rows_in w.batches span)) }
+    ensures refused { IsErrOf result BadLayout
+        → ForLaidWith D.Sectors store.old store.new root.now dims.now modes.now
+        (λ w. index_of view < view_count w.layout → ⊥) }
 
     // The content stays, at each moment.
     ensures reads { ReadsOnly D.Sectors store.old store.new result }

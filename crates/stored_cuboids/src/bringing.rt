@@ -13,7 +13,7 @@ ghost use Rattle.warehouse_root.specs.Root.{IsProperCuboid, IsRoot};
 ghost use Rattle.warehouse_objects.specs.Loaded.{IsLoaded};
 ghost use Rattle.warehouse_objects.specs.Represents.{AreItsMembers, Represents};
 ghost use Rattle.warehouse_objects.specs.Warehouse.{Cuboid, Warehouse};
-ghost use Rattle.stored_cuboids.specs.Keeping.{IsCaughtUp, IsReached, StaysLoaded, StoreAt};
+ghost use Rattle.stored_cuboids.specs.Keeping.{ForStored, ForStoredWith, IsCaughtUp, IsReached, StaysLoaded, StoreAt};
 ghost use Rattle.stored_cuboids.specs.Nexts.{EndsBringing, IsBroughtBy, RefusesToBringOn, first_run};
 
 use crate::keeping::{Next, keep_one};
@@ -40,13 +40,12 @@ pub(crate) fn bring_on<D: Sectors>(
 ) -> Result<Option<View>, Fault>
     requires fine { has_failed store.old ≡ false }
     requires place { place < length root.old.cuboids }
-    ensures leaves { (w : Warehouse) → StoreAt D.Sectors store.old root.old w
-        → (D.keeps_word (device_of store.old) → AreItsMembers w dims.now modes.now)
-        → Leaves (disk_of D.Sectors store.old) (disk_of D.Sectors store.new)
-        (λ c. (v : Warehouse) × IsCaughtUp w v × Represents c v) }
-    ensures stays { (IsErrOf result Device → ⊥) → (w : Warehouse) → StoreAt D.Sectors store.old root.old w
-        → (D.keeps_word (device_of store.old) → AreItsMembers w dims.now modes.now)
-        → (v : Warehouse) × IsCaughtUp w v × StoreAt D.Sectors store.new root.new v }
+    ensures leaves { ForStoredWith D.Sectors store.old root.old dims.now modes.now
+        (λ w. Leaves (disk_of D.Sectors store.old) (disk_of D.Sectors store.new)
+        (λ c. (v : Warehouse) × IsCaughtUp w v × Represents c v)) }
+    ensures stays { (IsErrOf result Device → ⊥)
+        → ForStoredWith D.Sectors store.old root.old dims.now modes.now
+        (λ w. (v : Warehouse) × IsCaughtUp w v × StoreAt D.Sectors store.new root.new v) }
     ensures reached { IfOk result (λ passed. (v : Warehouse) → StoreAt D.Sectors store.new root.new v
         → D.keeps_word (device_of store.new) → AreItsMembers v dims.now modes.now
         → (cuboid : Cuboid) → slice_get v.cuboids place ≡ Some cuboid → IsReached passed v cuboid) }
@@ -54,15 +53,13 @@ pub(crate) fn bring_on<D: Sectors>(
     ensures fine { OnOk result (has_failed store.new ≡ false) }
     ensures failures { OnOk result ((disk_of D.Sectors store.new).failures ≡ (disk_of D.Sectors store.old).failures) }
     ensures reason { IfErr result (λ fault. fault ≢ Device → fault ≢ Memory → D.keeps_word (device_of store.new)
-        → (w : Warehouse)
-        → StoreAt D.Sectors store.old root.old w
-        → (D.keeps_word (device_of store.old) → AreItsMembers w dims.now modes.now)
-        → (next : RefusesToBringOn D.Sectors store.new w fault) × (slice_get w.cuboids place ≡ Some next.old)) }
-    ensures refused { IfErr result (λ fault. fault ≢ Device → (w : Warehouse) → StoreAt D.Sectors store.old root.old w
-        → StoreAt D.Sectors store.new root.new w) }
-    ensures readable { IsErrOf result BadLayout → D.keeps_word (device_of store.new) → (w : Warehouse)
-        → StoreAt D.Sectors store.old root.old w
-        → (D.keeps_word (device_of store.old) → AreItsMembers w dims.now modes.now) → ⊥ }
+        → ForStoredWith D.Sectors store.old root.old dims.now modes.now
+        (λ w. (next : RefusesToBringOn D.Sectors store.new w fault) × (slice_get w.cuboids place ≡ Some next.old))) }
+    ensures refused { IfErr result
+        (λ fault. fault ≢ Device
+        → ForStored D.Sectors store.old root.old (λ w. StoreAt D.Sectors store.new root.new w)) }
+    ensures readable { IsErrOf result BadLayout → D.keeps_word (device_of store.new)
+        → ForStoredWith D.Sectors store.old root.old dims.now modes.now (λ w. ⊥) }
     ensures causes { IfErr result EndsBringing }
     ensures failed { IsErrOf result Failed → ⊥ }
     ensures device { IsErrOf result Device → Breaks D.Sectors store.old store.new }
@@ -130,8 +127,8 @@ fn put_next<D: Sectors>(
     ensures causes { IfErr result (λ fault. fault ≢ Device → (fault ≡ BadLayout)
         ⊎ Refuses (content_of D.Sectors store.old) (room_of store.old)
         ((next.id, next.bytes.items) ∷ []) next.drops.items next.root_bytes.items fault) }
-    ensures readable { IsErrOf result BadLayout → D.keeps_word (device_of store.new) → (w : Warehouse)
-        → StoreAt D.Sectors store.old root.old w → ⊥ }
+    ensures readable { IsErrOf result BadLayout → D.keeps_word (device_of store.new)
+        → ForStored D.Sectors store.old root.old (λ w. ⊥) }
     ensures failed { IsErrOf result Failed → ⊥ }
     ensures device { IsErrOf result Device → Breaks D.Sectors store.old store.new }
     ensures word { D.keeps_word (device_of store.new) → D.keeps_word (device_of store.old) }

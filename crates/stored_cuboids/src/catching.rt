@@ -1,12 +1,12 @@
 //! Bringing stored cuboids to their target.
-ghost use Rattle.std.specs.Prelude.{◌≡◌, ◌≢◌, ◌<◌, ◌+◌, ◌-◌, ◌^◌, min, false, true, IfErr};
+ghost use Rattle.std.specs.Prelude.{◌≡◌, ◌≢◌, ◌+◌, ◌-◌, ◌^◌, min, false, true, IfErr};
 ghost use Rattle.std.specs.Prelude.{IfOk, IsErrOf};
 ghost use Rattle.cube_model.specs.declared.fault.Fault.TheVariants.{BadLayout, Device, Failed, Memory};
 ghost use Rattle.object_store.specs.Disk.{Leaves};
 ghost use Rattle.object_store.specs.Store.{device_of, disk_of, has_failed};
-ghost use Rattle.warehouse_objects.specs.Represents.{AreItsMembers, Represents};
+ghost use Rattle.warehouse_objects.specs.Represents.{Represents};
 ghost use Rattle.warehouse_objects.specs.Warehouse.{Warehouse};
-ghost use Rattle.stored_cuboids.specs.Keeping.{IsCaughtUp, IsDone, StaysLoaded, StoreAt};
+ghost use Rattle.stored_cuboids.specs.Keeping.{ForStoredWith, IsCaughtUp, IsDone, StaysLoaded, StoreAt};
 ghost use Rattle.stored_cuboids.specs.Nexts.{EndsBringing, RefusesLeast};
 
 use crate::bringing::bring_on;
@@ -35,27 +35,24 @@ pub fn catch_up<D: Sectors>(
     requires fine { has_failed store.old ≡ false }
 
     // A crash at any point leaves the warehouse with the cuboids that were brought on until then.
-    ensures leaves { (w : Warehouse) → StoreAt D.Sectors store.old root.old w
-        → (D.keeps_word (device_of store.old) → AreItsMembers w dims.now modes.now)
-        → Leaves (disk_of D.Sectors store.old) (disk_of D.Sectors store.new)
-        (λ c. (v : Warehouse) × IsCaughtUp w v × Represents c v) }
-    ensures stays { (IsErrOf result Device → ⊥) → (w : Warehouse) → StoreAt D.Sectors store.old root.old w
-        → (D.keeps_word (device_of store.old) → AreItsMembers w dims.now modes.now)
-        → (v : Warehouse) × IsCaughtUp w v × StoreAt D.Sectors store.new root.new v }
-    ensures ok { IfOk result (λ passed. (w : Warehouse) → StoreAt D.Sectors store.old root.old w
-        → (D.keeps_word (device_of store.old) → AreItsMembers w dims.now modes.now)
-        → (v : Warehouse) × IsCaughtUp w v × StoreAt D.Sectors store.new root.new v
-        × (D.keeps_word (device_of store.new) → IsDone v passed)) }
+    ensures leaves { ForStoredWith D.Sectors store.old root.old dims.now modes.now
+        (λ w. Leaves (disk_of D.Sectors store.old) (disk_of D.Sectors store.new)
+        (λ c. (v : Warehouse) × IsCaughtUp w v × Represents c v)) }
+    ensures stays { (IsErrOf result Device → ⊥)
+        → ForStoredWith D.Sectors store.old root.old dims.now modes.now
+        (λ w. (v : Warehouse) × IsCaughtUp w v × StoreAt D.Sectors store.new root.new v) }
+    ensures ok { IfOk result
+        (λ passed. ForStoredWith D.Sectors store.old root.old dims.now modes.now
+        (λ w. (v : Warehouse) × IsCaughtUp w v × StoreAt D.Sectors store.new root.new v
+        × (D.keeps_word (device_of store.new) → IsDone v passed))) }
 
     // The store refused the commit that brings the least of the others on.
-    ensures reason { IfErr result (λ fault. fault ≢ Device → fault ≢ Memory → (w : Warehouse)
-        → StoreAt D.Sectors store.old root.old w
-        → (D.keeps_word (device_of store.old) → AreItsMembers w dims.now modes.now)
-        → (v : Warehouse) × IsCaughtUp w v × StoreAt D.Sectors store.new root.new v
-        × (D.keeps_word (device_of store.new) → RefusesLeast D.Sectors store.new v fault)) }
-    ensures readable { IsErrOf result BadLayout → D.keeps_word (device_of store.new) → (w : Warehouse)
-        → StoreAt D.Sectors store.old root.old w
-        → (D.keeps_word (device_of store.old) → AreItsMembers w dims.now modes.now) → ⊥ }
+    ensures reason { IfErr result (λ fault. fault ≢ Device → fault ≢ Memory
+        → ForStoredWith D.Sectors store.old root.old dims.now modes.now
+        (λ w. (v : Warehouse) × IsCaughtUp w v × StoreAt D.Sectors store.new root.new v
+        × (D.keeps_word (device_of store.new) → RefusesLeast D.Sectors store.new v fault))) }
+    ensures readable { IsErrOf result BadLayout → D.keeps_word (device_of store.new)
+        → ForStoredWith D.Sectors store.old root.old dims.now modes.now (λ w. ⊥) }
     ensures causes { IfErr result EndsBringing }
     ensures failed { IsErrOf result Failed → ⊥ }
     ensures device { IsErrOf result Device → (has_failed store.new ≡ true)

@@ -1,6 +1,6 @@
 //! The runs of a stored cuboid, counted into a fold.
-ghost use Rattle.std.specs.Prelude.{◌≡◌, ◌⊎◌, [], List, Some, false, take, IfErr, IfOk, IsErrOf, OnOk};
-ghost use Rattle.cube_model.specs.declared.fault.Fault.TheVariants.{BadLayout, Device, Memory};
+ghost use Rattle.std.specs.Prelude.{◌≡◌, [], List, Some, false, take, IfErr, IfOk, IsErrOf, OnOk};
+ghost use Rattle.cube_model.specs.declared.fault.Fault.TheVariants.{BadLayout};
 ghost use Rattle.cube_model.specs.declared.rows.LineOrder.{LineOrder};
 ghost use Rattle.cube_model.specs.Admission.{all_rows};
 ghost use Rattle.object_store.specs.Content.{bytes_of};
@@ -15,7 +15,7 @@ ghost use Rattle.cuboid_upkeep.specs.Grouping.{RepresentRows};
 ghost use Rattle.cube_query.specs.CellRuns.{TakesRun};
 ghost use Rattle.cube_query.specs.Groups.{CanTake, IsOver, RepresentsRows};
 ghost use Rattle.warehouse_objects.specs.Warehouse.{Cuboid, Warehouse, cuboid_at};
-ghost use Rattle.warehouse_objects.specs.Reads.{ReadsOnly};
+ghost use Rattle.warehouse_objects.specs.Reads.{EndsReading, ReadsOnly};
 ghost use Rattle.warehouse_objects.specs.Represents.{AreItsMembers, Represents, said_of};
 ghost use Rattle.stored_cuboids.specs.Counted.{CountsRun};
 ghost use Rattle.stored_cuboids.specs.Steps.{IsNextRun};
@@ -68,7 +68,7 @@ pub fn fold_runs<D: Sectors>(
 
     // The content stays, at each moment.
     ensures reads { ReadsOnly D.Sectors store.old store.new result }
-    ensures causes { IfErr result (λ fault. (fault ≡ Memory) ⊎ ((fault ≡ Device) ⊎ (fault ≡ BadLayout))) }
+    ensures causes { IfErr result EndsReading }
 {
     let mut at = Progress {
         end: 0,
@@ -115,7 +115,7 @@ fn fold_run<D: Sectors>(
         → IsNextRun (content_of D.Sectors store.old) id view at cells next → RepresentRows dims.now modes.now rows cells
         → CanTake dims.now fold.old rows → ⊥ }
     ensures reads { ReadsOnly D.Sectors store.old store.new result }
-    ensures causes { IfErr result (λ fault. (fault ≡ Memory) ⊎ ((fault ≡ Device) ⊎ (fault ≡ BadLayout))) }
+    ensures causes { IfErr result EndsReading }
 {
     let (mut reader, next) = open_next(alloc, store, view, at, id)?;
     fold_cells(store, dims, modes, fold, &mut reader)?;
@@ -144,7 +144,7 @@ fn fold_cells<D: Sectors>(
         → (rows : List LineOrder) → RepresentRows dims.now modes.now rows (cells_of run.old.head.view cells)
         → CanTake dims.now fold.old rows → ⊥ }
     ensures reads { ReadsOnly D.Sectors store.old store.new result }
-    ensures causes { IfErr result (λ fault. (fault ≡ Memory) ⊎ ((fault ≡ Device) ⊎ (fault ≡ BadLayout))) }
+    ensures causes { IfErr result EndsReading }
 {
     fold.add_run(dims, store, run, Some(modes.dictionary()))
 }

@@ -1,6 +1,6 @@
 //! Reading the runs of a stored cuboid, one after another.
-ghost use Rattle.std.specs.Prelude.{◌≡◌, ◌⊎◌, ◌↔◌, Some, false, IfErr, IfNone, IfOk, IfSome, IsErrOf, IsTrue};
-ghost use Rattle.cube_model.specs.declared.fault.Fault.TheVariants.{BadLayout, Device, Memory};
+ghost use Rattle.std.specs.Prelude.{◌≡◌, ◌↔◌, Some, false, IfErr, IfNone, IfOk, IfSome, IsErrOf, IsTrue};
+ghost use Rattle.cube_model.specs.declared.fault.Fault.TheVariants.{BadLayout};
 ghost use Rattle.object_store.specs.Content.{bytes_of};
 ghost use Rattle.object_store.specs.Store.{content_of, device_of, has_failed, size_in};
 ghost use Rattle.cuboid_cells.specs.Cells.{PlainCells};
@@ -8,7 +8,7 @@ ghost use Rattle.cuboid_cells.specs.Pieces.{IsAtFirst, size_of_run};
 ghost use Rattle.cuboid_cells.specs.declared.span.Span.{Span};
 ghost use Rattle.stored_cuboids.specs.Steps.{GoesOn, ObjectIsRun, IsNextRun, run_head_of};
 ghost use Rattle.stored_cuboids.specs.declared.reading.Progress.{Progress};
-ghost use Rattle.warehouse_objects.specs.Reads.{ReadsOnly};
+ghost use Rattle.warehouse_objects.specs.Reads.{EndsReading, ReadsOnly};
 
 use cube_model::Fault;
 use cuboid_cells::{Cells, RunHead, RunReader, Span, decode_from};
@@ -55,7 +55,7 @@ pub(crate) fn read_next<D: Sectors>(
         → (cells : PlainCells) (next : Progress)
         → IsNextRun (content_of D.Sectors store.old) id view at cells next → ⊥ }
     ensures reads { ReadsOnly D.Sectors store.old store.new result }
-    ensures causes { IfErr result (λ fault. (fault ≡ Memory) ⊎ ((fault ≡ Device) ⊎ (fault ≡ BadLayout))) }
+    ensures causes { IfErr result EndsReading }
 {
     let (span, cells) = read_run(alloc, store, id)?;
     match go_on(view, at, head_of(span, &cells)) {
@@ -84,7 +84,7 @@ pub(crate) fn open_next<D: Sectors>(
         → (cells : PlainCells) (next : Progress)
         → IsNextRun (content_of D.Sectors store.old) id view at cells next → ⊥ }
     ensures reads { ReadsOnly D.Sectors store.old store.new result }
-    ensures causes { IfErr result (λ fault. (fault ≡ Memory) ⊎ ((fault ≡ Device) ⊎ (fault ≡ BadLayout))) }
+    ensures causes { IfErr result EndsReading }
 {
     let reader = open_run(alloc, store, id)?;
     match go_on(view, at, reader.head()) {
@@ -103,7 +103,7 @@ fn open_run<D: Sectors>(alloc: Global, store: &mut Store<D>, id: u32) -> Result<
     ensures refused { IsErrOf result BadLayout → D.keeps_word (device_of store.new) → (span : Span) (cells : PlainCells)
         → ObjectIsRun (content_of D.Sectors store.old) id span cells → ⊥ }
     ensures reads { ReadsOnly D.Sectors store.old store.new result }
-    ensures causes { IfErr result (λ fault. (fault ≡ Memory) ⊎ ((fault ≡ Device) ⊎ (fault ≡ BadLayout))) }
+    ensures causes { IfErr result EndsReading }
 {
     RunReader::open(alloc, store, id)
 }
@@ -120,7 +120,7 @@ fn read_run<D: Sectors>(
     ensures refused { IsErrOf result BadLayout → D.keeps_word (device_of store.new) → (span : Span) (cells : PlainCells)
         → ObjectIsRun (content_of D.Sectors store.old) id span cells → ⊥ }
     ensures reads { ReadsOnly D.Sectors store.old store.new result }
-    ensures causes { IfErr result (λ fault. (fault ≡ Memory) ⊎ ((fault ≡ Device) ⊎ (fault ≡ BadLayout))) }
+    ensures causes { IfErr result EndsReading }
 {
     decode_from(alloc, store, id)
 }

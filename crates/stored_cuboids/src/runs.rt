@@ -1,6 +1,6 @@
 //! The runs of a stored cuboid, merged.
 ghost use Rattle.std.specs.Prelude.{◌≡◌, ◌⊎◌, Some, false, take, IfErr, IfOk, IsErrOf, OnOk};
-ghost use Rattle.cube_model.specs.declared.fault.Fault.TheVariants.{BadLayout, Device, Memory};
+ghost use Rattle.cube_model.specs.declared.fault.Fault.TheVariants.{BadLayout, Memory};
 ghost use Rattle.cube_model.specs.Admission.{all_rows};
 ghost use Rattle.object_store.specs.Store.{content_of, device_of, has_failed};
 ghost use Rattle.lattice.specs.Views.{index_of};
@@ -8,7 +8,7 @@ ghost use Rattle.cuboid_cells.specs.Merges.{IsMergeOf};
 ghost use Rattle.cuboid_cells.specs.Cells.{AreProperCells, PlainCells};
 ghost use Rattle.cuboid_upkeep.specs.Grouping.{RepresentRows};
 ghost use Rattle.warehouse_objects.specs.Warehouse.{Cuboid, Warehouse, cuboid_at, ship_modes_of};
-ghost use Rattle.warehouse_objects.specs.Reads.{ReadsOnly};
+ghost use Rattle.warehouse_objects.specs.Reads.{EndsReading, ReadsOnly};
 ghost use Rattle.warehouse_objects.specs.Represents.{IsLaidOut, Represents, said_of};
 ghost use Rattle.stored_cuboids.specs.Merged.{HasMerge, IsSound};
 ghost use Rattle.stored_cuboids.specs.Steps.{MergesRun};
@@ -54,7 +54,7 @@ pub fn merged_runs<D: Sectors>(
 
     // The content stays, at each moment.
     ensures reads { ReadsOnly D.Sectors store.old store.new result }
-    ensures causes { IfErr result (λ fault. (fault ≡ Memory) ⊎ ((fault ≡ Device) ⊎ (fault ≡ BadLayout))) }
+    ensures causes { IfErr result EndsReading }
 {
     let Some(view) = View::new(cuboid.view) else {
         return Err(Fault::BadLayout);
@@ -79,7 +79,7 @@ fn merge_all<D: Sectors>(
         → IsLaidOut (content_of D.Sectors store.old) w
         → cuboid_at cuboid.view w.cuboids ≡ Some stored → said_of stored ≡ cuboid → IsSound w stored → ⊥ }
     ensures reads { ReadsOnly D.Sectors store.old store.new result }
-    ensures causes { IfErr result (λ fault. (fault ≡ Memory) ⊎ ((fault ≡ Device) ⊎ (fault ≡ BadLayout))) }
+    ensures causes { IfErr result EndsReading }
 {
     let mut cells = Cells::empty(alloc, view);
     let mut at = Progress {
@@ -111,7 +111,7 @@ fn merge_run<D: Sectors>(
         → (new : PlainCells) (next : Progress)
         → MergesRun (content_of D.Sectors store.old) id cells.old at new next → ⊥ }
     ensures reads { ReadsOnly D.Sectors store.old store.new result }
-    ensures causes { IfErr result (λ fault. (fault ≡ Memory) ⊎ ((fault ≡ Device) ⊎ (fault ≡ BadLayout))) }
+    ensures causes { IfErr result EndsReading }
 {
     let (read, next) = read_next(alloc, store, cells.view(), at, id)?;
     merge_in(alloc, cells, &read)?;

@@ -3,9 +3,9 @@ ghost use Rattle.std.specs.Prelude.{◌≡◌, ◌≢◌, ◌↔◌, All, IsTrue
 ghost use Rattle.cube_model.specs.declared.fault.Fault.TheVariants.{BadLayout, Device, Failed};
 ghost use Rattle.object_store.specs.Disk.{Leaves};
 ghost use Rattle.object_store.specs.Store.{Breaks, device_of, disk_of, has_failed};
-ghost use Rattle.warehouse_objects.specs.Represents.{AreItsMembers, Represents};
+ghost use Rattle.warehouse_objects.specs.Represents.{Represents};
 ghost use Rattle.warehouse_objects.specs.Warehouse.{Warehouse};
-ghost use Rattle.stored_cuboids.specs.Keeping.{IsKeptUp, StaysLoaded, StoreAt};
+ghost use Rattle.stored_cuboids.specs.Keeping.{ForStoredWith, IsKeptUp, StaysLoaded, StoreAt};
 ghost use Rattle.stored_cuboids.specs.Upkeep.{AreWholeBut, KeepUpRefuses};
 
 use crate::aiming::aim;
@@ -35,23 +35,23 @@ pub fn keep_up<D: Sectors>(
     requires fine { has_failed store.old ≡ false }
 
     // A crash leaves the same rows, batches and views, and no mark less.
-    ensures leaves { (w : Warehouse) → StoreAt D.Sectors store.old root.old w
-        → (D.keeps_word (device_of store.old) → AreItsMembers w dims.now modes.now)
-        → Leaves (disk_of D.Sectors store.old) (disk_of D.Sectors store.new)
-        (λ c. (v : Warehouse) × IsKeptUp w v × Represents c v) }
-    ensures stays { (IsErrOf result Device → ⊥) → (w : Warehouse) → StoreAt D.Sectors store.old root.old w
-        → (D.keeps_word (device_of store.old) → AreItsMembers w dims.now modes.now)
-        → (v : Warehouse) × IsKeptUp w v × StoreAt D.Sectors store.new root.new v }
-    ensures ok { IfOk result (λ passed. (w : Warehouse) → StoreAt D.Sectors store.old root.old w
-        → (D.keeps_word (device_of store.old) → AreItsMembers w dims.now modes.now)
-        → (v : Warehouse) × IsKeptUp w v × StoreAt D.Sectors store.new root.new v
-        × (D.keeps_word (device_of store.new) → AreWholeBut v passed)) }
+    ensures leaves { ForStoredWith D.Sectors store.old root.old dims.now modes.now
+        (λ w. Leaves (disk_of D.Sectors store.old) (disk_of D.Sectors store.new)
+        (λ c. (v : Warehouse) × IsKeptUp w v × Represents c v)) }
+    ensures stays { (IsErrOf result Device → ⊥)
+        → ForStoredWith D.Sectors store.old root.old dims.now modes.now
+        (λ w. (v : Warehouse) × IsKeptUp w v × StoreAt D.Sectors store.new root.new v) }
+    ensures ok { IfOk result
+        (λ passed. ForStoredWith D.Sectors store.old root.old dims.now modes.now
+        (λ w. (v : Warehouse) × IsKeptUp w v × StoreAt D.Sectors store.new root.new v
+        × (D.keeps_word (device_of store.new) → AreWholeBut v passed))) }
 
     // Or a commit on the way was refused.
-    ensures refused { IfErr result (λ fault. fault ≢ Device → (w : Warehouse) → StoreAt D.Sectors store.old root.old w
-        → (D.keeps_word (device_of store.old) → AreItsMembers w dims.now modes.now)
-        → (v : Warehouse) × IsKeptUp w v × StoreAt D.Sectors store.new root.new v
-        × (D.keeps_word (device_of store.new) → KeepUpRefuses D.Sectors store.new v fault)) }
+    ensures refused { IfErr result
+        (λ fault. fault ≢ Device
+        → ForStoredWith D.Sectors store.old root.old dims.now modes.now
+        (λ w. (v : Warehouse) × IsKeptUp w v × StoreAt D.Sectors store.new root.new v
+        × (D.keeps_word (device_of store.new) → KeepUpRefuses D.Sectors store.new v fault))) }
     ensures failed { IsErrOf result Failed → ⊥ }
     ensures device { IsErrOf result Device → Breaks D.Sectors store.old store.new }
 

@@ -9,8 +9,8 @@ ghost use Rattle.object_store.specs.Store.{room_of};
 ghost use Rattle.warehouse_root.specs.Limits.{most_cuboids};
 ghost use Rattle.warehouse_root.specs.Root as roots;
 ghost use Rattle.warehouse_objects.specs.Represents.{Represents, root_of, said_below, said_or_new, said_with};
-ghost use Rattle.warehouse_objects.specs.Warehouse.{Warehouse, dropped_ids, is_among, with_views};
-ghost use Rattle.stored_cuboids.specs.Keeping.{StaysLoaded, StoreAt};
+ghost use Rattle.warehouse_objects.specs.Warehouse.{dropped_ids, is_among, with_views};
+ghost use Rattle.stored_cuboids.specs.Keeping.{ForStored, StaysLoaded, StoreAt};
 ghost use Rattle.stored_cuboids.specs.Replacing.{dropped_of};
 
 use crate::replacing::replace_root;
@@ -37,28 +37,31 @@ pub fn set_views<D: Sectors>(
     requires few { length views.now ≤ most_cuboids }
 
     // A crash at any point leaves the warehouse before or after.
-    ensures leaves { (w : Warehouse) → StoreAt D.Sectors store.old root.old w
-        → Leaves (disk_of D.Sectors store.old) (disk_of D.Sectors store.new)
-        (λ c. Represents c w ⊎ Represents c (with_views w views.now)) }
+    ensures leaves { ForStored D.Sectors store.old root.old
+        (λ w. Leaves (disk_of D.Sectors store.old) (disk_of D.Sectors store.new)
+        (λ c. Represents c w ⊎ Represents c (with_views w views.now))) }
 
     // Then the warehouse after.
-    ensures ok { OnOk result ((w : Warehouse) → StoreAt D.Sectors store.old root.old w
-        → StoreAt D.Sectors store.new root.new (with_views w views.now)) }
+    ensures ok { OnOk result
+        (ForStored D.Sectors store.old root.old (λ w. StoreAt D.Sectors store.new root.new (with_views w views.now))) }
     ensures once { OnOk result (D.keeps_word (device_of store.new)
         → (content_of D.Sectors store.new).generation ≡ (content_of D.Sectors store.old).generation + 1) }
     ensures fine { OnOk result (has_failed store.new ≡ false) }
     ensures failures { OnOk result ((disk_of D.Sectors store.new).failures ≡ (disk_of D.Sectors store.old).failures) }
 
     // What a refusal leaves, and when it comes.
-    ensures refused { IfErr result (λ fault. fault ≢ Device → (w : Warehouse) → StoreAt D.Sectors store.old root.old w
-        → StoreAt D.Sectors store.new root.new w
-        × Leaves (disk_of D.Sectors store.old) (disk_of D.Sectors store.new) (λ c. Represents c w)) }
+    ensures refused { IfErr result
+        (λ fault. fault ≢ Device
+        → ForStored D.Sectors store.old root.old
+        (λ w. StoreAt D.Sectors store.new root.new w
+        × Leaves (disk_of D.Sectors store.old) (disk_of D.Sectors store.new) (λ c. Represents c w))) }
     ensures kept { OnErr result (root.new ≡ root.old) }
     ensures as_before { IfErr result (λ fault. fault ≢ Device → IsAsBefore D.Sectors store.old store.new) }
-    ensures causes { IfErr result (λ fault. fault ≢ Device → (w : Warehouse) → StoreAt D.Sectors store.old root.old w
-        → D.keeps_word (device_of store.new)
+    ensures causes { IfErr result
+        (λ fault. fault ≢ Device
+        → ForStored D.Sectors store.old root.old (λ w. D.keeps_word (device_of store.new)
         → Refuses (content_of D.Sectors store.old) (room_of store.old) [] (dropped_ids w views.now)
-        (roots.root_spelling (root_of (with_views w views.now))) fault) }
+        (roots.root_spelling (root_of (with_views w views.now))) fault)) }
     ensures failed { IsErrOf result Failed → ⊥ }
     ensures device { IsErrOf result Device → Breaks D.Sectors store.old store.new }
 

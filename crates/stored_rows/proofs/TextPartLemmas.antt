@@ -18,7 +18,8 @@ use Rattle.dictionary.specs.Dictionary.{firsts}
 use Rattle.dictionary.specs.Spelling.{text_spelling, texts_spelling}
 use Rattle.dictionary.proofs.CallerLemmas.{bytes_eq-refl, bytes_eq-same}
 use Rattle.object_store.specs.Content.{Content, bytes_of}
-use Rattle.column_segment.specs.Columns.{Column, number_columns, text_columns, text_of}
+use Rattle.column_segment.specs.declared.columns.FactColumn.{FactColumn}
+use Rattle.column_segment.specs.Columns.{fact_value, number_columns, text_columns, text_of, width_of}
 use Rattle.column_segment.specs.declared.columns.TextColumn.TheVariants.{ShipMode}
 use Rattle.column_segment.specs.Projected.{HasColumns, HoldsNoneOf}
 use Rattle.column_segment.specs.Reading.{HasHeader}
@@ -40,22 +41,22 @@ length-header number rows =
       length-spelling 4 rows,
     )
 
-length-column : (column : Column) (rows : List LineOrder)
-    → length (number_column rows column) ≡ column.width * length rows
+length-column : (column : FactColumn) (rows : List LineOrder)
+    → length (number_column rows column) ≡ width_of column * length rows
 length-column column [] = omega arith
 length-column column (row ∷ rows) =
     omega (
       arith,
-      length-append (spelling column.width (column.value row)) (number_column rows column),
-      length-spelling column.width (column.value row),
+      length-append (spelling (width_of column) (fact_value column row)) (number_column rows column),
+      length-spelling (width_of column) (fact_value column row),
       length-column column rows,
     )
 
-widths : List Column → ℕ
+widths : List FactColumn → ℕ
 widths [] = 0
-widths (column ∷ columns) = column.width + widths columns
+widths (column ∷ columns) = width_of column + widths columns
 
-length-columns : (columns : List Column) (rows : List LineOrder)
+length-columns : (columns : List FactColumn) (rows : List LineOrder)
     → length (flat_map (number_column rows) columns) ≡ widths columns * length rows
 unfolding widths
 length-columns [] rows = omega arith

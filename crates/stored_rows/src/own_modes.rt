@@ -1,11 +1,9 @@
 //! Comparing the ship modes that a store keeps with those of its batches.
 ghost use Rattle.std.specs.Prelude.{◌≡◌, ◌⊎◌, false, true, IfErr, IfOk};
 ghost use Rattle.cube_model.specs.declared.fault.Fault.TheVariants.{Device, Memory};
-ghost use Rattle.object_store.specs.Store.{content_of, device_of, has_failed};
+ghost use Rattle.object_store.specs.Store.{has_failed};
 ghost use Rattle.warehouse_root.specs.declared.layout.Layout.TheVariants.{Second};
-ghost use Rattle.warehouse_objects.specs.Reads.{ReadsOnly};
-ghost use Rattle.warehouse_objects.specs.Represents.{Represents, root_of};
-ghost use Rattle.warehouse_objects.specs.Warehouse.{Warehouse};
+ghost use Rattle.warehouse_objects.specs.Reads.{ForHeldOfRoot, ReadsOnly};
 ghost use Rattle.stored_rows.specs.Comparing.{ends_reading};
 
 use crate::ship_modes::read_ship_modes;
@@ -28,8 +26,7 @@ pub fn has_own_ship_modes<D: Sectors>(
     requires fine { has_failed store.old ≡ false }
 
     // They are in each warehouse.
-    ensures no { IfOk result (λ yes. yes ≡ false → D.keeps_word (device_of store.new) → (w : Warehouse)
-        → Represents (content_of D.Sectors store.old) w → root.now ≡ root_of w → ⊥) }
+    ensures no { IfOk result (λ yes. yes ≡ false → ForHeldOfRoot D.Sectors store.old store.new root.now (λ w. ⊥)) }
 
     // The content stays, at each moment.
     ensures reads { ReadsOnly D.Sectors store.old store.new result }
@@ -49,8 +46,7 @@ fn has_those_of_batches<D: Sectors>(
 ) -> Result<bool, Fault>
     requires fine { has_failed store.old ≡ false }
     requires second { root.now.layout ≡ Second }
-    ensures no { IfOk result (λ yes. yes ≡ false → D.keeps_word (device_of store.new) → (w : Warehouse)
-        → Represents (content_of D.Sectors store.old) w → root.now ≡ root_of w → ⊥) }
+    ensures no { IfOk result (λ yes. yes ≡ false → ForHeldOfRoot D.Sectors store.old store.new root.now (λ w. ⊥)) }
     ensures reads { ReadsOnly D.Sectors store.old store.new result }
     ensures causes { IfErr result (λ fault. (fault ≡ Memory) ⊎ (fault ≡ Device)) }
 {

@@ -1,14 +1,12 @@
 //! Reading the fact rows of a stored batch.
-ghost use Rattle.std.specs.Prelude.{◌≡◌, ◌⊎◌, ◌<◌, ◌≤◌, false, slice_get, IfErr, IfOk, IfSome, IsErrOf};
-ghost use Rattle.cube_model.specs.declared.fault.Fault.TheVariants.{BadLayout, Device, Memory};
+ghost use Rattle.std.specs.Prelude.{◌≡◌, ◌<◌, ◌≤◌, false, slice_get, IfErr, IfOk, IfSome, IsErrOf};
+ghost use Rattle.cube_model.specs.declared.fault.Fault.TheVariants.{BadLayout, Memory};
 ghost use Rattle.cube_model.specs.Limits.{most_batches};
 ghost use Rattle.object_store.specs.Content.{bytes_of};
 ghost use Rattle.object_store.specs.Store.{content_of, device_of, has_failed};
 ghost use Rattle.column_segment.specs.Projected.{HoldsNoneOf};
 ghost use Rattle.warehouse_root.specs.Objects.{segment_id};
-ghost use Rattle.warehouse_objects.specs.Warehouse.{Warehouse};
-ghost use Rattle.warehouse_objects.specs.Reads.{ReadsOnly};
-ghost use Rattle.warehouse_objects.specs.Represents.{Represents, root_of};
+ghost use Rattle.warehouse_objects.specs.Reads.{EndsReading, ForHeldOfRoot, ReadsOnly};
 ghost use Rattle.stored_rows.specs.Stored.{HoldsBatch};
 
 use column_segment::Segment;
@@ -33,16 +31,13 @@ pub fn read_rows<D: Sectors>(
     requires fine { has_failed store.old ≡ false }
 
     // The rows are those of that batch of the warehouse, and there are none exactly where it has no such batch.
-    ensures rows { IfOk result (λ found. D.keeps_word (device_of store.new) → (w : Warehouse)
-        → Represents (content_of D.Sectors store.old) w
-        → root.now ≡ root_of w → found ≡ slice_get w.batches before) }
-    ensures refused { IsErrOf result BadLayout → D.keeps_word (device_of store.new) → (w : Warehouse)
-        → Represents (content_of D.Sectors store.old) w
-        → root.now ≡ root_of w → ⊥ }
+    ensures rows { IfOk result
+        (λ found. ForHeldOfRoot D.Sectors store.old store.new root.now (λ w. found ≡ slice_get w.batches before)) }
+    ensures refused { IsErrOf result BadLayout → ForHeldOfRoot D.Sectors store.old store.new root.now (λ w. ⊥) }
 
     // The content stays, at each moment.
     ensures reads { ReadsOnly D.Sectors store.old store.new result }
-    ensures causes { IfErr result (λ fault. (fault ≡ Memory) ⊎ ((fault ≡ Device) ⊎ (fault ≡ BadLayout))) }
+    ensures causes { IfErr result EndsReading }
 {
     match count_of(root, before) {
         None => Ok(None),
@@ -76,7 +71,7 @@ fn read_batch<D: Sectors>(
     ensures refused { IsErrOf result BadLayout → D.keeps_word (device_of store.new)
         → HoldsNoneOf (bytes_of (content_of D.Sectors store.old) (segment_id number)) number count }
     ensures reads { ReadsOnly D.Sectors store.old store.new result }
-    ensures causes { IfErr result (λ fault. (fault ≡ Memory) ⊎ ((fault ≡ Device) ⊎ (fault ≡ BadLayout))) }
+    ensures causes { IfErr result EndsReading }
 {
     let segment = read_segment(alloc, store, number, count)?;
     rows_in(alloc, &segment)
@@ -96,7 +91,7 @@ fn read_segment<D: Sectors>(
     ensures refused { IsErrOf result BadLayout → D.keeps_word (device_of store.new)
         → HoldsNoneOf (bytes_of (content_of D.Sectors store.old) (segment_id number)) number count }
     ensures reads { ReadsOnly D.Sectors store.old store.new result }
-    ensures causes { IfErr result (λ fault. (fault ≡ Memory) ⊎ ((fault ≡ Device) ⊎ (fault ≡ BadLayout))) }
+    ensures causes { IfErr result EndsReading }
 {
     let bytes = read_object(alloc, store, segment_id(number))?;
     decoded_batch(alloc, bytes, number, count)

@@ -2,13 +2,11 @@
 ghost use Rattle.std.specs.Prelude.{◌≡◌, ◌≢◌, ◌⊎◌, None, Some, false, IfErr, IfOk, IsErrOf};
 ghost use Rattle.cube_model.specs.declared.fault.Fault.TheVariants.{Device, Failed, Memory};
 ghost use Rattle.cube_model.specs.Admission.{all_rows};
-ghost use Rattle.object_store.specs.Store.{content_of, device_of, has_failed};
+ghost use Rattle.object_store.specs.Store.{has_failed};
 ghost use Rattle.warehouse_root.specs.declared.layout.Layout.TheVariants.{First, Second};
 ghost use Rattle.warehouse_root.specs.Modes.{kept_modes};
 ghost use Rattle.warehouse_objects.specs.Migration.{migration_refusal};
-ghost use Rattle.warehouse_objects.specs.Reads.{ReadsOnly};
-ghost use Rattle.warehouse_objects.specs.Represents.{Represents, root_of};
-ghost use Rattle.warehouse_objects.specs.Warehouse.{Warehouse};
+ghost use Rattle.warehouse_objects.specs.Reads.{ForHeldOfRoot, ReadsOnly};
 
 use crate::gathering::Gathered;
 use crate::text_part::read_mode_column;
@@ -32,12 +30,13 @@ pub fn read_ship_modes<D: Sectors>(
     root: &Root,
 ) -> Result<ShipModes, Fault>
     requires fine { has_failed store.old ≡ false }
-    ensures ok { IfOk result (λ modes. D.keeps_word (device_of store.new) → (w : Warehouse)
-        → Represents (content_of D.Sectors store.old) w → root.now ≡ root_of w
-        → (migration_refusal First w.batches ≡ None) × (modes ≡ kept_modes Second (all_rows w.batches))) }
-    ensures refused { IfErr result (λ fault. fault ≢ Device → D.keeps_word (device_of store.new) → (w : Warehouse)
-        → Represents (content_of D.Sectors store.old) w → root.now ≡ root_of w
-        → (fault ≡ Memory) ⊎ (migration_refusal First w.batches ≡ Some fault)) }
+    ensures ok { IfOk result
+        (λ modes. ForHeldOfRoot D.Sectors store.old store.new root.now
+        (λ w. (migration_refusal First w.batches ≡ None) × (modes ≡ kept_modes Second (all_rows w.batches)))) }
+    ensures refused { IfErr result
+        (λ fault. fault ≢ Device
+        → ForHeldOfRoot D.Sectors store.old store.new root.now
+        (λ w. (fault ≡ Memory) ⊎ (migration_refusal First w.batches ≡ Some fault))) }
     ensures failed { IsErrOf result Failed → ⊥ }
 
     // The content stays, at each moment.

@@ -1,7 +1,7 @@
 //! Reading the ship modes of a stored batch, and none of its columns of numbers.
-ghost use Rattle.std.specs.Prelude.{◌≡◌, ◌⊎◌, ◌↔◌, ◌+◌, ◌*◌, ◌≤◌, ◌<◌, ℕ, List, Some, drop, false, length, IfErr, IfOk};
-ghost use Rattle.std.specs.Prelude.{IsErrOf, IsSomeAnd, IsTrue};
-ghost use Rattle.cube_model.specs.declared.fault.Fault.TheVariants.{BadLayout, Device, Memory};
+ghost use Rattle.std.specs.Prelude.{◌≡◌, ◌⊎◌, ◌↔◌, ◌+◌, ◌*◌, ◌≤◌, ◌<◌, List, Some, drop, false, length, IfErr, IfOk};
+ghost use Rattle.std.specs.Prelude.{IsErrOf, IsSomeAnd, IsTrue, ℕ};
+ghost use Rattle.cube_model.specs.declared.fault.Fault.TheVariants.{BadLayout, Memory};
 ghost use Rattle.cube_model.specs.Limits.{most_batch_rows, most_batches};
 ghost use Rattle.object_store.specs.Content.{bytes_of};
 ghost use Rattle.object_store.specs.Store.{content_of, device_of, has_failed};
@@ -10,7 +10,7 @@ ghost use Rattle.column_segment.specs.Projected.{HasColumns, HoldsNoneOf};
 ghost use Rattle.column_segment.specs.Reading.{HasHeader};
 ghost use Rattle.column_segment.specs.Segment.{segment_header};
 ghost use Rattle.warehouse_root.specs.Objects.{segment_id};
-ghost use Rattle.warehouse_objects.specs.Reads.{ReadsOnly};
+ghost use Rattle.warehouse_objects.specs.Reads.{EndsReading, ReadsOnly};
 ghost use Rattle.stored_rows.specs.Passing.{LeadsToLast};
 ghost use Rattle.stored_rows.specs.Stored.{HoldsModes};
 
@@ -51,7 +51,7 @@ pub(crate) fn read_mode_column<D: Sectors>(
 
     // The content stays, at each moment.
     ensures reads { ReadsOnly D.Sectors store.old store.new result }
-    ensures causes { IfErr result (λ fault. (fault ≡ Memory) ⊎ ((fault ≡ Device) ⊎ (fault ≡ BadLayout))) }
+    ensures causes { IfErr result EndsReading }
 {
     let rows = count as usize;
     let bytes = read_last_column(alloc, store, segment_id(number), number, rows)?;

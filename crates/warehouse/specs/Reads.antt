@@ -7,7 +7,8 @@ use Rattle.object_store.specs.Disk.{Leaves}
 use Rattle.warehouse_objects.specs.Represents.{Represents}
 use Rattle.warehouse_objects.specs.Warehouse.{Warehouse}
 use Rattle.warehouse.specs.declared.session.Session.{Session}
-use Rattle.warehouse.specs.Session.{AskingRefuses, CallsDevice, IsAt, KeepsContent, device_of, disk_of, has_failed}
+use Rattle.warehouse.specs.Session.{AskingRefuses, CallsDevice, ForItsWarehouse, IsAt, KeepsContent, disk_of}
+use Rattle.warehouse.specs.Session.{has_failed}
 
 -- What a call leaves of a session that it only reads. `refuses` says with which faults the call was refused.
 pub record OnlyReads {D : Type 0} (g : Ghosts D) (refuses : Fault → Type 0) (old new : Session D g) : Type 0 where
@@ -22,7 +23,6 @@ pub record OnlyReads {D : Type 0} (g : Ghosts D) (refuses : Fault → Type 0) (o
 pub record RefusesQuery {D : Type 0} (g : Ghosts D) (P : Type 0) (as_of : ℕ) (refuses : Fault → Type 0)
     (old new : Session D g) : Type 0 where
   pub improper : has_failed old ≡ false → (P → ⊥) → refuses BadQuery
-  pub beyond : (w : Warehouse) → IsAt g old w → g.keeps_word (device_of new) → P → length w.batches < as_of
-      → refuses NoSuchPrefix
-  pub causes : (fault : Fault) → refuses fault → fault ≢ Device → (w : Warehouse) → IsAt g old w
-      → g.keeps_word (device_of new) → AskingRefuses P w as_of fault
+  pub beyond : ForItsWarehouse g old new (λ w. P → length w.batches < as_of → refuses NoSuchPrefix)
+  pub causes : (fault : Fault) → refuses fault → fault ≢ Device
+      → ForItsWarehouse g old new (λ w. AskingRefuses P w as_of fault)

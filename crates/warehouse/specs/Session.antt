@@ -49,6 +49,10 @@ pub record IsAt {D : Type 0} (g : Ghosts D) (session : Session D g) (w : Warehou
   pub represents : (disk_of g session).keeps_word → Represents (content_of g session) w
   pub all : AllShow (disk_of g session) (λ c. Represents c w)
 
+-- what is so of the warehouse that a session was at, unless its device has broken its word
+abbrev pub ForItsWarehouse : {D : Type 0} (g : Ghosts D) → Session D g → Session D g → (Warehouse → Type 0) → Type 0
+ForItsWarehouse g old new P = (w : Warehouse) → IsAt g old w → g.keeps_word (device_of new) → P w
+
 -- a crash at any point between two sessions leaves a content of which P holds, given the warehouse that the first is at
 abbrev pub MayLeave : {D : Type 0} (g : Ghosts D) → Session D g → Session D g → (Warehouse → Content → Type 0) → Type 0
 MayLeave g old new P = (w : Warehouse) → IsAt g old w → Leaves (disk_of g old) (disk_of g new) (P w)

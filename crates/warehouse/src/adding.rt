@@ -1,6 +1,6 @@
 //! Adding rows to the dimensions of a warehouse.
-ghost use Rattle.std.specs.Prelude.{◌≡◌, ◌≢◌, ◌<◌, ◌≤◌, ◌⊎◌, ◌+◌, ◌↔◌, ℕ, true, false, Some, None, length, IfOk, IfErr};
-ghost use Rattle.std.specs.Prelude.{OnOk, IsErrOf};
+ghost use Rattle.std.specs.Prelude.{◌≡◌, ◌≢◌, ◌<◌, ◌≤◌, ◌⊎◌, ◌+◌, ◌↔◌, true, false, Some, None, length, IfOk, IfErr};
+ghost use Rattle.std.specs.Prelude.{OnOk, IsErrOf, ℕ};
 ghost use Rattle.std.specs.Result.{result_err};
 ghost use Rattle.cube_model.specs.declared.fault.Fault.TheVariants.{Device, Failed, Memory};
 ghost use Rattle.cube_model.specs.declared.rows.DimRows as dim_rows;
@@ -13,7 +13,8 @@ ghost use Rattle.warehouse_objects.specs.Facts.{AdmitsRows, number_refusal, rows
 ghost use Rattle.warehouse_objects.specs.Warehouse.{Warehouse};
 ghost use Rattle.warehouse_objects.specs.Represents.{Represents};
 ghost use Rattle.warehouse.specs.Refusing.{is_of_device};
-ghost use Rattle.warehouse.specs.Session.{AddRefuses, Breaks, CallsDevice, IsAt, KeptBefore, MayLeave, StaysAt};
+ghost use Rattle.warehouse.specs.Session.{AddRefuses, Breaks, CallsDevice, ForItsWarehouse, IsAt, KeptBefore, MayLeave};
+ghost use Rattle.warehouse.specs.Session.{StaysAt};
 ghost use Rattle.warehouse.specs.Session.{content_of, device_of, disk_of};
 ghost use Rattle.warehouse.specs.Session.{has_failed};
 ghost use Rattle.warehouse.specs.Session.{CommitsOnce, KeepsContent};
@@ -53,9 +54,10 @@ impl<D: Sectors> Session<D> {
         ensures kept { IfErr result (λ fault. fault ≢ Device → KeepsContent D.Sectors self.old self.new) }
 
         // When each error comes.
-        ensures causes { IfErr result (λ fault. fault ≢ Device → (w : Warehouse) → IsAt D.Sectors self.old w
-            → D.keeps_word (device_of self.new)
-            → AddRefuses D.Sectors self.old w number rows.now fault) }
+        ensures causes { IfErr result
+            (λ fault. fault ≢ Device
+            → ForItsWarehouse D.Sectors self.old self.new
+            (λ w. AddRefuses D.Sectors self.old w number rows.now fault)) }
         ensures calls { CallsDevice D.Sectors (IsErrOf result) self.old self.new }
     {
         let wider = match self.widening(alloc, number, rows) {
@@ -74,10 +76,9 @@ impl<D: Sectors> Session<D> {
         ensures widens { IfOk result (IsWidening self.now.dims.value self.now.root rows.now) }
         ensures ready { IfOk result (λ wider. (w : Warehouse) → IsAt D.Sectors self.now w
             → IsReadyToWiden D.Sectors self.now w number rows.now wider) }
-        ensures refused { IfErr result (λ fault. (w : Warehouse) → IsAt D.Sectors self.now w
-            → D.keeps_word (device_of self.now)
-            → (rows_refusal_of w number rows.now ≡ Some fault)
-            ⊎ ((fault ≡ Memory) × (number_refusal w.additions number ≡ None))) }
+        ensures refused { IfErr result
+            (λ fault. ForItsWarehouse D.Sectors self.now self.now (λ w. (rows_refusal_of w number rows.now ≡ Some fault)
+            ⊎ ((fault ≡ Memory) × (number_refusal w.additions number ≡ None)))) }
         ensures failed { IsErrOf result Failed ↔ (has_failed self.now ≡ true) }
         ensures device { IsErrOf result Device → ⊥ }
         ensures leaves { MayLeave D.Sectors self.now self.now (λ w c. Represents c w) }

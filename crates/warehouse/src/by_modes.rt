@@ -4,10 +4,9 @@ ghost use Rattle.cube_model.specs.declared.fault.Fault.TheVariants.{BadQuery, De
 ghost use Rattle.planned_queries.specs.ModeAnswers.{moded_answer_as_of};
 ghost use Rattle.planned_queries.specs.ModesPlanned.{ArePlansByModes, looks_at_modes};
 ghost use Rattle.mode_queries.specs.Proper.{IsProperByModes};
-ghost use Rattle.warehouse_objects.specs.Warehouse.{Warehouse};
 ghost use Rattle.warehouse.specs.ByModes.{IsAskedByModes};
 ghost use Rattle.warehouse.specs.Reads.{OnlyReads, RefusesQuery};
-ghost use Rattle.warehouse.specs.Session.{has_failed, device_of, IsAt};
+ghost use Rattle.warehouse.specs.Session.{ForItsWarehouse, has_failed};
 
 use crate::querying::are_there;
 use crate::session::Session;
@@ -35,9 +34,9 @@ impl<D: Sectors> Session<D> {
         ensures reads { OnlyReads D.Sectors (IsErrOf result) self.old self.new }
 
         // The answer is the definition's.
-        ensures answer { IfOk result (λ found. (w : Warehouse) → IsAt D.Sectors self.old w
-            → D.keeps_word (device_of self.new)
-            → IsAskedByModes w as_of asked.now × (found ≡ moded_answer_as_of asked.now as_of w.rows w.batches)) }
+        ensures answer { IfOk result
+            (λ found. ForItsWarehouse D.Sectors self.old self.new
+            (λ w. IsAskedByModes w as_of asked.now × (found ≡ moded_answer_as_of asked.now as_of w.rows w.batches))) }
 
         // When each error comes.
         ensures refused { RefusesQuery D.Sectors (IsProperByModes asked.now) as_of (IsErrOf result) self.old self.new }
@@ -74,9 +73,9 @@ impl<D: Sectors> Session<D> {
         as_of: u32,
         asked: &ModeQuery,
     ) -> Result<Vec<Priced>, Fault>
-        ensures plans { IfOk result (λ plans. (w : Warehouse) → IsAt D.Sectors self.now w
-            → D.keeps_word (device_of self.now)
-            → IsAskedByModes w as_of asked.now × ArePlansByModes w as_of asked.now plans.items) }
+        ensures plans { IfOk result
+            (λ plans. ForItsWarehouse D.Sectors self.now self.now
+            (λ w. IsAskedByModes w as_of asked.now × ArePlansByModes w as_of asked.now plans.items)) }
 
         // When each error comes.
         ensures refused { RefusesQuery D.Sectors (IsProperByModes asked.now) as_of (IsErrOf result) self.now self.now }

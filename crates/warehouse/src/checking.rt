@@ -6,7 +6,7 @@ ghost use Rattle.warehouse_objects.specs.Represents.{Represents};
 ghost use Rattle.stored_cuboids.specs.Merged.{IsSound};
 ghost use Rattle.warehouse_check.specs.Checked.{IsChecked};
 ghost use Rattle.warehouse.specs.Reads.{OnlyReads};
-ghost use Rattle.warehouse.specs.Session.{IsAt, content_of, device_of};
+ghost use Rattle.warehouse.specs.Session.{ForItsWarehouse, content_of, device_of};
 ghost use Rattle.warehouse.specs.Upkeep.{IsLaidAt};
 
 use crate::session::Session;
@@ -39,12 +39,11 @@ impl<D: Sectors> Session<D> {
         // Something is found: then the content represents no warehouse. So nothing is found in a warehouse.
         ensures found { IfOk result (λ found. IsTrue (is_some found) → D.keeps_word (device_of self.new)
             → (w : Warehouse) → Represents (content_of D.Sectors self.old) w → ⊥) }
-        ensures none { IfOk result (λ found. (w : Warehouse) → IsAt D.Sectors self.old w
-            → D.keeps_word (device_of self.new) → found ≡ None) }
+        ensures none { IfOk result (λ found. ForItsWarehouse D.Sectors self.old self.new (λ w. found ≡ None)) }
 
         // When each error comes.
-        ensures refused { IfErr result (λ fault. fault ≢ Device → (w : Warehouse) → IsAt D.Sectors self.old w
-            → D.keeps_word (device_of self.new) → fault ≡ Memory) }
+        ensures refused { IfErr result
+            (λ fault. fault ≢ Device → ForItsWarehouse D.Sectors self.old self.new (λ w. fault ≡ Memory)) }
     {
         if self.is_broken() {
             return Err(Fault::Failed);

@@ -13,7 +13,8 @@ ghost use Rattle.warehouse.specs.Choosing.{AreTooMany, ChooseForRefuses, ChooseR
 ghost use Rattle.warehouse.specs.Choosing.{IsChosenFrom, ViewsRefuse, choices_asked, lattice_asked};
 ghost use Rattle.warehouse.specs.Choosing.{members_counted, members_on, views_of};
 ghost use Rattle.warehouse.specs.declared.chosen.Chosen.{Chosen};
-ghost use Rattle.warehouse.specs.Session.{CallsDevice, CommitsOnce, IsAt, KeepsContent, MayLeave, device_of, disk_of};
+ghost use Rattle.warehouse.specs.Session.{CallsDevice, CommitsOnce, ForItsWarehouse, IsAt, KeepsContent, MayLeave};
+ghost use Rattle.warehouse.specs.Session.{device_of, disk_of};
 ghost use Rattle.warehouse.specs.Session.{has_failed};
 
 use crate::chosen::Chosen;
@@ -48,9 +49,9 @@ impl<D: Sectors> Session<D> {
             × Leaves (disk_of D.Sectors self.old) (disk_of D.Sectors self.new) (λ c. Represents c w)) }
 
         // When each error comes.
-        ensures causes { IfErr result (λ fault. fault ≢ Device → (w : Warehouse) → IsAt D.Sectors self.old w
-            → D.keeps_word (device_of self.new)
-            → ViewsRefuse D.Sectors self.old w views.now fault) }
+        ensures causes { IfErr result
+            (λ fault. fault ≢ Device
+            → ForItsWarehouse D.Sectors self.old self.new (λ w. ViewsRefuse D.Sectors self.old w views.now fault)) }
         ensures calls { CallsDevice D.Sectors (IsErrOf result) self.old self.new }
     {
         if self.is_broken() {
@@ -82,9 +83,9 @@ impl<D: Sectors> Session<D> {
             × Leaves (disk_of D.Sectors self.old) (disk_of D.Sectors self.new) (λ c. Represents c w)) }
 
         // When each error comes.
-        ensures causes { IfErr result (λ fault. fault ≢ Device → (w : Warehouse) → IsAt D.Sectors self.old w
-            → D.keeps_word (device_of self.new)
-            → ChooseRefuses D.Sectors self.old w k fault) }
+        ensures causes { IfErr result
+            (λ fault. fault ≢ Device
+            → ForItsWarehouse D.Sectors self.old self.new (λ w. ChooseRefuses D.Sectors self.old w k fault)) }
         ensures many { has_failed self.old ≡ false → most_cuboids < k → result ≡ Err BadQuery }
         ensures calls { CallsDevice D.Sectors (IsErrOf result) self.old self.new }
     {
@@ -125,9 +126,10 @@ impl<D: Sectors> Session<D> {
             × Leaves (disk_of D.Sectors self.old) (disk_of D.Sectors self.new) (λ c. Represents c w)) }
 
         // When each error comes.
-        ensures causes { IfErr result (λ fault. fault ≢ Device → (w : Warehouse) → IsAt D.Sectors self.old w
-            → D.keeps_word (device_of self.new)
-            → ChooseForRefuses D.Sectors self.old w demanded.now k fault) }
+        ensures causes { IfErr result
+            (λ fault. fault ≢ Device
+            → ForItsWarehouse D.Sectors self.old self.new
+            (λ w. ChooseForRefuses D.Sectors self.old w demanded.now k fault)) }
         ensures many { has_failed self.old ≡ false → (most_cuboids < k) ⊎ (most_demanded < length demanded.now)
             → result ≡ Err BadQuery }
         ensures calls { CallsDevice D.Sectors (IsErrOf result) self.old self.new }
@@ -145,9 +147,9 @@ impl<D: Sectors> Session<D> {
     // The greedy list of k views over the fact rows and the members of now, where all views are asked for, or some. No
     // device call is made.
     fn choice(&self, alloc: Global, k: u8, asked: Option<&[View]>) -> Result<Choice, Fault>
-        ensures ok { IfOk result (λ choice. (w : Warehouse) → IsAt D.Sectors self.now w
-            → D.keeps_word (device_of self.now)
-            → IsChosenFrom (choices_asked w (option_map (λ views. views.now) asked.entry)) k choice.chosen.items) }
+        ensures ok { IfOk result
+            (λ choice. ForItsWarehouse D.Sectors self.now self.now
+            (λ w. IsChosenFrom (choices_asked w (option_map (λ views. views.now) asked.entry)) k choice.chosen.items)) }
         ensures views { IfOk result (λ choice. choice.views.items ≡ views_of choice.chosen.items) }
         ensures few { IfOk result (λ choice. length choice.views.items ≤ most_cuboids) }
         ensures fine { IfOk result (λ _. has_failed self.now ≡ false) }

@@ -10,7 +10,7 @@ ghost use Rattle.object_store.specs.Store as stores;
 ghost use Rattle.warehouse.specs.Comparing.{numbered};
 ghost use Rattle.warehouse.specs.Growing.{Grows, IsGrown, IsOfSession};
 ghost use Rattle.warehouse.specs.Reads.{OnlyReads};
-ghost use Rattle.warehouse.specs.Session.{IsAt, device_of};
+ghost use Rattle.warehouse.specs.Session.{ForItsWarehouse, IsAt, device_of};
 ghost use Rattle.warehouse_objects.specs.Reads.{ReadsOnly};
 ghost use Rattle.warehouse_objects.specs.Represents.{Represents, root_of};
 ghost use Rattle.warehouse_objects.specs.Warehouse.{Warehouse};
@@ -31,8 +31,8 @@ const PART: usize = 512;
 impl<D: Sectors> Session<D> {
     /// How many rows the stored batch of a number has. Batches are numbered from 1.
     pub fn batch_rows(&self, number: u32) -> Option<u32>
-        ensures { (w : Warehouse) → IsAt D.Sectors self.now w → D.keeps_word (device_of self.now)
-            → result ≡ option_map length (numbered w.batches number) }
+        ensures { ForItsWarehouse D.Sectors self.now self.now
+            (λ w. result ≡ option_map length (numbered w.batches number)) }
     {
         rows_of(&self.root, number)
     }

@@ -1,8 +1,9 @@
 //! Finishing an upkeep that was cut off.
 ghost use Rattle.std.specs.Prelude.{◌≡◌, ◌≢◌, ◌⊎◌, false, IfErr, IsErrOf, IsOk, OnOk};
-ghost use Rattle.cube_model.specs.declared.fault.Fault.TheVariants.{BadLayout, Device, Full, Memory, Worn};
+ghost use Rattle.cube_model.specs.declared.fault.Fault.TheVariants.{BadLayout, Device, Full, Worn};
 ghost use Rattle.warehouse_objects.specs.Warehouse.{Warehouse};
 ghost use Rattle.warehouse_objects.specs.Represents.{Represents};
+ghost use Rattle.warehouse_objects.specs.Reads.{EndsReading};
 ghost use Rattle.stored_cuboids.specs.Keeping.{IsCaughtUp};
 ghost use Rattle.warehouse.specs.Found.{IsFinished};
 ghost use Rattle.warehouse.specs.Session.{Breaks, IsAt, KeptBefore, MayLeave, device_of, has_failed};
@@ -26,7 +27,7 @@ impl<D: Sectors> Session<D> {
             × (D.keeps_word (device_of self.new) → IsFinished D.Sectors self.new v)) }
         ensures readable { IsErrOf result BadLayout → D.keeps_word (device_of self.new) → (w : Warehouse)
             → IsAt D.Sectors self.old w → ⊥ }
-        ensures causes { IfErr result (λ fault. (fault ≡ Memory) ⊎ ((fault ≡ Device) ⊎ (fault ≡ BadLayout))) }
+        ensures causes { IfErr result EndsReading }
         ensures device { IsErrOf result Device → Breaks D.Sectors self.old self.new }
         ensures word { KeptBefore D.Sectors self.old self.new }
     {

@@ -39,7 +39,7 @@ pub use growing::GrowingBatch;
 pub use new_rows::NewRows;
 pub use opening::{open, open_as_is};
 pub use planned_queries::{Found, FoundByModes, Running};
-pub use planner::{Plan, Priced};
+pub use planner::{AccessPath, Plan, Priced};
 pub use query_slots::MOST_RUNNING;
 pub use reopening::open_and_query;
 pub use running::run;

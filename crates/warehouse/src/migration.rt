@@ -6,13 +6,13 @@ ghost use Rattle.object_store.specs.Disk.{Leaves};
 ghost use Rattle.object_store.specs.Store as stores;
 ghost use Rattle.warehouse_objects.specs.Facts.{CanMigrate};
 ghost use Rattle.warehouse_objects.specs.Migration.{migration_refusal};
-ghost use Rattle.warehouse_objects.specs.Reads.{ReadsOnly};
-ghost use Rattle.warehouse_objects.specs.Represents.{Represents, root_of};
+ghost use Rattle.warehouse_objects.specs.Reads.{ForHeldOfRoot, ReadsOnly};
 ghost use Rattle.warehouse_objects.specs.Warehouse.{Warehouse, migrated};
 ghost use Rattle.warehouse_root.specs.declared.layout.Layout.TheVariants.{First};
 ghost use Rattle.wire.specs.Limits.{most_objects};
 ghost use Rattle.warehouse.specs.Migrating.{IsMigration, IsMigrationOf, MigrateRefuses, MigratedOrNot, MovesOnce};
-ghost use Rattle.warehouse.specs.Session.{Breaks, CallsDevice, CommitsOnce, IsAt, KeepsContent, KeptBefore, MayLeave};
+ghost use Rattle.warehouse.specs.Session.{Breaks, CallsDevice, CommitsOnce, ForItsWarehouse, IsAt, KeepsContent};
+ghost use Rattle.warehouse.specs.Session.{KeptBefore, MayLeave};
 ghost use Rattle.warehouse.specs.Session.{StaysAt, content_of, device_of};
 ghost use Rattle.warehouse.specs.Session.{disk_of};
 ghost use Rattle.warehouse.specs.Session.{has_failed};
@@ -60,9 +60,9 @@ impl<D: Sectors> Session<D> {
         ensures kept { IfErr result (λ fault. fault ≢ Device → KeepsContent D.Sectors self.old self.new) }
 
         // When each error comes.
-        ensures causes { IfErr result (λ fault. fault ≢ Device → (w : Warehouse) → IsAt D.Sectors self.old w
-            → D.keeps_word (device_of self.new)
-            → MigrateRefuses D.Sectors self.old w fault) }
+        ensures causes { IfErr result
+            (λ fault. fault ≢ Device
+            → ForItsWarehouse D.Sectors self.old self.new (λ w. MigrateRefuses D.Sectors self.old w fault)) }
         ensures calls { CallsDevice D.Sectors (IsErrOf result) self.old self.new }
     {
         if self.is_broken() {
@@ -84,9 +84,9 @@ impl<D: Sectors> Session<D> {
         ensures refused { IfErr result (λ fault. fault ≢ Device → StaysAt D.Sectors self.old self.new) }
         ensures once { OnOk result (CommitsOnce D.Sectors self.old self.new) }
         ensures kept { IfErr result (λ fault. fault ≢ Device → KeepsContent D.Sectors self.old self.new) }
-        ensures causes { IfErr result (λ fault. fault ≢ Device → (w : Warehouse) → IsAt D.Sectors self.old w
-            → D.keeps_word (device_of self.new)
-            → MigrateRefuses D.Sectors self.old w fault) }
+        ensures causes { IfErr result
+            (λ fault. fault ≢ Device
+            → ForItsWarehouse D.Sectors self.old self.new (λ w. MigrateRefuses D.Sectors self.old w fault)) }
         ensures failed { IsErrOf result Failed → ⊥ }
         ensures device { IsErrOf result Device → Breaks D.Sectors self.old self.new }
         ensures word { KeptBefore D.Sectors self.old self.new }
@@ -153,12 +153,12 @@ fn read_migration<D: Sectors>(
 ) -> Result<Migration, Fault>
     requires fine { stores.has_failed store.old ≡ false }
     ensures ok { IfOk result (IsMigration root.now) }
-    ensures ready { IfOk result (λ m. D.keeps_word (stores.device_of store.new) → (w : Warehouse)
-        → Represents (stores.content_of D.Sectors store.old) w → root.now ≡ root_of w
-        → IsMigrationOf w root.now m) }
-    ensures refused { IfErr result (λ fault. fault ≢ Device → D.keeps_word (stores.device_of store.new)
-        → (w : Warehouse) → Represents (stores.content_of D.Sectors store.old) w → root.now ≡ root_of w
-        → (fault ≡ Memory) ⊎ (migration_refusal First w.batches ≡ Some fault)) }
+    ensures ready { IfOk result
+        (λ m. ForHeldOfRoot D.Sectors store.old store.new root.now (λ w. IsMigrationOf w root.now m)) }
+    ensures refused { IfErr result
+        (λ fault. fault ≢ Device
+        → ForHeldOfRoot D.Sectors store.old store.new root.now
+        (λ w. (fault ≡ Memory) ⊎ (migration_refusal First w.batches ≡ Some fault))) }
     ensures failed { IsErrOf result Failed → ⊥ }
     ensures reads { ReadsOnly D.Sectors store.old store.new result }
 {

@@ -12,6 +12,7 @@ ghost use Rattle.warehouse_objects.specs.Warehouse.{Warehouse};
 ghost use Rattle.warehouse_objects.specs.Represents.{Represents, root_of};
 ghost use Rattle.warehouse.specs.Found.{IsFinished, IsSince, MayBeFound, MayRepresent, MayRepresentSince};
 ghost use Rattle.warehouse_objects.specs.Loaded.{IsLoaded};
+ghost use Rattle.warehouse_objects.specs.Reads.{EndsReading, ForHeld};
 ghost use Rattle.warehouse.specs.Session.{content_of, device_of, disk_of, has_failed, IsAt};
 
 use crate::session::{Session, shared};
@@ -163,13 +164,12 @@ fn read<D: Sectors>(alloc: Global, store: &mut Store<D>) -> Result<Kept, Fault>
     requires fine { stores.has_failed store.old ≡ false }
     ensures loaded { IfOk result (λ kept. D.keeps_word (stores.device_of store.new)
         → IsLoaded (stores.content_of D.Sectors store.old) kept.dims.value kept.modes kept.root) }
-    ensures readable { IsErrOf result BadLayout → D.keeps_word (stores.device_of store.new)
-        → (w : Warehouse) → Represents (stores.content_of D.Sectors store.old) w → ⊥ }
+    ensures readable { IsErrOf result BadLayout → ForHeld D.Sectors store.old store.new (λ w. ⊥) }
     ensures leaves { Leaves (stores.disk_of D.Sectors store.old) (stores.disk_of D.Sectors store.new)
         (λ c. c ≡ stores.content_of D.Sectors store.old) }
     ensures stays { OnOk result (stores.IsStill D.Sectors store.old store.new) }
     ensures device { IsErrOf result Device → stores.Breaks D.Sectors store.old store.new }
-    ensures causes { IfErr result (λ fault. (fault ≡ Memory) ⊎ ((fault ≡ Device) ⊎ (fault ≡ BadLayout))) }
+    ensures causes { IfErr result EndsReading }
 {
     let root = known_root(alloc, store)?;
     let modes = read_modes(alloc, store, root.layout())?;
@@ -184,8 +184,7 @@ fn known_root<D: Sectors>(alloc: Global, store: &Store<D>) -> Result<Root, Fault
     ensures layout { IfOk result (λ root. (stores.content_of D.Sectors store.now).layout ≡ layout_number root.layout) }
     ensures found { IfOk result (λ root. (w : Warehouse) → Represents (stores.content_of D.Sectors store.now) w
         → root ≡ root_of w) }
-    ensures readable { IsErrOf result BadLayout → D.keeps_word (stores.device_of store.now)
-        → (w : Warehouse) → Represents (stores.content_of D.Sectors store.now) w → ⊥ }
+    ensures readable { IsErrOf result BadLayout → ForHeld D.Sectors store.now store.now (λ w. ⊥) }
     ensures causes { IfErr result (λ fault. (fault ≡ Memory) ⊎ (fault ≡ BadLayout)) }
 {
     let root = read_root(alloc, store)?;

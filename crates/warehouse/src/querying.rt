@@ -3,9 +3,8 @@ ghost use Rattle.std.specs.Prelude.{◌≡◌, ◌⊎◌, ◌<◌, ◌≤◌, Er
 ghost use Rattle.cube_model.specs.declared.fault.Fault.TheVariants.{BadQuery, NoSuchPrefix};
 ghost use Rattle.cube_model.specs.Answers.{answer_as_of};
 ghost use Rattle.cube_model.specs.Proper.{IsProper};
-ghost use Rattle.warehouse_objects.specs.Warehouse.{Warehouse};
 ghost use Rattle.warehouse.specs.Reads.{OnlyReads, RefusesQuery};
-ghost use Rattle.warehouse.specs.Session.{device_of, IsAt, IsAsked};
+ghost use Rattle.warehouse.specs.Session.{ForItsWarehouse, IsAsked};
 
 use crate::session::Session;
 use cube_model::{Answer, Fault, ProperQuery, Query};
@@ -23,9 +22,9 @@ impl<D: Sectors> Session<D> {
         ensures reads { OnlyReads D.Sectors (IsErrOf result) self.old self.new }
 
         // The answer is the definition's.
-        ensures answer { IfOk result (λ found. (w : Warehouse) → IsAt D.Sectors self.old w
-            → D.keeps_word (device_of self.new)
-            → IsAsked w as_of query.now × (found ≡ answer_as_of query.now as_of w.rows w.batches)) }
+        ensures answer { IfOk result
+            (λ found. ForItsWarehouse D.Sectors self.old self.new
+            (λ w. IsAsked w as_of query.now × (found ≡ answer_as_of query.now as_of w.rows w.batches))) }
 
         // When each error comes.
         ensures refused { RefusesQuery D.Sectors (IsProper query.now) as_of (IsErrOf result) self.old self.new }
@@ -47,9 +46,9 @@ impl<D: Sectors> Session<D> {
         ensures reads { OnlyReads D.Sectors (IsErrOf result) self.old self.new }
 
         // The answer is the definition's.
-        ensures answer { IfOk result (λ found. (w : Warehouse) → IsAt D.Sectors self.old w
-            → D.keeps_word (device_of self.new)
-            → IsAsked w as_of query.now × (found ≡ answer_as_of query.now as_of w.rows w.batches)) }
+        ensures answer { IfOk result
+            (λ found. ForItsWarehouse D.Sectors self.old self.new
+            (λ w. IsAsked w as_of query.now × (found ≡ answer_as_of query.now as_of w.rows w.batches))) }
 
         // When each error comes.
         ensures refused { RefusesQuery D.Sectors (IsProper query.now) as_of (IsErrOf result) self.old self.new }

@@ -5,9 +5,8 @@ ghost use Rattle.cube_model.specs.declared.fault.Fault.TheVariants.{Memory};
 ghost use Rattle.superblock.specs.Superblock.{sectors_of};
 ghost use Rattle.object_store.specs.Room.{catalogue_bytes};
 ghost use Rattle.object_store.specs.Store as stores;
-ghost use Rattle.warehouse_objects.specs.Warehouse.{Warehouse};
 ghost use Rattle.warehouse.specs.Room.{object_sectors, sectors_of_size, sectors_taken};
-ghost use Rattle.warehouse.specs.Session.{content_of, device_of, IsAt};
+ghost use Rattle.warehouse.specs.Session.{ForItsWarehouse, content_of, device_of};
 
 use crate::session::Session;
 use cube_model::Fault;
@@ -22,9 +21,9 @@ impl<D: Sectors> Session<D> {
     /// How many sectors of the device the warehouse takes: the two superblocks, and the sectors of the catalogue and of
     /// each object. At most the greatest `u64`. It makes no device call, and can only fail with `Memory`.
     pub fn sectors_taken(&self, alloc: Global) -> Result<u64, Fault>
-        ensures taken { IfOk result (λ taken. (w : Warehouse) → IsAt D.Sectors self.now w
-            → D.keeps_word (device_of self.now)
-            → taken ≡ min (sectors_taken (content_of D.Sectors self.now) w) u64.MAX) }
+        ensures taken { IfOk result
+            (λ taken. ForItsWarehouse D.Sectors self.now self.now
+            (λ w. taken ≡ min (sectors_taken (content_of D.Sectors self.now) w) u64.MAX)) }
         ensures memory { IfErr result (λ fault. fault ≡ Memory) }
     {
         let ids = self.root.object_ids(alloc)?;

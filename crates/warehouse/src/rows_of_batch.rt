@@ -1,13 +1,11 @@
 //! The fact rows of a stored batch.
-ghost use Rattle.std.specs.Prelude.{◌≡◌, ◌≢◌, ◌⊎◌, false, IfErr, IfOk, IsErrOf};
+ghost use Rattle.std.specs.Prelude.{◌≡◌, ◌≢◌, false, IfErr, IfOk, IsErrOf};
 ghost use Rattle.cube_model.specs.declared.fault.Fault.TheVariants.{BadLayout, Device, Memory};
 ghost use Rattle.object_store.specs.Store as stores;
 ghost use Rattle.warehouse.specs.Comparing.{numbered};
 ghost use Rattle.warehouse.specs.Reads.{OnlyReads};
-ghost use Rattle.warehouse.specs.Session.{IsAt, device_of};
-ghost use Rattle.warehouse_objects.specs.Reads.{ReadsOnly};
-ghost use Rattle.warehouse_objects.specs.Represents.{Represents, root_of};
-ghost use Rattle.warehouse_objects.specs.Warehouse.{Warehouse};
+ghost use Rattle.warehouse.specs.Session.{ForItsWarehouse};
+ghost use Rattle.warehouse_objects.specs.Reads.{EndsReading, ForHeldOfRoot, ReadsOnly};
 
 use crate::session::Session;
 use cube_model::{Fault, Items, LineOrder};
@@ -32,12 +30,12 @@ impl<D: Sectors> Session<D> {
         ensures reads { OnlyReads D.Sectors (IsErrOf result) self.old self.new }
 
         // The rows are those of the batch of that number.
-        ensures rows { IfOk result (λ found. (w : Warehouse) → IsAt D.Sectors self.old w
-            → D.keeps_word (device_of self.new) → found ≡ numbered w.batches number) }
+        ensures rows { IfOk result
+            (λ found. ForItsWarehouse D.Sectors self.old self.new (λ w. found ≡ numbered w.batches number)) }
 
         // When each error comes.
-        ensures refused { IfErr result (λ fault. fault ≢ Device → (w : Warehouse) → IsAt D.Sectors self.old w
-            → D.keeps_word (device_of self.new) → fault ≡ Memory) }
+        ensures refused { IfErr result
+            (λ fault. fault ≢ Device → ForItsWarehouse D.Sectors self.old self.new (λ w. fault ≡ Memory)) }
     {
         if self.is_broken() {
             return Err(Fault::Failed);
@@ -57,14 +55,11 @@ fn read_numbered<D: Sectors>(
     number: u32,
 ) -> Result<Option<Items<LineOrder>>, Fault>
     requires fine { stores.has_failed store.old ≡ false }
-    ensures rows { IfOk result (λ found. D.keeps_word (stores.device_of store.new) → (w : Warehouse)
-        → Represents (stores.content_of D.Sectors store.old) w
-        → root.now ≡ root_of w → found ≡ numbered w.batches number) }
-    ensures refused { IsErrOf result BadLayout → D.keeps_word (stores.device_of store.new) → (w : Warehouse)
-        → Represents (stores.content_of D.Sectors store.old) w
-        → root.now ≡ root_of w → ⊥ }
+    ensures rows { IfOk result
+        (λ found. ForHeldOfRoot D.Sectors store.old store.new root.now (λ w. found ≡ numbered w.batches number)) }
+    ensures refused { IsErrOf result BadLayout → ForHeldOfRoot D.Sectors store.old store.new root.now (λ w. ⊥) }
     ensures reads { ReadsOnly D.Sectors store.old store.new result }
-    ensures causes { IfErr result (λ fault. (fault ≡ Memory) ⊎ ((fault ≡ Device) ⊎ (fault ≡ BadLayout))) }
+    ensures causes { IfErr result EndsReading }
 {
     match number.checked_sub(1) {
         None => Ok(None),

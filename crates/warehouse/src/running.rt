@@ -3,7 +3,7 @@ ghost use Rattle.std.specs.Prelude.{◌≡◌, true, IfOk, IfErr};
 ghost use Rattle.cube_model.specs.declared.fault.Fault.TheVariants.{Memory};
 ghost use Rattle.object_store.specs.Disk.{Leaves};
 ghost use Rattle.warehouse_objects.specs.Warehouse.{Warehouse};
-ghost use Rattle.warehouse.specs.Session.{IsAt, KeptBefore, has_failed, device_of, disk_of};
+ghost use Rattle.warehouse.specs.Session.{ForItsWarehouse, IsAt, KeptBefore, device_of, disk_of, has_failed};
 ghost use Rattle.warehouse.specs.declared.command.Command.TheVariants as asks;
 ghost use Rattle.warehouse.specs.Running.{Phase, Slots, at, broken, Does, IsInPhase, Ran, RanAll, FoundIn};
 ghost use Rattle.warehouse.specs.Slots.{AreOf, AreRunning, DoesWith};
@@ -26,15 +26,16 @@ pub fn run<D: Sectors>(
     session: &mut Session<D>,
     commands: &[Command],
 ) -> Result<Vec<Reply>, Fault>
-    ensures ran { IfOk result (λ replies. (w : Warehouse) → IsAt D.Sectors session.old w
-        → D.keeps_word (device_of session.new) →
-        (after : Phase) × RanAll D.Sectors session.old (at w) commands.now replies.items session.new after
-        × IsInPhase D.Sectors session.new after) }
+    ensures ran { IfOk result
+        (λ replies. ForItsWarehouse D.Sectors session.old session.new
+        (λ w. (after : Phase) × RanAll D.Sectors session.old (at w) commands.now replies.items session.new after
+        × IsInPhase D.Sectors session.new after)) }
 
     // At each moment a crash leaves what the commands before had made, or what one more may have made.
-    ensures found { IfOk result (λ replies. (w : Warehouse) → IsAt D.Sectors session.old w
-        → D.keeps_word (device_of session.new) →
-        Leaves (disk_of D.Sectors session.old) (disk_of D.Sectors session.new) (FoundIn w commands.now replies.items)) }
+    ensures found { IfOk result
+        (λ replies. ForItsWarehouse D.Sectors session.old session.new
+        (λ w. Leaves (disk_of D.Sectors session.old) (disk_of D.Sectors session.new)
+        (FoundIn w commands.now replies.items))) }
     ensures memory { IfErr result (λ fault. (fault ≡ Memory) × (session.new ≡ session.old)) }
 
     // On a session that had failed nothing is done, and each command is refused.

@@ -1,12 +1,11 @@
 //! What a session says of its warehouse.
-ghost use Rattle.std.specs.Prelude.{◌≡◌, ◌<◌, ◌≤◌, ◌↔◌, ℕ, None, true, length, slice_get, slice_index_or, IfOk, IfErr};
-ghost use Rattle.std.specs.Prelude.{IsErrOf};
+ghost use Rattle.std.specs.Prelude.{◌≡◌, ◌<◌, ◌≤◌, ◌↔◌, None, true, length, slice_get, slice_index_or, IfOk, IfErr};
+ghost use Rattle.std.specs.Prelude.{IsErrOf, ℕ};
 ghost use Rattle.warehouse_root.specs.Limits.{most_cuboids};
 ghost use Rattle.std.specs.List.{sum_by};
 ghost use Rattle.cube_model.specs.declared.fault.Fault.TheVariants.{Failed};
 ghost use Rattle.cube_model.specs.Limits.{most_batches};
-ghost use Rattle.warehouse_objects.specs.Warehouse.{Warehouse};
-ghost use Rattle.warehouse.specs.Session.{has_failed, device_of, content_of, IsAt};
+ghost use Rattle.warehouse.specs.Session.{ForItsWarehouse, content_of, has_failed};
 ghost use Rattle.warehouse.specs.Status.{IsStatus};
 
 use crate::session::Session;
@@ -38,9 +37,9 @@ impl<D: Sectors> Session<D> {
     /// The numbers of the warehouse. `Failed` where the device failed in an earlier call, and no other refusal. It
     /// takes no memory, and makes no device call.
     pub fn status(&self) -> Result<Status, Fault>
-        ensures ok { IfOk result (λ status. (w : Warehouse) → IsAt D.Sectors self.now w
-            → D.keeps_word (device_of self.now)
-            → IsStatus w (content_of D.Sectors self.now).generation status) }
+        ensures ok { IfOk result
+            (λ status. ForItsWarehouse D.Sectors self.now self.now
+            (λ w. IsStatus w (content_of D.Sectors self.now).generation status)) }
         ensures failed { IsErrOf result Failed ↔ (has_failed self.now ≡ true) }
         ensures only { IfErr result (λ fault. fault ≡ Failed) }
     {

@@ -3,9 +3,8 @@ ghost use Rattle.std.specs.Prelude.{◌≡◌, Some, IfOk, IsErrOf};
 ghost use Rattle.cube_model.specs.declared.fault.Fault.{Fault};
 ghost use Rattle.cube_model.specs.Proper.{IsProper};
 ghost use Rattle.planned_queries.specs.Stepping.{Extends, IsRunning, RunningState, Started, Starts};
-ghost use Rattle.warehouse_objects.specs.Warehouse.{Warehouse};
 ghost use Rattle.warehouse.specs.Reads.{OnlyReads, RefusesQuery};
-ghost use Rattle.warehouse.specs.Session.{device_of, IsAt, IsAsked};
+ghost use Rattle.warehouse.specs.Session.{ForItsWarehouse, IsAsked};
 ghost use Rattle.warehouse.specs.Stepping.{StepsTo, refused_by};
 
 use crate::querying::check;
@@ -36,9 +35,9 @@ impl<D: Sectors> Session<D> {
         ensures reads { OnlyReads D.Sectors (IsErrOf result) self.old self.new }
 
         // The query runs over the batches of now.
-        ensures started { IfOk result (λ running. (w : Warehouse) → IsAt D.Sectors self.old w
-            → D.keeps_word (device_of self.new)
-            → IsAsked w as_of query.now × ((s : Started) × Starts w as_of query.now s × IsRunning running s)) }
+        ensures started { IfOk result
+            (λ running. ForItsWarehouse D.Sectors self.old self.new
+            (λ w. IsAsked w as_of query.now × ((s : Started) × Starts w as_of query.now s × IsRunning running s))) }
 
         // When each error comes.
         ensures refused { RefusesQuery D.Sectors (IsProper query.now) as_of (IsErrOf result) self.old self.new }
@@ -73,8 +72,8 @@ impl<D: Sectors> Session<D> {
         ensures reads { OnlyReads D.Sectors (λ fault. refused_by result ≡ Some fault) self.old self.new }
 
         // A query that was started over batches that are still the first goes on by a step.
-        ensures steps { (w : Warehouse) → IsAt D.Sectors self.old w → D.keeps_word (device_of self.new)
-            → (s : Started) → Extends s w → IsRunning running s → StepsTo s result }
+        ensures steps { ForItsWarehouse D.Sectors self.old self.new (λ w. (s : Started) → Extends s w
+            → IsRunning running s → StepsTo s result) }
 
         // After a refusal the query is as it was.
         ensures back { (back : RunningState) (fault : Fault) → result ≡ Stepped.Refused back fault → back ≡ running }

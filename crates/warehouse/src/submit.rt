@@ -1,5 +1,5 @@
 //! Adding a batch to a warehouse.
-ghost use Rattle.std.specs.Prelude.{◌≡◌, ◌≢◌, ◌<◌, ◌≤◌, ◌⊎◌, ◌+◌, ◌↔◌, true, false, Some, List, length, IfOk, IfErr};
+ghost use Rattle.std.specs.Prelude.{◌≡◌, ◌≢◌, ◌≤◌, ◌⊎◌, ◌+◌, ◌↔◌, true, false, Some, List, length, IfOk, IfErr};
 ghost use Rattle.std.specs.Prelude.{MatchResult, OnOk, IsErrOf, take};
 ghost use Rattle.std.specs.Result.{result_err};
 ghost use Rattle.batch_admission.specs.Accepted.{HasAccepted};
@@ -17,7 +17,8 @@ ghost use Rattle.warehouse.specs.Growing.{Grows};
 ghost use Rattle.warehouse.specs.Loaded.{Agrees};
 ghost use Rattle.warehouse.specs.Prepared.{IsPrepared, prepared_puts};
 ghost use Rattle.warehouse.specs.Refusing.{is_of_device};
-ghost use Rattle.warehouse.specs.Session.{Breaks, CallsDevice, CommitsOnce, IsAt, KeptBefore, MayLeave, StaysAt};
+ghost use Rattle.warehouse.specs.Session.{Breaks, CallsDevice, CommitsOnce, ForItsWarehouse, IsAt, KeptBefore};
+ghost use Rattle.warehouse.specs.Session.{MayLeave, StaysAt};
 ghost use Rattle.warehouse.specs.Session.{content_of, device_of, disk_of};
 ghost use Rattle.warehouse.specs.Session.{has_failed};
 ghost use Rattle.warehouse.specs.Session.{KeepsContent, SubmitRefuses};
@@ -57,9 +58,10 @@ impl<D: Sectors> Session<D> {
         ensures kept { IfErr result (λ fault. fault ≢ Device → KeepsContent D.Sectors self.old self.new) }
 
         // When each error comes.
-        ensures causes { IfErr result (λ fault. fault ≢ Device → (w : Warehouse) → IsAt D.Sectors self.old w
-            → D.keeps_word (device_of self.new)
-            → SubmitRefuses D.Sectors self.old w number rows.now fault) }
+        ensures causes { IfErr result
+            (λ fault. fault ≢ Device
+            → ForItsWarehouse D.Sectors self.old self.new
+            (λ w. SubmitRefuses D.Sectors self.old w number rows.now fault)) }
         ensures calls { CallsDevice D.Sectors (IsErrOf result) self.old self.new }
     {
         let batch = match self.grown(alloc, number, rows) {
@@ -125,9 +127,9 @@ impl<D: Sectors> Session<D> {
     fn grown(&self, alloc: Global, number: u32, rows: &[LineOrder]) -> Result<GrowingBatch, Fault>
         ensures fine { IfOk result (λ _. has_failed self.now ≡ false) }
         ensures grows { IfOk result (Grows self.now rows.now) }
-        ensures refused { IfErr result (λ fault. (w : Warehouse) → IsAt D.Sectors self.now w
-            → D.keeps_word (device_of self.now)
-            → (refusal_of w number rows.now ≡ Some fault) ⊎ ((fault ≡ Memory) × PassesChecks w number rows.now)) }
+        ensures refused { IfErr result
+            (λ fault. ForItsWarehouse D.Sectors self.now self.now (λ w. (refusal_of w number rows.now ≡ Some fault)
+            ⊎ ((fault ≡ Memory) × PassesChecks w number rows.now))) }
         ensures failed { IsErrOf result Failed ↔ (has_failed self.now ≡ true) }
         ensures device { IsErrOf result Device → ⊥ }
         ensures leaves { MayLeave D.Sectors self.now self.now (λ w c. Represents c w) }
@@ -144,10 +146,8 @@ impl<D: Sectors> Session<D> {
         requires { puts ≤ 4 }
         ensures fine { OnOk result (has_failed self.now ≡ false) }
         ensures few { OnOk result (length (content_of D.Sectors self.now).objects + puts ≤ most_objects) }
-        ensures agrees { (w : Warehouse) → IsAt D.Sectors self.now w → D.keeps_word (device_of self.now)
-            → Agrees w self.now.dims.value self.now.root }
-        ensures represents { IfErr result (λ _. (w : Warehouse) → IsAt D.Sectors self.now w
-            → D.keeps_word (device_of self.now) → ⊥) }
+        ensures agrees { ForItsWarehouse D.Sectors self.now self.now (λ w. Agrees w self.now.dims.value self.now.root) }
+        ensures represents { IfErr result (λ _. ForItsWarehouse D.Sectors self.now self.now (λ w. ⊥)) }
         ensures failed { IsErrOf result Failed ↔ (has_failed self.now ≡ true) }
         ensures device { IsErrOf result Device → ⊥ }
         ensures leaves { MayLeave D.Sectors self.now self.now (λ w c. Represents c w) }

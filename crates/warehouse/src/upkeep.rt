@@ -7,7 +7,7 @@ ghost use Rattle.stored_cuboids.specs.Merged.{IsSound};
 ghost use Rattle.stored_cuboids.specs.Keeping.{IsKeptUp};
 ghost use Rattle.stored_cuboids.specs.Upkeep.{CuboidsAreCurrent};
 ghost use Rattle.warehouse.specs.Reads.{OnlyReads};
-ghost use Rattle.warehouse.specs.Session.{CallsDevice, IsAt, MayLeave, device_of};
+ghost use Rattle.warehouse.specs.Session.{CallsDevice, ForItsWarehouse, IsAt, MayLeave, device_of};
 ghost use Rattle.warehouse.specs.Upkeep.{IsLaidAt, UpkeepRefuses};
 
 use crate::session::Session;
@@ -70,8 +70,7 @@ impl<D: Sectors> Session<D> {
         ensures answer { IfOk result (λ yes. (w : Warehouse) → IsLaidAt D.Sectors self.old w
             → D.keeps_word (device_of self.new)
             → IsTrue yes ↔ All (IsSound w) w.cuboids) }
-        ensures yes { IfOk result (λ yes. (w : Warehouse) → IsAt D.Sectors self.old w
-            → D.keeps_word (device_of self.new) → yes ≡ true) }
+        ensures yes { IfOk result (λ yes. ForItsWarehouse D.Sectors self.old self.new (λ w. yes ≡ true)) }
 
         // When each error comes.
         ensures refused { IfErr result (λ fault. fault ≢ Device → (w : Warehouse) → IsLaidAt D.Sectors self.old w

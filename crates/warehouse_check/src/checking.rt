@@ -1,10 +1,9 @@
 //! The check of a store.
-ghost use Rattle.std.specs.Prelude.{◌≡◌, ◌⊎◌, None, is_some, false, All, IfErr, IfOk, IsErrOf, IsTrue};
-ghost use Rattle.cube_model.specs.declared.fault.Fault.TheVariants.{BadLayout, Device, Memory};
+ghost use Rattle.std.specs.Prelude.{◌≡◌, None, is_some, false, All, IfErr, IfOk, IsErrOf, IsTrue};
+ghost use Rattle.cube_model.specs.declared.fault.Fault.TheVariants.{BadLayout};
 ghost use Rattle.object_store.specs.Store.{content_of, device_of, has_failed};
-ghost use Rattle.warehouse_objects.specs.Warehouse.{Warehouse};
-ghost use Rattle.warehouse_objects.specs.Reads.{HoldsNoWarehouse, ReadsOnly};
-ghost use Rattle.warehouse_objects.specs.Represents.{AreItsMembers, HasItsObjects, IsLaidOut, root_of};
+ghost use Rattle.warehouse_objects.specs.Reads.{EndsReading, ForLaidWith, HoldsNoWarehouse, ReadsOnly};
+ghost use Rattle.warehouse_objects.specs.Represents.{HasItsObjects};
 ghost use Rattle.stored_cuboids.specs.Merged.{IsSound};
 ghost use Rattle.warehouse_check.specs.Checked.{HasBatches};
 
@@ -46,9 +45,9 @@ pub fn checked<D: Sectors>(
         → HasBatches (content_of D.Sectors store.old) dims.now root.now) }
 
     // And where its cuboids are laid out by the rules, each is the grouping of its batches.
-    ensures cuboids { IfOk result (λ found. found ≡ None → D.keeps_word (device_of store.new) → (w : Warehouse)
-        → IsLaidOut (content_of D.Sectors store.old) w
-        → root.now ≡ root_of w → AreItsMembers w dims.now modes.now → All (IsSound w) w.cuboids) }
+    ensures cuboids { IfOk result
+        (λ found. found ≡ None
+        → ForLaidWith D.Sectors store.old store.new root.now dims.now modes.now (λ w. All (IsSound w) w.cuboids)) }
 
     // Something is found, or it is refused: then the content represents no warehouse.
     ensures found { IfOk result (λ found. IsTrue (is_some found)
@@ -58,7 +57,7 @@ pub fn checked<D: Sectors>(
 
     // The content stays, at each moment.
     ensures reads { ReadsOnly D.Sectors store.old store.new result }
-    ensures causes { IfErr result (λ fault. (fault ≡ Memory) ⊎ ((fault ≡ Device) ⊎ (fault ≡ BadLayout))) }
+    ensures causes { IfErr result EndsReading }
 {
     if !has_its_objects(alloc, store, root)? {
         return Ok(Some(Finding::Objects));

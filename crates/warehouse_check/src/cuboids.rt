@@ -1,10 +1,8 @@
 //! The stored cuboids of a store, checked one after another.
-ghost use Rattle.std.specs.Prelude.{◌≡◌, ◌⊎◌, ◌↔◌, None, false, All, IfErr, IfOk, IsErrOf};
-ghost use Rattle.cube_model.specs.declared.fault.Fault.TheVariants.{BadLayout, Device, Memory};
-ghost use Rattle.object_store.specs.Store.{content_of, device_of, has_failed};
-ghost use Rattle.warehouse_objects.specs.Warehouse.{Warehouse};
-ghost use Rattle.warehouse_objects.specs.Reads.{ReadsOnly};
-ghost use Rattle.warehouse_objects.specs.Represents.{AreItsMembers, IsLaidOut, root_of};
+ghost use Rattle.std.specs.Prelude.{◌≡◌, ◌↔◌, None, false, All, IfErr, IfOk, IsErrOf};
+ghost use Rattle.cube_model.specs.declared.fault.Fault.TheVariants.{BadLayout};
+ghost use Rattle.object_store.specs.Store.{has_failed};
+ghost use Rattle.warehouse_objects.specs.Reads.{EndsReading, ForLaidWith, ReadsOnly};
 ghost use Rattle.stored_cuboids.specs.Merged.{IsSound};
 
 use crate::finding::Finding;
@@ -29,14 +27,13 @@ pub(crate) fn check_cuboids<D: Sectors>(
     modes: &ShipModes,
 ) -> Result<Option<Finding>, Fault>
     requires fine { has_failed store.old ≡ false }
-    ensures answer { IfOk result (λ found. D.keeps_word (device_of store.new) → (w : Warehouse)
-        → IsLaidOut (content_of D.Sectors store.old) w
-        → root.now ≡ root_of w → AreItsMembers w dims.now modes.now → (found ≡ None) ↔ All (IsSound w) w.cuboids) }
-    ensures refused { IsErrOf result BadLayout → D.keeps_word (device_of store.new) → (w : Warehouse)
-        → IsLaidOut (content_of D.Sectors store.old) w
-        → root.now ≡ root_of w → AreItsMembers w dims.now modes.now → ⊥ }
+    ensures answer { IfOk result
+        (λ found. ForLaidWith D.Sectors store.old store.new root.now dims.now modes.now
+        (λ w. (found ≡ None) ↔ All (IsSound w) w.cuboids)) }
+    ensures refused { IsErrOf result BadLayout
+        → ForLaidWith D.Sectors store.old store.new root.now dims.now modes.now (λ w. ⊥) }
     ensures reads { ReadsOnly D.Sectors store.old store.new result }
-    ensures causes { IfErr result (λ fault. (fault ≡ Memory) ⊎ ((fault ≡ Device) ⊎ (fault ≡ BadLayout))) }
+    ensures causes { IfErr result EndsReading }
 {
     for cuboid in root.cuboids() {
         let sound = is_sound(alloc, store, root, dims, modes, *cuboid)?;

@@ -3,13 +3,13 @@ use Rattle.std.specs.Prelude.{ℕ, ◌-◌, Bool, List, [], ◌∷◌, ◌++◌,
 use Rattle.std.specs.List.{flat_map}
 use Rattle.std.specs.Fmt.{decimal}
 use Rattle.lattice.specs.Names.{view_text}
-use Rattle.planner.specs.declared.price.Plan.{Plan}
-use Rattle.planner.specs.declared.price.Plan.TheVariants.{Scan, Cells}
+use Rattle.planner.specs.declared.price.AccessPath.{AccessPath}
+use Rattle.planner.specs.declared.price.AccessPath.TheVariants.{Scan, Cells}
 use Rattle.planner.specs.declared.price.Priced.{Priced}
 use Rattle.planned_queries.specs.Planned.{mark_of}
 
 -- from where a plan reads first, with or without a fifth axis, such as: view 248 ALL|ALL|mfgr|day mark 1
-abbrev pub source_text : Bool → Plan → List ℕ
+abbrev pub source_text : Bool → AccessPath → List ℕ
 source_text ship_modes Scan = codes "scan"
 source_text ship_modes (Cells view mark) = view_text ship_modes view ++ (codes " mark " ++ decimal mark)
 

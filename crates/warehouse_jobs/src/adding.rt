@@ -2,8 +2,7 @@
 ghost use Rattle.std.specs.Prelude.{◌≡◌, Err, IfErr, IfOk};
 ghost use Rattle.cube_model.specs.declared.fault.Fault.TheVariants.{Failed};
 ghost use Rattle.cube_model.specs.Validity.{HaveShortTexts};
-ghost use Rattle.warehouse_objects.specs.Warehouse.{Warehouse};
-ghost use Rattle.warehouse.specs.Session.{IsAt, KeptBefore, device_of};
+ghost use Rattle.warehouse.specs.Session.{ForItsWarehouse, KeptBefore};
 ghost use Rattle.warehouse_jobs.specs.Adding.{DoesAddition, RefusesRows, DeviceTakesRows, row_total};
 ghost use Rattle.warehouse_jobs.specs.Failing.{FailsAtOnce};
 
@@ -33,9 +32,9 @@ pub fn add<D: Sectors, W: Write>(
     requires short { HaveShortTexts rows.now }
 
     // What is written, what the warehouse is then, and what a crash at any point until then leaves.
-    ensures adds { (w : Warehouse) → IsAt D.Sectors session.old w → D.keeps_word (device_of session.new)
-        → DoesAddition D.Sectors w number rows.now session.old session.new (W.contents out.old) (W.contents out.new)
-        result }
+    ensures adds { ForItsWarehouse D.Sectors session.old session.new
+        (λ w. DoesAddition D.Sectors w number rows.now session.old session.new (W.contents out.old) (W.contents out.new)
+        result) }
 
     // Where the device failed in an earlier call, nothing is done.
     ensures failed { FailsAtOnce D.Sectors session.old session.new (W.contents out.old) (W.contents out.new) result }
@@ -57,12 +56,12 @@ fn take_rows<D: Sectors>(
     rows: &DimRows,
 ) -> Result<Taken, Fault>
     requires short { HaveShortTexts rows.now }
-    ensures taken { IfOk result (λ taken. (w : Warehouse) → IsAt D.Sectors session.old w
-        → D.keeps_word (device_of session.new)
-        → DeviceTakesRows D.Sectors w number rows.now session.old session.new taken) }
-    ensures refused { IfErr result (λ fault. (w : Warehouse) → IsAt D.Sectors session.old w
-        → D.keeps_word (device_of session.new)
-        → RefusesRows D.Sectors w number rows.now session.old session.new fault) }
+    ensures taken { IfOk result
+        (λ taken. ForItsWarehouse D.Sectors session.old session.new
+        (λ w. DeviceTakesRows D.Sectors w number rows.now session.old session.new taken)) }
+    ensures refused { IfErr result
+        (λ fault. ForItsWarehouse D.Sectors session.old session.new
+        (λ w. RefusesRows D.Sectors w number rows.now session.old session.new fault)) }
     ensures word { KeptBefore D.Sectors session.old session.new }
 {
     if number > session.status()?.additions {

@@ -4,8 +4,7 @@ ghost use Rattle.planned_queries.specs.ModeAnswers.{moded_answer_as_of};
 ghost use Rattle.mode_queries.specs.Proper.{IsProperByModes};
 ghost use Rattle.warehouse.specs.ByModes.{IsAskedByModes};
 ghost use Rattle.warehouse.specs.Reads.{OnlyReads, RefusesQuery};
-ghost use Rattle.warehouse.specs.Session.{IsAt, device_of};
-ghost use Rattle.warehouse_objects.specs.Warehouse.{Warehouse};
+ghost use Rattle.warehouse.specs.Session.{ForItsWarehouse};
 
 use crate::reported::Reported;
 use cube_model::Fault;
@@ -30,9 +29,9 @@ pub fn answered<D: Sectors>(
     ensures reads { OnlyReads D.Sectors (IsErrOf result) session.old session.new }
 
     // The answer is the definition's.
-    ensures answer { IfOk result (λ found. (w : Warehouse) → IsAt D.Sectors session.old w
-        → D.keeps_word (device_of session.new)
-        → IsAskedByModes w as_of asked.now × (found ≡ moded_answer_as_of asked.now as_of w.rows w.batches)) }
+    ensures answer { IfOk result
+        (λ found. ForItsWarehouse D.Sectors session.old session.new
+        (λ w. IsAskedByModes w as_of asked.now × (found ≡ moded_answer_as_of asked.now as_of w.rows w.batches))) }
 
     // When each error comes.
     ensures refused { RefusesQuery D.Sectors (IsProperByModes asked.now) as_of (IsErrOf result) session.old

@@ -5,7 +5,7 @@ ghost use Rattle.ssb_reports.specs.Writing.{Writes};
 ghost use Rattle.warehouse_objects.specs.Warehouse.{Warehouse};
 ghost use Rattle.warehouse_objects.specs.Represents.{Represents};
 ghost use Rattle.warehouse_check.specs.Checked.{IsChecked};
-ghost use Rattle.warehouse.specs.Session.{IsAt, KeptBefore, content_of, device_of};
+ghost use Rattle.warehouse.specs.Session.{ForItsWarehouse, KeptBefore, content_of, device_of};
 ghost use Rattle.warehouse_jobs.specs.Checking.{Checks, count_stored, sound_line, sound_text};
 ghost use Rattle.warehouse_jobs.specs.Failing.{FailsAtOnce};
 
@@ -29,8 +29,8 @@ pub fn check<D: Sectors, W: Write>(
     out: &mut W,
 ) -> Result<bool, Fault>
     // Of a warehouse the answer is yes.
-    ensures checks { (w : Warehouse) → IsAt D.Sectors session.old w → D.keeps_word (device_of session.new)
-        → Checks D.Sectors w session.old session.new (W.contents out.old) (W.contents out.new) result }
+    ensures checks { ForItsWarehouse D.Sectors session.old session.new
+        (λ w. Checks D.Sectors w session.old session.new (W.contents out.old) (W.contents out.new) result) }
 
     // Yes says that the content has its objects and batches, whatever it is, and no that it represents no warehouse.
     ensures yes { IfOk result (λ sound. IsTrue sound → D.keeps_word (device_of session.new)

@@ -1,6 +1,5 @@
 //! Choosing which cuboids are stored.
-ghost use Rattle.warehouse_objects.specs.Warehouse.{Warehouse};
-ghost use Rattle.warehouse.specs.Session.{IsAt, KeptBefore, device_of};
+ghost use Rattle.warehouse.specs.Session.{ForItsWarehouse, KeptBefore};
 ghost use Rattle.warehouse_jobs.specs.Cuboids.{Chooses, ChoosesFor};
 
 use crate::printing::write_choice;
@@ -18,8 +17,8 @@ pub(crate) fn choose<D: Sectors, W: Write>(
     k: u8,
     out: &mut W,
 ) -> Result<(), Fault>
-    ensures chooses { (w : Warehouse) → IsAt D.Sectors session.old w → D.keeps_word (device_of session.new)
-        → Chooses D.Sectors w k session.old session.new (W.contents out.old) (W.contents out.new) result }
+    ensures chooses { ForItsWarehouse D.Sectors session.old session.new
+        (λ w. Chooses D.Sectors w k session.old session.new (W.contents out.old) (W.contents out.new) result) }
     ensures word { KeptBefore D.Sectors session.old session.new }
 {
     let chosen = session.choose(alloc, k)?;
@@ -36,9 +35,9 @@ pub(crate) fn choose_for<D: Sectors, W: Write>(
     demanded: &[View],
     out: &mut W,
 ) -> Result<(), Fault>
-    ensures chooses { (w : Warehouse) → IsAt D.Sectors session.old w → D.keeps_word (device_of session.new)
-        → ChoosesFor D.Sectors w demanded.now k session.old session.new (W.contents out.old) (W.contents out.new)
-        result }
+    ensures chooses { ForItsWarehouse D.Sectors session.old session.new
+        (λ w. ChoosesFor D.Sectors w demanded.now k session.old session.new (W.contents out.old) (W.contents out.new)
+        result) }
     ensures word { KeptBefore D.Sectors session.old session.new }
 {
     let chosen = session.choose_for(alloc, k, demanded)?;

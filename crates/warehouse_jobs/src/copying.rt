@@ -5,7 +5,7 @@ ghost use Rattle.object_store.specs.Disk.{disk, Each, IsBlank, Leaves, LeavesOrN
 ghost use Rattle.object_store.specs.Shows.{HasNone};
 ghost use Rattle.warehouse_objects.specs.Represents.{Represents};
 ghost use Rattle.warehouse_objects.specs.Warehouse.{Warehouse};
-ghost use Rattle.warehouse.specs.Session.{IsAt, KeptBefore, MayLeave, device_of, disk_of, has_failed};
+ghost use Rattle.warehouse.specs.Session.{ForItsWarehouse, IsAt, KeptBefore, MayLeave, device_of, disk_of, has_failed};
 ghost use Rattle.warehouse_jobs.specs.Copied.{AreBroughtOn, HoldsPart, IsCopy, IsCopyFault, with_first};
 
 use crate::copied_batches::copy_batches;
@@ -41,19 +41,19 @@ pub fn copy<D: Sectors, E: Sectors>(
     ensures from_word { KeptBefore D.Sectors from.old from.new }
 
     // Then the other one is at a copy.
-    ensures ok { IfOk result (λ to. (w : Warehouse) → IsAt D.Sectors from.old w → D.keeps_word (device_of from.new)
-        → (copy : Warehouse) × IsCopy w copy × IsAt E.Sectors to copy
-        × (E.keeps_word (device_of to) → AreBroughtOn copy)) }
+    ensures ok { IfOk result
+        (λ to. ForItsWarehouse D.Sectors from.old from.new
+        (λ w. (copy : Warehouse) × IsCopy w copy × IsAt E.Sectors to copy
+        × (E.keeps_word (device_of to) → AreBroughtOn copy))) }
 
     // Where no image at the start has a valid superblock: until the end an image has none, or the dimension rows and
     // some first batches.
-    ensures leaves { IfOk result (λ to. (w : Warehouse) → IsAt D.Sectors from.old w → D.keeps_word (device_of from.new)
-        → Each (disk E.Sectors device) IsBlank
-        → LeavesOrNone (disk E.Sectors device) (disk_of E.Sectors to) (HoldsPart w)) }
-    ensures leaves_err { IfErr result (λ e. (w : Warehouse) → IsAt D.Sectors from.old w
-        → D.keeps_word (device_of from.new)
-        → Each (disk E.Sectors device) IsBlank
-        → LeavesOrNone (disk E.Sectors device) (disk E.Sectors e.1) (HoldsPart w)) }
+    ensures leaves { IfOk result
+        (λ to. ForItsWarehouse D.Sectors from.old from.new (λ w. Each (disk E.Sectors device) IsBlank
+        → LeavesOrNone (disk E.Sectors device) (disk_of E.Sectors to) (HoldsPart w))) }
+    ensures leaves_err { IfErr result
+        (λ e. ForItsWarehouse D.Sectors from.old from.new (λ w. Each (disk E.Sectors device) IsBlank
+        → LeavesOrNone (disk E.Sectors device) (disk E.Sectors e.1) (HoldsPart w))) }
 
     // It succeeds only where reads of the new device show no valid superblock at the start. Where they show one, no
     // sector is written.
@@ -62,8 +62,8 @@ pub fn copy<D: Sectors, E: Sectors>(
         → OnlyImagesOf (disk E.Sectors device) (disk E.Sectors e.1)) }
 
     // When each error comes.
-    ensures causes { IfErr result (λ e. (w : Warehouse) → IsAt D.Sectors from.old w → D.keeps_word (device_of from.new)
-        → E.keeps_word e.1 → IsCopyFault e.0) }
+    ensures causes { IfErr result
+        (λ e. ForItsWarehouse D.Sectors from.old from.new (λ w. E.keeps_word e.1 → IsCopyFault e.0)) }
 {
     let layout = from.layout();
     let dims = match tables_of(alloc, from) {
@@ -82,8 +82,7 @@ pub fn copy<D: Sectors, E: Sectors>(
 
 // A copy of the dimension rows of a warehouse. No device call is made.
 fn tables_of<D: Sectors>(alloc: Global, from: &Session<D>) -> Result<Dims, Fault>
-    ensures ok { IfOk result (λ dims. (w : Warehouse) → IsAt D.Sectors from.now w → D.keeps_word (device_of from.now)
-        → dims ≡ w.rows) }
+    ensures ok { IfOk result (λ dims. ForItsWarehouse D.Sectors from.now from.now (λ w. dims ≡ w.rows)) }
     ensures refused { IfErr result (λ fault. (fault ≡ Memory) ⊎ ((fault ≡ Failed) × (has_failed from.now ≡ true))) }
     ensures leaves { MayLeave D.Sectors from.now from.now (λ w c. Represents c w) }
 {

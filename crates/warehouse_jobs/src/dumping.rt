@@ -8,7 +8,7 @@ ghost use Rattle.warehouse_objects.specs.Represents.{Represents};
 ghost use Rattle.warehouse_objects.specs.Warehouse.{Warehouse};
 ghost use Rattle.warehouse.specs.Comparing.{numbered};
 ghost use Rattle.warehouse.specs.Reads.{OnlyReads};
-ghost use Rattle.warehouse.specs.Session.{IsAt, KeptBefore, MayLeave, device_of, has_failed};
+ghost use Rattle.warehouse.specs.Session.{ForItsWarehouse, IsAt, KeptBefore, MayLeave, has_failed};
 ghost use Rattle.warehouse_jobs.specs.Dumped.{RowsAreWritten, RefusesAfter, DumpIsRefused};
 
 use cube_model::Fault;
@@ -35,12 +35,12 @@ pub fn write_batches<D: Sectors, W: Write>(
         → IsAt D.Sectors session.new w }
 
     // The lines of all rows are written, or those of some first batches.
-    ensures ok { OnOk result ((w : Warehouse) → IsAt D.Sectors session.old w
-        → D.keeps_word (device_of session.new)
-        → RowsAreWritten (all_rows w.batches) (W.contents out.old) (W.contents out.new)) }
-    ensures refused { IfErr result (λ fault. (w : Warehouse) → IsAt D.Sectors session.old w
-        → D.keeps_word (device_of session.new)
-        → RefusesAfter w.batches (W.contents out.old) (W.contents out.new) fault) }
+    ensures ok { OnOk result
+        (ForItsWarehouse D.Sectors session.old session.new
+        (λ w. RowsAreWritten (all_rows w.batches) (W.contents out.old) (W.contents out.new))) }
+    ensures refused { IfErr result
+        (λ fault. ForItsWarehouse D.Sectors session.old session.new
+        (λ w. RefusesAfter w.batches (W.contents out.old) (W.contents out.new) fault)) }
 
     // After a failure nothing is done.
     ensures failed { has_failed session.old ≡ true
@@ -71,13 +71,13 @@ pub fn write_batch<D: Sectors, W: Write>(
     ensures reads { OnlyReads D.Sectors (IsErrOf result) session.old session.new }
 
     // The lines of its rows are written. When each error comes.
-    ensures ok { OnOk result ((w : Warehouse) → IsAt D.Sectors session.old w
-        → D.keeps_word (device_of session.new)
-        → (rows : List LineOrder) × (numbered w.batches number ≡ Some rows)
-        × RowsAreWritten rows (W.contents out.old) (W.contents out.new)) }
-    ensures refused { IfErr result (λ fault. (w : Warehouse) → IsAt D.Sectors session.old w
-        → D.keeps_word (device_of session.new)
-        → DumpIsRefused (numbered w.batches number) (W.contents out.old) (W.contents out.new) fault) }
+    ensures ok { OnOk result
+        (ForItsWarehouse D.Sectors session.old session.new
+        (λ w. (rows : List LineOrder) × (numbered w.batches number ≡ Some rows)
+        × RowsAreWritten rows (W.contents out.old) (W.contents out.new))) }
+    ensures refused { IfErr result
+        (λ fault. ForItsWarehouse D.Sectors session.old session.new
+        (λ w. DumpIsRefused (numbered w.batches number) (W.contents out.old) (W.contents out.new) fault)) }
 {
     let found = session.rows_of_batch(alloc, number)?;
     match found {

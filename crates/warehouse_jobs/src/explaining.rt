@@ -2,8 +2,7 @@
 ghost use Rattle.std.specs.Prelude.{◌≡◌, true, Err};
 ghost use Rattle.std.specs.Io.KnownBytes.{Keeps};
 ghost use Rattle.cube_model.specs.declared.fault.Fault.TheVariants.{Failed};
-ghost use Rattle.warehouse_objects.specs.Warehouse.{Warehouse};
-ghost use Rattle.warehouse.specs.Session.{device_of, has_failed, IsAt};
+ghost use Rattle.warehouse.specs.Session.{ForItsWarehouse, has_failed};
 ghost use Rattle.warehouse_jobs.specs.Reporting.{batches_asked};
 ghost use Rattle.warehouse_jobs.specs.Explaining.{Explains};
 
@@ -33,8 +32,8 @@ pub fn explain<D: Sectors, W: Write>(
     asked: &ModeQuery,
     out: &mut W,
 ) -> Result<(), Fault>
-    ensures explains { (w : Warehouse) → IsAt D.Sectors session.now w → D.keeps_word (device_of session.now)
-        → Explains w (batches_asked w as_of) asked.now (W.contents out.old) (W.contents out.new) result }
+    ensures explains { ForItsWarehouse D.Sectors session.now session.now
+        (λ w. Explains w (batches_asked w as_of) asked.now (W.contents out.old) (W.contents out.new) result) }
     ensures failed { has_failed session.now ≡ true → (result ≡ Err Failed)
         × Keeps (W.contents out.old) (W.contents out.new) }
 {
@@ -50,8 +49,8 @@ fn explain_over<D: Sectors, W: Write>(
     asked: &ModeQuery,
     out: &mut W,
 ) -> Result<(), Fault>
-    ensures explains { (w : Warehouse) → IsAt D.Sectors session.now w → D.keeps_word (device_of session.now)
-        → Explains w count asked.now (W.contents out.old) (W.contents out.new) result }
+    ensures explains { ForItsWarehouse D.Sectors session.now session.now
+        (λ w. Explains w count asked.now (W.contents out.old) (W.contents out.new) result) }
     ensures failed { has_failed session.now ≡ true → (result ≡ Err Failed)
         × Keeps (W.contents out.old) (W.contents out.new) }
 {

@@ -2,9 +2,8 @@
 ghost use Rattle.std.specs.Prelude.{Err};
 ghost use Rattle.cube_model.specs.declared.fault.Fault.TheVariants.{Failed};
 ghost use Rattle.report_formats.specs.Fields.{formatted};
-ghost use Rattle.warehouse_objects.specs.Warehouse.{Warehouse};
 ghost use Rattle.warehouse_objects.specs.Represents.{Represents};
-ghost use Rattle.warehouse.specs.Session.{IsAt, KeptBefore, MayLeave, device_of};
+ghost use Rattle.warehouse.specs.Session.{ForItsWarehouse, KeptBefore, MayLeave};
 ghost use Rattle.warehouse_jobs.specs.Reporting.{AnswersByModes, ReportsIn};
 ghost use Rattle.warehouse_jobs.specs.Failing.{FailsAtOnce};
 
@@ -30,9 +29,9 @@ pub fn report_formatted<D: Sectors, W: Write>(
     asked: &Asked,
     out: &mut W,
 ) -> Result<(), Fault>
-    ensures reports { (w : Warehouse) → IsAt D.Sectors session.old w → D.keeps_word (device_of session.new)
-        → ReportsIn D.Sectors w as_of asked.now session.old session.new (W.contents out.old) (W.contents out.new)
-        result }
+    ensures reports { ForItsWarehouse D.Sectors session.old session.new
+        (λ w. ReportsIn D.Sectors w as_of asked.now session.old session.new (W.contents out.old) (W.contents out.new)
+        result) }
 
     // Where the device failed in an earlier call, nothing is done.
     ensures failed { FailsAtOnce D.Sectors session.old session.new (W.contents out.old) (W.contents out.new) result }
@@ -53,9 +52,9 @@ fn formatted_over<D: Sectors, W: Write>(
     asked: &Asked,
     out: &mut W,
 ) -> Result<(), Fault>
-    ensures ends { (w : Warehouse) → IsAt D.Sectors session.old w → D.keeps_word (device_of session.new)
-        → AnswersByModes (formatted asked.now) D.Sectors w count asked.now.query session.new (W.contents out.old)
-        (W.contents out.new) result }
+    ensures ends { ForItsWarehouse D.Sectors session.old session.new
+        (λ w. AnswersByModes (formatted asked.now) D.Sectors w count asked.now.query session.new (W.contents out.old)
+        (W.contents out.new) result) }
     ensures leaves { MayLeave D.Sectors session.old session.new (λ w c. Represents c w) }
     ensures word { KeptBefore D.Sectors session.old session.new }
 {

@@ -3,7 +3,7 @@ ghost use Rattle.std.specs.Prelude.{◌↔◌, All, IsTrue, IfOk};
 ghost use Rattle.std.specs.Io.KnownBytes.{Appends};
 ghost use Rattle.warehouse_objects.specs.Warehouse.{Warehouse};
 ghost use Rattle.stored_cuboids.specs.Merged.{IsSound};
-ghost use Rattle.warehouse.specs.Session.{IsAt, KeptBefore, device_of};
+ghost use Rattle.warehouse.specs.Session.{ForItsWarehouse, KeptBefore, device_of};
 ghost use Rattle.warehouse.specs.Upkeep.{IsLaidAt};
 ghost use Rattle.warehouse_jobs.specs.Cuboids.{Audits, KeepsUp};
 ghost use Rattle.warehouse_jobs.specs.Printed.{audit_text};
@@ -21,8 +21,8 @@ pub(crate) fn keep_up<D: Sectors, W: Write>(
     session: &mut Session<D>,
     out: &mut W,
 ) -> Result<(), Fault>
-    ensures keeps { (w : Warehouse) → IsAt D.Sectors session.old w → D.keeps_word (device_of session.new)
-        → KeepsUp D.Sectors w session.old session.new (W.contents out.old) (W.contents out.new) result }
+    ensures keeps { ForItsWarehouse D.Sectors session.old session.new
+        (λ w. KeepsUp D.Sectors w session.old session.new (W.contents out.old) (W.contents out.new) result) }
     ensures word { KeptBefore D.Sectors session.old session.new }
 {
     session.upkeep(alloc)?;
@@ -35,8 +35,8 @@ pub(crate) fn audit<D: Sectors, W: Write>(
     session: &mut Session<D>,
     out: &mut W,
 ) -> Result<bool, Fault>
-    ensures audits { (w : Warehouse) → IsAt D.Sectors session.old w → D.keeps_word (device_of session.new)
-        → Audits D.Sectors w session.old session.new (W.contents out.old) (W.contents out.new) result }
+    ensures audits { ForItsWarehouse D.Sectors session.old session.new
+        (λ w. Audits D.Sectors w session.old session.new (W.contents out.old) (W.contents out.new) result) }
     ensures laid { IfOk result (λ yes. (w : Warehouse) → IsLaidAt D.Sectors session.old w
         → D.keeps_word (device_of session.new)
         → IsTrue yes ↔ All (IsSound w) w.cuboids) }

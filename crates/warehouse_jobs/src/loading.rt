@@ -1,5 +1,5 @@
 //! Loading the fact rows of a file.
-ghost use Rattle.std.specs.Prelude.{◌≡◌, ◌≤◌, ◌++◌, [], ℕ, List, Option, None, length, IfOk, IfErr, IfSome, OnOk};
+ghost use Rattle.std.specs.Prelude.{◌≡◌, ◌≤◌, ◌++◌, [], List, Option, None, length, IfOk, IfErr, IfSome, OnOk, ℕ};
 ghost use Rattle.std.specs.Io.KnownBytes.{Keeps};
 ghost use Rattle.cube_model.specs.declared.rows.LineOrder.{LineOrder};
 ghost use Rattle.cube_model.specs.Limits.{most_batch_rows};
@@ -10,7 +10,7 @@ ghost use Rattle.ssb_eval.specs.Tables.{IsInNoRow};
 ghost use Rattle.ssb_reports.specs.Writing.{Writes};
 ghost use Rattle.warehouse_objects.specs.Warehouse.{Warehouse};
 ghost use Rattle.warehouse.specs.Growing.{CanGrow, Grows, IsOfSession};
-ghost use Rattle.warehouse.specs.Session.{IsAt, KeptBefore, device_of};
+ghost use Rattle.warehouse.specs.Session.{ForItsWarehouse, IsAt, KeptBefore, device_of};
 ghost use Rattle.warehouse_jobs.specs.Loading.{DoesBatch, Loads, LoadIsRefused, DeviceTakesBatch};
 ghost use Rattle.warehouse_jobs.specs.Steps.{Steps};
 ghost use Rattle.warehouse_jobs.specs.Printed.{count_line};
@@ -124,9 +124,8 @@ pub fn load<D: Sectors, R: Read + Drop, W: Write>(
 
     // After a refusal the text has the line that is refused, or a key that is in no row of its dimension.
     ensures line { lineorder.old.lines.fault ≡ None → KeepsLine lineorder_row lineorder.new.lines }
-    ensures unknown { (w : Warehouse) → IsAt D.Sectors session.old w → D.keeps_word (device_of session.new)
-        → lineorder.old.lines.number ≡ 0 → lineorder.old.unknown ≡ None
-        → IfSome lineorder.new.unknown (IsInNoRow w.rows) }
+    ensures unknown { ForItsWarehouse D.Sectors session.old session.new (λ w. lineorder.old.lines.number ≡ 0
+        → lineorder.old.unknown ≡ None → IfSome lineorder.new.unknown (IsInNoRow w.rows)) }
 {
     if let Some(fault) = lineorder.lines.fault() {
         return Err(fault);
@@ -144,9 +143,9 @@ pub(crate) fn load_from<D: Sectors, R: Read + Drop, W: Write>(
     lineorder: R,
     out: &mut W,
 ) -> Result<(), Fault>
-    ensures loads { (w : Warehouse) → IsAt D.Sectors session.old w → D.keeps_word (device_of session.new)
-        → Loads D.Sectors w first rows (R.remaining lineorder) session.old session.new (W.contents out.old)
-        (W.contents out.new) result }
+    ensures loads { ForItsWarehouse D.Sectors session.old session.new
+        (λ w. Loads D.Sectors w first rows (R.remaining lineorder) session.old session.new (W.contents out.old)
+        (W.contents out.new) result) }
     ensures word { KeptBefore D.Sectors session.old session.new }
 {
     let mut text = LoadText::new(alloc, lineorder)?;
@@ -173,8 +172,8 @@ fn load_lines<D: Sectors, R: Read, W: Write>(
         → Loads D.Sectors w first size text session.old session.new (W.contents out.old) (W.contents out.new) result }
     ensures word { KeptBefore D.Sectors session.old session.new }
     ensures line { KeepsLine lineorder_row lines.new }
-    ensures unknown { (w : Warehouse) → IsAt D.Sectors session.old w → D.keeps_word (device_of session.new)
-        → lines.old.number ≡ 0 → kept.old.unknown ≡ None → IfSome kept.new.unknown (IsInNoRow w.rows) }
+    ensures unknown { ForItsWarehouse D.Sectors session.old session.new
+        (λ w. lines.old.number ≡ 0 → kept.old.unknown ≡ None → IfSome kept.new.unknown (IsInNoRow w.rows)) }
 {
     for done in 0..MOST_STEPS {
         let number = first.saturating_add(done);
@@ -199,13 +198,13 @@ fn load_next<D: Sectors, R: Read, W: Write>(
 ) -> Result<bool, Fault>
     requires few { size ≤ most_batch_rows }
     requires fault { lines.old.fault ≡ None }
-    ensures steps { (w : Warehouse) → IsAt D.Sectors session.old w → D.keeps_word (device_of session.new)
-        → Steps D.Sectors size w number lines.old lines.new session.old session.new (W.contents out.old)
-        (W.contents out.new) result }
+    ensures steps { ForItsWarehouse D.Sectors session.old session.new
+        (λ w. Steps D.Sectors size w number lines.old lines.new session.old session.new (W.contents out.old)
+        (W.contents out.new) result) }
     ensures fault { OnOk result (lines.new.fault ≡ None) }
     ensures line { KeepsLine lineorder_row lines.new }
-    ensures unknown { (w : Warehouse) → IsAt D.Sectors session.old w → D.keeps_word (device_of session.new)
-        → IfSome kept.old.unknown (IsInNoRow w.rows) → IfSome kept.new.unknown (IsInNoRow w.rows) }
+    ensures unknown { ForItsWarehouse D.Sectors session.old session.new (λ w. IfSome kept.old.unknown (IsInNoRow w.rows)
+        → IfSome kept.new.unknown (IsInNoRow w.rows)) }
     ensures word { KeptBefore D.Sectors session.old session.new }
 {
     let batch = next_batch(alloc, session, lines, size, &mut kept.unknown)?;
@@ -231,8 +230,8 @@ fn next_batch<D: Sectors, R: Read>(
         × Grows session.now rows batch) }
     ensures refused { IfErr result (RefusesBatch lineorder_row size lines.old) }
     ensures line { KeepsLine lineorder_row lines.new }
-    ensures unknown { (w : Warehouse) → IsAt D.Sectors session.now w → D.keeps_word (device_of session.now)
-        → IfSome unknown.old (IsInNoRow w.rows) → IfSome unknown.new (IsInNoRow w.rows) }
+    ensures unknown { ForItsWarehouse D.Sectors session.now session.now (λ w. IfSome unknown.old (IsInNoRow w.rows)
+        → IfSome unknown.new (IsInNoRow w.rows)) }
 {
     let mut batch = session.begin_batch(alloc, size)?;
     fill(alloc, session, lines, size, &mut batch, unknown)?;
@@ -256,8 +255,8 @@ fn fill<D: Sectors, R: Read>(
         × Grows session.now rows batch.new) }
     ensures refused { IfErr result (RefusesBatch lineorder_row size lines.old) }
     ensures line { KeepsLine lineorder_row lines.new }
-    ensures unknown { (w : Warehouse) → IsAt D.Sectors session.now w → D.keeps_word (device_of session.now)
-        → IfSome unknown.old (IsInNoRow w.rows) → IfSome unknown.new (IsInNoRow w.rows) }
+    ensures unknown { ForItsWarehouse D.Sectors session.now session.now (λ w. IfSome unknown.old (IsInNoRow w.rows)
+        → IfSome unknown.new (IsInNoRow w.rows)) }
 {
     let mut rows = Items::new(alloc);
     for piece in 0..size.div_ceil(PIECE_ROWS) {
@@ -288,8 +287,8 @@ fn next_piece<D: Sectors, R: Read>(
         → Grows session.now (before ++ rows) batch.new) }
     ensures refused { IfErr result (RefusesBatch lineorder_row most lines.old) }
     ensures line { KeepsLine lineorder_row lines.new }
-    ensures unknown { (w : Warehouse) → IsAt D.Sectors session.now w → D.keeps_word (device_of session.now)
-        → IfSome unknown.old (IsInNoRow w.rows) → IfSome unknown.new (IsInNoRow w.rows) }
+    ensures unknown { ForItsWarehouse D.Sectors session.now session.now (λ w. IfSome unknown.old (IsInNoRow w.rows)
+        → IfSome unknown.new (IsInNoRow w.rows)) }
 {
     let rows = read_batch_into(alloc, lines, most, done)?;
     session.add_rows(alloc, batch, rows.as_slice())?;
@@ -306,8 +305,8 @@ fn next_piece<D: Sectors, R: Read>(
 
 // Writes how many batches the warehouse has.
 fn end<D: Sectors, W: Write>(session: &Session<D>, out: &mut W) -> Result<(), Fault>
-    ensures { (w : Warehouse) → IsAt D.Sectors session.now w → D.keeps_word (device_of session.now)
-        → Writes (W.contents out.old) (W.contents out.new) result (count_line (length w.batches)) }
+    ensures { ForItsWarehouse D.Sectors session.now session.now
+        (λ w. Writes (W.contents out.old) (W.contents out.new) result (count_line (length w.batches))) }
 {
     write_count(out, session.status()?.batches)
 }

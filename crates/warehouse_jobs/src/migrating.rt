@@ -1,6 +1,5 @@
 //! Moving a warehouse to the second layout.
-ghost use Rattle.warehouse_objects.specs.Warehouse.{Warehouse};
-ghost use Rattle.warehouse.specs.Session.{IsAt, KeptBefore, device_of};
+ghost use Rattle.warehouse.specs.Session.{ForItsWarehouse, KeptBefore};
 ghost use Rattle.warehouse_jobs.specs.Migrating.{Migrates};
 
 use crate::printing::write_second_layout;
@@ -16,8 +15,8 @@ pub(crate) fn migrate<D: Sectors, W: Write>(
     session: &mut Session<D>,
     out: &mut W,
 ) -> Result<(), Fault>
-    ensures migrates { (w : Warehouse) → IsAt D.Sectors session.old w → D.keeps_word (device_of session.new)
-        → Migrates D.Sectors w session.old session.new (W.contents out.old) (W.contents out.new) result }
+    ensures migrates { ForItsWarehouse D.Sectors session.old session.new
+        (λ w. Migrates D.Sectors w session.old session.new (W.contents out.old) (W.contents out.new) result) }
     ensures word { KeptBefore D.Sectors session.old session.new }
 {
     session.migrate(alloc)?;

@@ -1,9 +1,8 @@
 //! The partial report of a query over a warehouse.
 ghost use Rattle.std.specs.Prelude.{Err};
 ghost use Rattle.cube_model.specs.declared.fault.Fault.TheVariants.{Failed};
-ghost use Rattle.warehouse_objects.specs.Warehouse.{Warehouse};
 ghost use Rattle.warehouse_objects.specs.Represents.{Represents};
-ghost use Rattle.warehouse.specs.Session.{IsAt, KeptBefore, MayLeave, device_of};
+ghost use Rattle.warehouse.specs.Session.{ForItsWarehouse, KeptBefore, MayLeave};
 ghost use Rattle.warehouse_jobs.specs.Partial.{AnswersInPart, ReportsInPart};
 ghost use Rattle.warehouse_jobs.specs.Failing.{FailsAtOnce};
 
@@ -28,9 +27,9 @@ pub fn report_partial<D: Sectors, W: Write>(
     asked: &PartAsked,
     out: &mut W,
 ) -> Result<(), Fault>
-    ensures reports { (w : Warehouse) → IsAt D.Sectors session.old w → D.keeps_word (device_of session.new)
-        → ReportsInPart D.Sectors w as_of asked.now session.old session.new (W.contents out.old) (W.contents out.new)
-        result }
+    ensures reports { ForItsWarehouse D.Sectors session.old session.new
+        (λ w. ReportsInPart D.Sectors w as_of asked.now session.old session.new (W.contents out.old)
+        (W.contents out.new) result) }
 
     // Where the device failed in an earlier call, nothing is done.
     ensures failed { FailsAtOnce D.Sectors session.old session.new (W.contents out.old) (W.contents out.new) result }
@@ -51,8 +50,8 @@ fn partial_over<D: Sectors, W: Write>(
     asked: &PartAsked,
     out: &mut W,
 ) -> Result<(), Fault>
-    ensures ends { (w : Warehouse) → IsAt D.Sectors session.old w → D.keeps_word (device_of session.new)
-        → AnswersInPart D.Sectors w count asked.now session.new (W.contents out.old) (W.contents out.new) result }
+    ensures ends { ForItsWarehouse D.Sectors session.old session.new
+        (λ w. AnswersInPart D.Sectors w count asked.now session.new (W.contents out.old) (W.contents out.new) result) }
     ensures leaves { MayLeave D.Sectors session.old session.new (λ w c. Represents c w) }
     ensures word { KeptBefore D.Sectors session.old session.new }
 {

@@ -3,7 +3,7 @@ ghost use Rattle.std.specs.Prelude.{◌≡◌, ◌↔◌, true, All, Ok, Err, If
 ghost use Rattle.std.specs.Io.KnownBytes.{Appends};
 ghost use Rattle.cube_model.specs.declared.fault.Fault.TheVariants.{Failed};
 ghost use Rattle.warehouse_objects.specs.Warehouse.{Warehouse};
-ghost use Rattle.warehouse.specs.Session.{IsAt, KeptBefore, device_of};
+ghost use Rattle.warehouse.specs.Session.{ForItsWarehouse, KeptBefore, device_of};
 ghost use Rattle.stored_cuboids.specs.Merged.{IsSound};
 ghost use Rattle.warehouse.specs.Upkeep.{IsLaidAt};
 ghost use Rattle.warehouse_jobs.specs.Jobs.{MayAnswerNo, Performs};
@@ -44,9 +44,9 @@ pub fn perform<D: Sectors, R: Read + Drop, W: Write>(
 ) -> Result<bool, Fault>
     // What is written, what the warehouse is then, and what a crash at any point until then leaves. Whatever the reader
     // is: which rows the batches of a load have is said where its bytes are known.
-    ensures performs { (w : Warehouse) → IsAt D.Sectors session.old w → D.keeps_word (device_of session.new)
-        → Performs D.Sectors w (R.remaining lineorder) job session.old session.new (W.contents out.old)
-        (W.contents out.new) result }
+    ensures performs { ForItsWarehouse D.Sectors session.old session.new
+        (λ w. Performs D.Sectors w (R.remaining lineorder) job session.old session.new (W.contents out.old)
+        (W.contents out.new) result) }
     ensures yes { (MayAnswerNo job → ⊥) → IfOk result (λ answer. answer ≡ true) }
 
     // That of an audit is yes exactly where each stored cuboid is what it is to be, whatever its cells are.
@@ -75,9 +75,9 @@ fn do_job<D: Sectors, R: Read + Drop, W: Write>(
     lineorder: R,
     out: &mut W,
 ) -> Result<bool, Fault>
-    ensures performs { (w : Warehouse) → IsAt D.Sectors session.old w → D.keeps_word (device_of session.new)
-        → Performs D.Sectors w (R.remaining lineorder) job session.old session.new (W.contents out.old)
-        (W.contents out.new) result }
+    ensures performs { ForItsWarehouse D.Sectors session.old session.new
+        (λ w. Performs D.Sectors w (R.remaining lineorder) job session.old session.new (W.contents out.old)
+        (W.contents out.new) result) }
     ensures yes { (MayAnswerNo job → ⊥) → IfOk result (λ answer. answer ≡ true) }
     ensures sound { MayAnswerNo job
         → IfOk result (λ answer. (w : Warehouse) → IsLaidAt D.Sectors session.old w

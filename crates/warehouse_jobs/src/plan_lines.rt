@@ -11,7 +11,7 @@ use crate::printing::{write_parts, write_view};
 use cube_model::Fault;
 use itoa::Buffer;
 use lattice::View;
-use planner::{Plan, Priced};
+use planner::{AccessPath, Priced};
 use ssb_reports::{flush, write_bytes, write_number};
 use std::io::Write;
 
@@ -77,12 +77,12 @@ fn write_plan<W: Write>(
 }
 
 // Writes from where a plan reads first.
-fn write_source<W: Write>(out: &mut W, ship_modes: bool, plan: Plan) -> Result<(), Fault>
+fn write_source<W: Write>(out: &mut W, ship_modes: bool, plan: AccessPath) -> Result<(), Fault>
     ensures { Writes (W.contents out.old) (W.contents out.new) result (source_text ship_modes plan) }
 {
     match plan {
-        Plan::Scan => write_bytes(out, b"scan"),
-        Plan::Cells { view, mark } => write_cells(out, ship_modes, view, mark),
+        AccessPath::Scan => write_bytes(out, b"scan"),
+        AccessPath::Cells { view, mark } => write_cells(out, ship_modes, view, mark),
     }
 }
 
@@ -112,11 +112,11 @@ fn write_cost<W: Write>(out: &mut W, tail: u32, cost: u64) -> Result<(), Fault>
 }
 
 // How many of the first batches a plan reads as fact rows: those after its mark.
-fn tail_of(plan: Plan, as_of: u32) -> u32
+fn tail_of(plan: AccessPath, as_of: u32) -> u32
     ensures { result ≡ as_of - mark_of plan }
 {
     match plan {
-        Plan::Scan => as_of,
-        Plan::Cells { mark, .. } => as_of.saturating_sub(mark),
+        AccessPath::Scan => as_of,
+        AccessPath::Cells { mark, .. } => as_of.saturating_sub(mark),
     }
 }

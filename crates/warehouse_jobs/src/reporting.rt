@@ -2,9 +2,8 @@
 ghost use Rattle.std.specs.Prelude.{◌≡◌, true, IfOk, IfErr};
 ghost use Rattle.cube_model.specs.declared.fault.Fault.TheVariants.{Failed};
 ghost use Rattle.ssb_reports.specs.Report.{report_of};
-ghost use Rattle.warehouse_objects.specs.Warehouse.{Warehouse};
 ghost use Rattle.warehouse_objects.specs.Represents.{Represents};
-ghost use Rattle.warehouse.specs.Session.{IsAt, KeptBefore, MayLeave, device_of, has_failed};
+ghost use Rattle.warehouse.specs.Session.{ForItsWarehouse, KeptBefore, MayLeave, has_failed};
 ghost use Rattle.warehouse_jobs.specs.Reporting.{WritesAnswer, Reports, batches_asked};
 
 use cube_model::{Fault, Query};
@@ -22,8 +21,9 @@ pub(crate) fn report<D: Sectors, W: Write>(
     query: &Query,
     out: &mut W,
 ) -> Result<(), Fault>
-    ensures reports { (w : Warehouse) → IsAt D.Sectors session.old w → D.keeps_word (device_of session.new)
-        → Reports D.Sectors w as_of query.now session.old session.new (W.contents out.old) (W.contents out.new) result }
+    ensures reports { ForItsWarehouse D.Sectors session.old session.new
+        (λ w. Reports D.Sectors w as_of query.now session.old session.new (W.contents out.old) (W.contents out.new)
+        result) }
     ensures word { KeptBefore D.Sectors session.old session.new }
 {
     let count = batches_asked(session, as_of)?;
@@ -38,9 +38,9 @@ fn report_over<D: Sectors, W: Write>(
     query: &Query,
     out: &mut W,
 ) -> Result<(), Fault>
-    ensures ends { (w : Warehouse) → IsAt D.Sectors session.old w → D.keeps_word (device_of session.new)
-        → WritesAnswer (report_of query.now) D.Sectors w count query.now session.new (W.contents out.old)
-        (W.contents out.new) result }
+    ensures ends { ForItsWarehouse D.Sectors session.old session.new
+        (λ w. WritesAnswer (report_of query.now) D.Sectors w count query.now session.new (W.contents out.old)
+        (W.contents out.new) result) }
     ensures leaves { MayLeave D.Sectors session.old session.new (λ w c. Represents c w) }
     ensures word { KeptBefore D.Sectors session.old session.new }
 {
@@ -54,8 +54,8 @@ pub(crate) fn batches_asked<D: Sectors>(
     session: &Session<D>,
     as_of: Option<u32>,
 ) -> Result<u32, Fault>
-    ensures ok { IfOk result (λ count. (w : Warehouse) → IsAt D.Sectors session.now w
-        → D.keeps_word (device_of session.now) → count ≡ batches_asked w as_of) }
+    ensures ok { IfOk result
+        (λ count. ForItsWarehouse D.Sectors session.now session.now (λ w. count ≡ batches_asked w as_of)) }
     ensures err { IfErr result (λ fault. (fault ≡ Failed) × (has_failed session.now ≡ true)) }
 {
     match as_of {

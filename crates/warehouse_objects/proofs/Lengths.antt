@@ -15,7 +15,8 @@ use Rattle.dictionary.specs.Columns.{codes_of, codes_spelling, column_spelling, 
 use Rattle.dictionary.specs.Dictionary.{firsts}
 use Rattle.dictionary.specs.Spelling.{AreProper, AreShort, text_spelling, texts_spelling}
 use Rattle.dictionary.proofs.ColumnLaws.{AreProper-firsts, length-firsts}
-use Rattle.column_segment.specs.Columns.{Column, number_columns, text_columns, text_of}
+use Rattle.column_segment.specs.declared.columns.FactColumn.{FactColumn}
+use Rattle.column_segment.specs.Columns.{fact_value, number_columns, text_columns, text_of, width_of}
 use Rattle.column_segment.specs.Segment as segments
 use Rattle.column_segment.specs.Segment.{IsBatch, number_column, segment_of, text_column}
 use Rattle.column_segment.specs.declared.columns.TextColumn.{TextColumn}
@@ -90,20 +91,20 @@ text_columns_most rows batch (column ∷ columns) =
       text_columns_most rows batch columns,
     )
 
-number_column_most : (column : Column) → column.width ≤ 8 → (rows : List LineOrder)
+number_column_most : (column : FactColumn) → width_of column ≤ 8 → (rows : List LineOrder)
     → length (number_column rows column) ≤ 8 * length rows
 number_column_most column narrow [] = omega arith
 number_column_most column narrow (row ∷ rows) =
     omega (
       arith,
-      length-append (spelling column.width (column.value row)) (number_column rows column),
-      length-spelling column.width (column.value row),
+      length-append (spelling (width_of column) (fact_value column row)) (number_column rows column),
+      length-spelling (width_of column) (fact_value column row),
       narrow,
       number_column_most column narrow rows,
     )
 
-number_columns_most : (rows : List LineOrder) → length rows ≤ most_batch_rows → (columns : List Column)
-    → AllByRecursion (λ column. column.width ≤ 8) columns
+number_columns_most : (rows : List LineOrder) → length rows ≤ most_batch_rows → (columns : List FactColumn)
+    → AllByRecursion (λ column. width_of column ≤ 8) columns
     → length (flat_map (number_column rows) columns) ≤ 524288 * length columns
 number_columns_most rows few [] narrow = omega arith
 number_columns_most rows few (column ∷ columns) narrow =
@@ -115,7 +116,7 @@ number_columns_most rows few (column ∷ columns) narrow =
       number_columns_most rows few columns narrow.1,
     )
 
-narrow : AllByRecursion (λ column. column.width ≤ 8) number_columns
+narrow : AllByRecursion (λ column. width_of column ≤ 8) number_columns
 narrow = (
   omega arith,
   (

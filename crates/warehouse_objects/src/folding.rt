@@ -1,7 +1,7 @@
 //! Folding the batches of a store.
 ghost use Rattle.std.specs.Prelude.{◌≡◌, ◌⊎◌, ◌↔◌, ◌+◌, ◌<◌, ◌≤◌, List, false, Some, length, slice_get, take};
 ghost use Rattle.std.specs.Prelude.{IfErr, IfOk, IsErrOf, IsTrue, OnErr, OnOk};
-ghost use Rattle.cube_model.specs.declared.fault.Fault.TheVariants.{BadLayout, Device, Memory};
+ghost use Rattle.cube_model.specs.declared.fault.Fault.TheVariants.{BadLayout, Memory};
 ghost use Rattle.cube_model.specs.declared.rows.LineOrder.{LineOrder};
 ghost use Rattle.cube_model.specs.Admission.{all_rows};
 ghost use Rattle.cube_model.specs.Limits.{most_batches};
@@ -12,9 +12,7 @@ ghost use Rattle.cube_query.specs.Groups.{IsOver, RepresentsRows};
 ghost use Rattle.group_tallies.specs.Limits.{AreFoldable};
 ghost use Rattle.warehouse_root.specs.Objects.{segment_id};
 ghost use Rattle.warehouse_objects.specs.Counted.{CountsBatch};
-ghost use Rattle.warehouse_objects.specs.Warehouse.{Warehouse};
-ghost use Rattle.warehouse_objects.specs.Reads.{ReadsOnly};
-ghost use Rattle.warehouse_objects.specs.Represents.{Represents, root_of};
+ghost use Rattle.warehouse_objects.specs.Reads.{EndsReading, ForHeld, ForHeldOfRoot, ReadsOnly};
 
 use column_segment::{ColumnBuffer, FactColumn, Segment, decode};
 use cube_model::Fault;
@@ -45,20 +43,18 @@ pub fn fold_batches<D: Sectors>(
     requires few { as_of ≤ length root.now.batches }
 
     // A fold that represents the rows of the batches up to the first of them then represents those up to the last.
-    ensures ok { OnOk result (D.keeps_word (device_of store.new) → (w : Warehouse)
-        → Represents (content_of D.Sectors store.old) w
-        → RepresentsRows dims.now fold.old (all_rows (take from w.batches))
-        → RepresentsRows dims.now fold.new (all_rows (take as_of w.batches))) }
+    ensures ok { OnOk result
+        (ForHeld D.Sectors store.old store.new (λ w. RepresentsRows dims.now fold.old (all_rows (take from w.batches))
+        → RepresentsRows dims.now fold.new (all_rows (take as_of w.batches)))) }
     ensures over { IsOver dims.now fold.new }
     ensures query { fold.new.query ≡ fold.old.query }
-    ensures refused { IsErrOf result BadLayout → D.keeps_word (device_of store.new) → (w : Warehouse)
-        → Represents (content_of D.Sectors store.old) w
-        → root.now ≡ root_of w → dims.now ≡ w.rows → RepresentsRows dims.now fold.old (all_rows (take from w.batches))
-        → ⊥ }
+    ensures refused { IsErrOf result BadLayout
+        → ForHeldOfRoot D.Sectors store.old store.new root.now
+        (λ w. dims.now ≡ w.rows → RepresentsRows dims.now fold.old (all_rows (take from w.batches)) → ⊥) }
 
     // The content stays, at each moment.
     ensures reads { ReadsOnly D.Sectors store.old store.new result }
-    ensures causes { IfErr result (λ fault. (fault ≡ Memory) ⊎ ((fault ≡ Device) ⊎ (fault ≡ BadLayout))) }
+    ensures causes { IfErr result EndsReading }
 {
     let batches = root.batches();
     let columns = fold.asked_columns()?;
@@ -85,22 +81,20 @@ pub fn fold_batch<D: Sectors>(
 ) -> Result<(), Fault>
     requires fine { has_failed store.old ≡ false }
     requires over { IsOver dims.now fold.old }
-    ensures ok { OnOk result (D.keeps_word (device_of store.new) → (w : Warehouse)
-        → Represents (content_of D.Sectors store.old) w
-        → RepresentsRows dims.now fold.old (all_rows (take before w.batches))
-        → RepresentsRows dims.now fold.new (all_rows (take (before + 1) w.batches))) }
+    ensures ok { OnOk result
+        (ForHeld D.Sectors store.old store.new (λ w. RepresentsRows dims.now fold.old (all_rows (take before w.batches))
+        → RepresentsRows dims.now fold.new (all_rows (take (before + 1) w.batches)))) }
     ensures err { OnErr result (fold.new ≡ fold.old) }
     ensures over { IsOver dims.now fold.new }
     ensures query { fold.new.query ≡ fold.old.query }
-    ensures refused { IsErrOf result BadLayout → D.keeps_word (device_of store.new) → (w : Warehouse)
-        → Represents (content_of D.Sectors store.old) w
-        → root.now ≡ root_of w → before < length w.batches
+    ensures refused { IsErrOf result BadLayout
+        → ForHeldOfRoot D.Sectors store.old store.new root.now (λ w. before < length w.batches
         → AreFoldable dims.now (all_rows (take (before + 1) w.batches))
-        → RepresentsRows dims.now fold.old (all_rows (take before w.batches)) → ⊥ }
+        → RepresentsRows dims.now fold.old (all_rows (take before w.batches)) → ⊥) }
 
     // The content stays, at each moment.
     ensures reads { ReadsOnly D.Sectors store.old store.new result }
-    ensures causes { IfErr result (λ fault. (fault ≡ Memory) ⊎ ((fault ≡ Device) ⊎ (fault ≡ BadLayout))) }
+    ensures causes { IfErr result EndsReading }
 {
     let batches = root.batches();
     if before as usize >= batches.len() {
@@ -133,13 +127,12 @@ fn add_batch<D: Sectors>(
     ensures err { OnErr result (fold.new ≡ fold.old) }
     ensures over { IsOver dims.now fold.new }
     ensures query { fold.new.query ≡ fold.old.query }
-    ensures refused { IsErrOf result BadLayout → D.keeps_word (device_of store.new) → (w : Warehouse)
-        → Represents (content_of D.Sectors store.old) w
-        → (batch : List LineOrder) → slice_get w.batches before ≡ Some batch → count ≡ length batch
-        → AreFoldable dims.now (all_rows (take (before + 1) w.batches))
-        → RepresentsRows dims.now fold.old (all_rows (take before w.batches)) → ⊥ }
+    ensures refused { IsErrOf result BadLayout
+        → ForHeld D.Sectors store.old store.new (λ w. (batch : List LineOrder) → slice_get w.batches before ≡ Some batch
+        → count ≡ length batch → AreFoldable dims.now (all_rows (take (before + 1) w.batches))
+        → RepresentsRows dims.now fold.old (all_rows (take before w.batches)) → ⊥) }
     ensures reads { ReadsOnly D.Sectors store.old store.new result }
-    ensures causes { IfErr result (λ fault. (fault ≡ Memory) ⊎ ((fault ≡ Device) ⊎ (fault ≡ BadLayout))) }
+    ensures causes { IfErr result EndsReading }
 {
     let number = before + 1;
     buffer.read(store, segment_id(number), number, count, columns)?;

@@ -3,8 +3,8 @@ ghost use Rattle.std.specs.Prelude.{◌≡◌, ◌↔◌, false, is_some, All, I
 ghost use Rattle.cube_model.specs.declared.fault.Fault.{Fault};
 ghost use Rattle.object_store.specs.Content.{bytes_of};
 ghost use Rattle.object_store.specs.Store.{content_of, device_of};
-ghost use Rattle.warehouse_objects.specs.Warehouse.{Warehouse};
-ghost use Rattle.warehouse_objects.specs.Represents.{HasItsObjects, Represents, root_of};
+ghost use Rattle.warehouse_objects.specs.Represents.{HasItsObjects};
+ghost use Rattle.warehouse_objects.specs.Reads.{ForHeldOfRoot};
 
 use cube_model::Fault;
 use object_store::Store;
@@ -22,8 +22,8 @@ pub fn has_its_objects<D: Sectors>(
         ↔ HasItsObjects (content_of D.Sectors store.now) root.now) }
 
     // It does where the content represents a warehouse of that root.
-    ensures represents { IfOk result (λ has. has ≡ false → D.keeps_word (device_of store.now)
-        → (w : Warehouse) → Represents (content_of D.Sectors store.now) w → root.now ≡ root_of w → ⊥) }
+    ensures represents { IfOk result
+        (λ has. has ≡ false → ForHeldOfRoot D.Sectors store.now store.now root.now (λ w. ⊥)) }
     ensures memory { IfErr result (λ fault. fault ≡ Fault.Memory) }
 {
     let ids = root.object_ids(alloc)?;

@@ -1,6 +1,6 @@
 //! Reading the root and the dimensions of a warehouse from a store.
 ghost use Rattle.std.specs.Prelude.{◌≡◌, ◌⊎◌, ◌+◌, ◌^◌, ◌<◌, false, Some, None, IfErr, IfOk, IsErrOf};
-ghost use Rattle.cube_model.specs.declared.fault.Fault.TheVariants.{BadLayout, Device, Memory};
+ghost use Rattle.cube_model.specs.declared.fault.Fault.TheVariants.{BadLayout, Memory};
 ghost use Rattle.cube_model.specs.declared.attr.Axis.TheVariants.{Customer, Supplier, Part, Date};
 ghost use Rattle.cube_model.specs.declared.rows.DimRows.{DimRows};
 ghost use Rattle.object_store.specs.Content.{bytes_of};
@@ -10,7 +10,7 @@ ghost use Rattle.warehouse_root.specs.Modes.{AreModes};
 ghost use Rattle.warehouse_root.specs.Root.{IsRoot, IsRootOf};
 ghost use Rattle.dimensions.specs.Shown.{AreStorable};
 ghost use Rattle.warehouse_objects.specs.Warehouse.{Warehouse};
-ghost use Rattle.warehouse_objects.specs.Reads.{ReadsOnly};
+ghost use Rattle.warehouse_objects.specs.Reads.{EndsReading, ForHeld, ReadsOnly};
 ghost use Rattle.warehouse_objects.specs.Represents.{HasModes, HasRows, Represents, dimension_of, root_of};
 
 use crate::ship_modes::ShipModes;
@@ -66,7 +66,7 @@ pub fn read_modes<D: Sectors>(
 
     // The content stays, at each moment.
     ensures reads { ReadsOnly D.Sectors store.old store.new result }
-    ensures causes { IfErr result (λ fault. (fault ≡ Memory) ⊎ ((fault ≡ Device) ⊎ (fault ≡ BadLayout))) }
+    ensures causes { IfErr result EndsReading }
 {
     match layout {
         Layout::First => Ok(ShipModes::none(alloc)),
@@ -84,14 +84,13 @@ pub fn read_dims<D: Sectors>(alloc: Global, store: &mut Store<D>) -> Result<Dims
     ensures ok { IfOk result (λ dims. D.keeps_word (device_of store.new)
         → HasRows (content_of D.Sectors store.old) dims) }
     ensures storable { IfOk result AreStorable }
-    ensures found { IfOk result (λ dims. D.keeps_word (device_of store.new)
-        → (w : Warehouse) → Represents (content_of D.Sectors store.old) w → dims ≡ w.rows) }
+    ensures found { IfOk result (λ dims. ForHeld D.Sectors store.old store.new (λ w. dims ≡ w.rows)) }
     ensures refused { IsErrOf result BadLayout → D.keeps_word (device_of store.new)
         → (w : Warehouse) → ¬ Represents (content_of D.Sectors store.old) w }
 
     // The content stays, at each moment.
     ensures reads { ReadsOnly D.Sectors store.old store.new result }
-    ensures causes { IfErr result (λ fault. (fault ≡ Memory) ⊎ ((fault ≡ Device) ⊎ (fault ≡ BadLayout))) }
+    ensures causes { IfErr result EndsReading }
 {
     let (customers, suppliers) = read_two(alloc, store, 1)?;
     read_others(alloc, store, &customers, &suppliers)
@@ -116,7 +115,7 @@ fn read_others<D: Sectors>(
         → bytes_of (content_of D.Sectors store.old) 2 ≡ Some suppliers.now → (w : Warehouse)
         → ¬ Represents (content_of D.Sectors store.old) w }
     ensures reads { ReadsOnly D.Sectors store.old store.new result }
-    ensures causes { IfErr result (λ fault. (fault ≡ Memory) ⊎ ((fault ≡ Device) ⊎ (fault ≡ BadLayout))) }
+    ensures causes { IfErr result EndsReading }
 {
     let (parts, dates) = read_two(alloc, store, 3)?;
     decoded(alloc, customers, suppliers, &parts, &dates)
@@ -137,7 +136,7 @@ fn read_two<D: Sectors>(
         → (bytes_of (content_of D.Sectors store.old) first ≡ None)
         ⊎ (bytes_of (content_of D.Sectors store.old) (first + 1) ≡ None) }
     ensures reads { ReadsOnly D.Sectors store.old store.new result }
-    ensures causes { IfErr result (λ fault. (fault ≡ Memory) ⊎ ((fault ≡ Device) ⊎ (fault ≡ BadLayout))) }
+    ensures causes { IfErr result EndsReading }
 {
     let one = read_object(alloc, store, first)?;
     let other = read_object(alloc, store, first + 1)?;
@@ -156,7 +155,7 @@ pub fn read_object<D: Sectors>(
     ensures missing { IsErrOf result BadLayout → D.keeps_word (device_of store.new)
         → bytes_of (content_of D.Sectors store.old) id ≡ None }
     ensures reads { ReadsOnly D.Sectors store.old store.new result }
-    ensures causes { IfErr result (λ fault. (fault ≡ Memory) ⊎ ((fault ≡ Device) ⊎ (fault ≡ BadLayout))) }
+    ensures causes { IfErr result EndsReading }
 {
     match store.get(alloc, id)? {
         Some(bytes) => Ok(bytes),

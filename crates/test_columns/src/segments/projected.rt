@@ -2,21 +2,18 @@
 
 use crate::segments::batches::spelled;
 use crate::segments::sources::Refusing;
-use column_segment::{AmountColumn, ByteColumn, ColumnBuffer, FactColumn, NumberColumn};
+use column_segment::{ColumnBuffer, FactColumn};
 use cube_model::Fault;
 use sample_star::{FACTS, line_orders};
 use std::alloc::Global;
 
-const ORDER_KEYS: [FactColumn; 1] = [FactColumn::Amount(AmountColumn::OrderKey)];
+const ORDER_KEYS: [FactColumn; 1] = [FactColumn::OrderKey];
 
-const CUSTOMERS: [FactColumn; 1] = [FactColumn::Number(NumberColumn::CustKey)];
+const CUSTOMERS: [FactColumn; 1] = [FactColumn::CustKey];
 
-const TAXES: [FactColumn; 1] = [FactColumn::Figure(ByteColumn::Tax)];
+const TAXES: [FactColumn; 1] = [FactColumn::Tax];
 
-const PRICES: [FactColumn; 2] = [
-    FactColumn::Amount(AmountColumn::ExtendedPrice),
-    FactColumn::Figure(ByteColumn::Discount),
-];
+const PRICES: [FactColumn; 2] = [FactColumn::ExtendedPrice, FactColumn::Discount];
 
 // The bytes of a batch of the sample rows so many times.
 pub(crate) fn repeated(alloc: Global, times: u32) -> Result<Vec<u8>, Fault> {

@@ -5,7 +5,7 @@ use Rattle.column_segment.proofs.gathering.put.Given as goal
 
 abbrev pub invariant-loop-place : goal.invariant-loop-place
 invariant-loop-place g l = record {
-  fits : All (FitsColumn (g.C.OfWidth.column l.column)) (take l.place l.rows);
-  chunks : take l.place l.chunks ≡ number_chunks (g.C.OfWidth.column l.column) (take l.place l.rows);
+  fits : All (FitsColumn l.column.name) (take l.place l.rows);
+  chunks : take l.place l.chunks ≡ number_chunks l.column.name (take l.place l.rows);
   count : length l.chunks ≡ 256;
 }

@@ -7,12 +7,12 @@ use Rattle.column_segment.proofs.sums.sum_of_amounts.Goals as goal
 pub whole-requires : goal.whole-requires
 whole-requires c =
     (amount_sum c.args.bytes.now c.args.layout.now c.requires.columns c.args.mask.now (λ k. (c.type_inv.bytes k).fits)
-    c.args.column c.chunks.result.now c.sum_of_numbers.result c.chunks.ensures.value
+    c.args.column.name c.args.column.wide c.chunks.result.now c.sum_of_numbers.result c.chunks.ensures.value
     c.sum_of_numbers.ensures).0
 
 pub returns : goal.returns
 returns c =
     to_z-of_z w128 c.whole.result (record { sfits = c.whole.type_inv }) ∙ c.whole.ensures
     ∙ (amount_sum c.args.bytes.now c.args.layout.now c.requires.columns c.args.mask.now (λ k. (c.type_inv.bytes k).fits)
-    c.args.column c.chunks.result.now c.sum_of_numbers.result c.chunks.ensures.value
+    c.args.column.name c.args.column.wide c.chunks.result.now c.sum_of_numbers.result c.chunks.ensures.value
     c.sum_of_numbers.ensures).1

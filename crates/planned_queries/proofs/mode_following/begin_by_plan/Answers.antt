@@ -1,7 +1,7 @@
 use Rattle.std.proofs.Common.{sym, subst, take, rules}
 use Rattle.cube_model.specs.Admission.{all_rows}
 use Rattle.mode_folds.specs.States.{RepresentsModeRows}
-use Rattle.planner.specs.declared.price.Plan.{Plan}
+use Rattle.planner.specs.declared.price.AccessPath.{AccessPath}
 use Rattle.planned_queries.specs.Planned.{IsOfCuboid, mark_of}
 use Rattle.planned_queries.specs.ModesPlanned.{ServesByModes}
 use Rattle.planned_queries.proofs.Views.{groups_by_mode}
@@ -17,7 +17,7 @@ add_cuboid-requires-clause-serves g c =
 
 pub returns-in_ok-add_cuboid-in-Cells-clause-ok : goal.returns-in_ok-add_cuboid-in-Cells-clause-ok
 returns-in_ok-add_cuboid-in-Cells-clause-ok g c = λ k w represents rooted same.
-    subst (λ (plan : Plan). IsOfCuboid w plan
+    subst (λ (plan : AccessPath). IsOfCuboid w plan
     → RepresentsModeRows c.args.dims.now c.add_cuboid.new.fold (all_rows (take (mark_of plan) w.batches)))
     (sym c.in-Cells.is)
     (λ has. c.in_ok-add_cuboid-in-Cells.ensures.ok k w represents rooted same has)

@@ -1,6 +1,6 @@
 use Rattle.std.proofs.Common.{◌≡◌, ◌+◌, ◌⊎◌, [], take, ap, subst, sym}
 use Rattle.std.proofs.lemmas.List.{take_all}
-use Rattle.planner.specs.declared.price.Plan.{Plan}
+use Rattle.planner.specs.declared.price.AccessPath.{AccessPath}
 use Rattle.planner.specs.declared.price.Priced.{Priced}
 use Rattle.planner.specs.Plans.{ComesFirst, IsCheapest}
 use Rattle.planner.proofs.Taken.{untrue, passed_at, taken_at, scan_alone}
@@ -23,11 +23,12 @@ loop-one-preserved c = elim c.if-serves.branch [
       c.loop-one.best w.better-best.result w.by_cells.result.cost
       (ap (λ (other : Priced). other.cost) w.by_cells.ensures)
       (c.serves.ensures.0 w.if-serves.true) c.loop-one.invariant
-      (subst (λ (plan : Plan). (w.better-best.result ≡ c.loop-one.best)
+      (subst (λ (plan : AccessPath). (w.better-best.result ≡ c.loop-one.best)
       ⊎ (w.better-best.result ≡ record { plan = plan; cost = w.by_cells.result.cost }))
       (ap (λ (other : Priced). other.plan) w.by_cells.ensures) w.better-best.ensures.one)
       w.better-best.ensures.before_best
-      (subst (λ (plan : Plan). ComesFirst w.better-best.result (record { plan = plan; cost = w.by_cells.result.cost }))
+      (subst (λ (plan : AccessPath). ComesFirst w.better-best.result
+      (record { plan = plan; cost = w.by_cells.result.cost }))
       (ap (λ (other : Priced). other.plan) w.by_cells.ensures) w.better-best.ensures.before_other))
   | else-serves w ↦
       subst (λ (best : Priced). IsCheapest c.args.query.now (take (c.loop-one.one-index + 1) c.args.stored.now)

@@ -1,6 +1,6 @@
 use Rattle.std.proofs.Common.{◌≡◌, ◌+◌, ◌⊎◌, ◌↔◌, List, get_or, sym, ap, subst, take}
 use Rattle.std.specs.List.{Contains}
-use Rattle.planner.specs.declared.price.Plan.{Plan}
+use Rattle.planner.specs.declared.price.AccessPath.{AccessPath}
 use Rattle.planner.specs.declared.price.Priced.{Priced}
 use Rattle.planner.specs.Listed.{HasCheapestFirst}
 use Rattle.planner.specs.Plans.{AnswersAt, ComesFirst, ServesAsOf}
@@ -32,10 +32,11 @@ loop-one-preserved c =
               better.1,
               taken_at query rows as_of stored i _ c.loop-one-test.true first.0 better.0 w.by_cells.result.cost
                   (ap (λ (other : Priced). other.cost) w.by_cells.ensures) serves first.2
-                  (subst (λ (p : Plan). (better.0 ≡ first.0)
+                  (subst (λ (p : AccessPath). (better.0 ≡ first.0)
                   ⊎ (better.0 ≡ record { plan = p; cost = w.by_cells.result.cost })) plan better.2)
                   better.3
-                  (subst (λ (p : Plan). ComesFirst better.0 (record { plan = p; cost = w.by_cells.result.cost })) plan
+                  (subst (λ (p : AccessPath). ComesFirst better.0 (record { plan = p; cost = w.by_cells.result.cost }))
+                  plan
                   better.4),
             ),
             λ one. iff_through (w.in_ok-add.ensures.each one)

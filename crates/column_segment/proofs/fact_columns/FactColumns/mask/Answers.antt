@@ -1,9 +1,9 @@
-use Rattle.std.proofs.Common.{List, map, ap, subst, ◌∙◌}
+use Rattle.std.proofs.Common.{List, map, refl, ap, subst, ◌∙◌}
 use Rattle.std.proofs.lemmas.Result.{IfOk-weaker}
 use Rattle.cube_model.specs.declared.rows.LineOrder.{LineOrder}
 use Rattle.column_kernels.specs.Masks.{lies_in}
 use Rattle.column_segment.specs.Projected.{HaveSmallFigures}
-use Rattle.column_segment.specs.declared.columns.ByteColumn.TheVariants.{Discount, Quantity}
+use Rattle.column_segment.specs.declared.columns.FactColumn.TheVariants.{Quantity, Discount}
 use Rattle.column_segment.proofs.Totals.{marks_are}
 use Rattle.column_segment.proofs.Values.{read_fit}
 use Rattle.column_segment.proofs.fact_columns.FactColumns.mask.Goals as goal
@@ -25,8 +25,8 @@ returns-clause-figures c =
     let bytes = c.self.inside.bytes.now in
     let layout = c.self.inside.layout.now in
     subst HaveSmallFigures c.self.view_is (record {
-      quantities = read_fit bytes layout c.self.invariant.room Quantity c.byte_part-quantities.result.now
+      quantities = read_fit bytes layout c.self.invariant.room Quantity refl c.byte_part-quantities.result.now
           c.byte_part-quantities.ensures.value c.byte_part-quantities.ensures.fit;
-      discounts = read_fit bytes layout c.self.invariant.room Discount c.byte_part-discounts.result.now
+      discounts = read_fit bytes layout c.self.invariant.room Discount refl c.byte_part-discounts.result.now
           c.byte_part-discounts.ensures.value c.byte_part-discounts.ensures.fit;
     })
