@@ -5,7 +5,6 @@ ghost use Rattle.std.specs.Option.{option_map};
 ghost use Rattle.cube_model.specs.declared.fault.Fault.TheVariants.{BadQuery, Device, Failed, Memory};
 ghost use Rattle.view_choice.specs.Choice.{IsGreedy, benefits};
 ghost use Rattle.view_choice.specs.Cuboids.{most_demanded, most_fact_rows};
-ghost use Rattle.object_store.specs.Disk.{Leaves};
 ghost use Rattle.warehouse_root.specs.Limits.{most_cuboids};
 ghost use Rattle.warehouse_objects.specs.Warehouse.{Warehouse, with_views};
 ghost use Rattle.warehouse_objects.specs.Represents.{Represents};
@@ -14,8 +13,7 @@ ghost use Rattle.warehouse.specs.Choosing.{IsChosenFrom, ViewsRefuse, choices_as
 ghost use Rattle.warehouse.specs.Choosing.{members_counted, members_on, views_of};
 ghost use Rattle.warehouse.specs.declared.chosen.Chosen.{Chosen};
 ghost use Rattle.warehouse.specs.Session.{CallsDevice, CommitsOnce, ForItsWarehouse, IsAt, KeepsContent, MayLeave};
-ghost use Rattle.warehouse.specs.Session.{device_of, disk_of};
-ghost use Rattle.warehouse.specs.Session.{has_failed};
+ghost use Rattle.warehouse.specs.Session.{StaysAt, device_of, has_failed};
 
 use crate::chosen::Chosen;
 use crate::session::Session;
@@ -44,9 +42,8 @@ impl<D: Sectors> Session<D> {
             → IsAt D.Sectors self.new (with_views w views.now) × CommitsOnce D.Sectors self.old self.new) }
 
         // After a refusal, unless the device failed, all is as it was, at each moment.
-        ensures refused { IfErr result (λ fault. fault ≢ Device → (w : Warehouse) → IsAt D.Sectors self.old w →
-            IsAt D.Sectors self.new w × KeepsContent D.Sectors self.old self.new
-            × Leaves (disk_of D.Sectors self.old) (disk_of D.Sectors self.new) (λ c. Represents c w)) }
+        ensures refused { IfErr result (λ fault. fault ≢ Device → StaysAt D.Sectors self.old self.new) }
+        ensures kept { IfErr result (λ fault. fault ≢ Device → KeepsContent D.Sectors self.old self.new) }
 
         // When each error comes.
         ensures causes { IfErr result
@@ -78,9 +75,8 @@ impl<D: Sectors> Session<D> {
             × (D.keeps_word (device_of self.new) → IsChoice w k chosen.items)) }
 
         // After a refusal, unless the device failed, all is as it was, at each moment.
-        ensures refused { IfErr result (λ fault. fault ≢ Device → (w : Warehouse) → IsAt D.Sectors self.old w →
-            IsAt D.Sectors self.new w × KeepsContent D.Sectors self.old self.new
-            × Leaves (disk_of D.Sectors self.old) (disk_of D.Sectors self.new) (λ c. Represents c w)) }
+        ensures refused { IfErr result (λ fault. fault ≢ Device → StaysAt D.Sectors self.old self.new) }
+        ensures kept { IfErr result (λ fault. fault ≢ Device → KeepsContent D.Sectors self.old self.new) }
 
         // When each error comes.
         ensures causes { IfErr result
@@ -121,9 +117,8 @@ impl<D: Sectors> Session<D> {
             × (D.keeps_word (device_of self.new) → IsChoiceFor w demanded.now k chosen.items)) }
 
         // After a refusal, unless the device failed, all is as it was, at each moment.
-        ensures refused { IfErr result (λ fault. fault ≢ Device → (w : Warehouse) → IsAt D.Sectors self.old w →
-            IsAt D.Sectors self.new w × KeepsContent D.Sectors self.old self.new
-            × Leaves (disk_of D.Sectors self.old) (disk_of D.Sectors self.new) (λ c. Represents c w)) }
+        ensures refused { IfErr result (λ fault. fault ≢ Device → StaysAt D.Sectors self.old self.new) }
+        ensures kept { IfErr result (λ fault. fault ≢ Device → KeepsContent D.Sectors self.old self.new) }
 
         // When each error comes.
         ensures causes { IfErr result

@@ -18,5 +18,5 @@ pub returns-in-Err-clause-ran : goal.returns-in-Err-clause-ran
 returns-in-Err-clause-ran g c w slots at k =
     choose_refused g.D.Sectors w slots c.args.session.now c.choose.new.self c.args.k c.in-Err.fault
     (λ e. (c.in-Err.ensures.calls.device (ap (λ f. Err f) e)).failed)
-    (λ no. let then_is = c.in-Err.ensures.refused no w at in
-    ((c.in-Err.ensures.causes no w at k, then_is.1), then_is.0)) (c.choose.ensures.leaves w at)
+    (λ no. ((c.in-Err.ensures.causes no w at k, c.in-Err.ensures.kept no), (c.in-Err.ensures.refused no w at).0))
+    (c.choose.ensures.leaves w at)

@@ -30,11 +30,11 @@ pub returns-in-Err-clause-refused : goal.returns-in-Err-clause-refused
 returns-in-Err-clause-refused g c cause w at =
     let then_at =
     c.in-Err.ensures.refused cause w
-    (kept_at g.D.Sectors w c.args.self.now at) in (
-      is_at g.D.Sectors _ w then_at.0.fine then_at.0.represents,
-      (λ k. (c.in-Err.ensures.as_before cause).content),
-      then_at.1,
-    )
+    (kept_at g.D.Sectors w c.args.self.now at) in
+    (is_at g.D.Sectors _ w then_at.0.fine then_at.0.represents, then_at.1)
+
+pub returns-in-Err-clause-kept : goal.returns-in-Err-clause-kept
+returns-in-Err-clause-kept g c cause k = (c.in-Err.ensures.as_before cause).content
 
 pub returns-in-Err-clause-causes : goal.returns-in-Err-clause-causes
 returns-in-Err-clause-causes g c cause w at k =
