@@ -1,8 +1,10 @@
 #!/usr/bin/env python3
-"""Checks that the lemmas of one source file are one file with its name: ReadingLemmas.antt for reading.rt.
+"""Checks that the lemmas of one source file are one file with its name, ReadingLemmas.antt for reading.rt, and that
+no file of specs/ has a lemma.
 
 Usage: python3 bench/lemmas.py, at the top of the repository. The status is 1 if a file of lemmas serves one source
-file alone and has another name. What other crates cite, or several source files, has the name of its subject.
+file alone and has another name, or if something of specs/ is no definition. What other crates cite, or several source
+files, has the name of its subject.
 """
 import collections
 import glob
@@ -56,9 +58,27 @@ def served(lemmas, users, seen):
             yield from served((crate, name), users, seen | {(crate, name)})
 
 
+def proved_in(path):
+    """The lines of a file of specs/ that state what would be proved: outside records, what no `abbrev` begins."""
+    record = None
+    for number, line in enumerate(open(path, encoding="utf-8"), 1):
+        text = line.strip()
+        depth = len(line) - len(line.lstrip())
+        if record is not None and text and depth <= record:
+            record = None
+        if re.match(r"(abbrev )?(pub )?(record|data)\b", text):
+            record = depth
+        elif record is None and re.match(r"pub [^\s:]+ :( |$)", text):
+            yield number
+
+
 def main():
     users = cited()
     found = 0
+    for path in sorted(glob.glob("crates/*/specs/**/*.antt", recursive=True)):
+        for number in proved_in(path):
+            print(f"{path}:{number}: a lemma")
+            found += 1
     for path in sorted(glob.glob("crates/*/proofs/*.antt")):
         crate, name = user(path)
         if name == "Lib" or own_name(crate, name):

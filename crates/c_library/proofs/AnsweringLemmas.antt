@@ -2,7 +2,7 @@
 use Rattle.std.proofs.Common.{◌≡◌, ℕ, List, [], sym, subst}
 use Rattle.sector_device.specs.Device.{DeviceState}
 use Rattle.sector_device.specs.Memory.{memory_state}
-use Rattle.file_device.specs.Runs.{sectors_in}
+use Rattle.sector_device.specs.EventRuns.{sectors_in}
 use Rattle.object_store.specs.Content.{Content}
 use Rattle.object_store.specs.Disk.{Disk, AllShow}
 use Rattle.c_library.specs.Images.{device_over}

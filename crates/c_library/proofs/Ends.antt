@@ -4,7 +4,7 @@ use Rattle.cube_model.specs.declared.fault.Fault.{Fault}
 use Rattle.cube_model.specs.declared.fault.Fault.TheVariants.{AlreadyFormatted, Device, DeviceSize, Full, Memory}
 use Rattle.cube_model.specs.declared.rows.DimRows.{DimRows}
 use Rattle.sector_device.specs.Device.{LeavesOnly}
-use Rattle.file_device.specs.Runs.{sectors_in}
+use Rattle.sector_device.specs.EventRuns.{sectors_in}
 use Rattle.c_library.specs.Creating.{CreateRefuses, Creates}
 use Rattle.c_library.specs.Journals.{LeavesAtEach, device_after, named_fault}
 use Rattle.c_library.specs.Loading.{HoldsSome, LoadsImage, LoadsAll, loaded_all}

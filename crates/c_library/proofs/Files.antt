@@ -1,9 +1,9 @@
 -- A file before, within and after the calls of a journal.
 use Rattle.std.proofs.Common.{◌≡◌, ℕ, List, [], length, sym, subst}
 use Rattle.sector_device.specs.Device.{Image, LeavesOnly}
-use Rattle.sector_device.specs.MemoryLaws.{read_may_stay}
+use Rattle.sector_device.proofs.MemoryLaws.{read_may_stay}
 use Rattle.sector_device.specs.Memory.{MayHold}
-use Rattle.file_device.specs.Runs.{sectors_in}
+use Rattle.sector_device.specs.EventRuns.{sectors_in}
 use Rattle.c_library.specs.Images.{device_over}
 use Rattle.c_library.specs.Journals.{LeavesAtEach, device_after}
 use Rattle.journal_device.specs.After.{state_after}

@@ -13,7 +13,7 @@ use Rattle.batch_loader.specs.Parts.{parts_of}
 use Rattle.cube_model.specs.declared.rows.LineOrder.{LineOrder}
 use Rattle.object_store.specs.Content.{Content}
 use Rattle.object_store.specs.Disk.{Leaves, disk}
-use Rattle.object_store.specs.Moments.{leaves_then, leaves_weaker}
+use Rattle.object_store.proofs.Moments.{leaves_then, leaves_weaker}
 use Rattle.warehouse_objects.specs.Facts.{Facts}
 use Rattle.warehouse_objects.specs.Warehouse.{Warehouse}
 use Rattle.warehouse.specs.declared.session.Session.{Session}

@@ -4,7 +4,7 @@ use Rattle.cube_model.specs.declared.fault.Fault.{Fault}
 use Rattle.cube_model.specs.declared.fault.Fault.TheVariants.{AlreadyFormatted, DeviceSize, Full, Input, Memory}
 use Rattle.cube_model.specs.declared.rows.DimRows.{DimRows}
 use Rattle.dimension_tables.specs.Texts.{dimensions_of}
-use Rattle.file_device.specs.Runs.{sectors_in}
+use Rattle.sector_device.specs.EventRuns.{sectors_in}
 use Rattle.c_library.specs.Images.{AreSectors, device_over}
 use Rattle.c_library.specs.Journals.{IsJournal, LeavesAtEach, device_after}
 use Rattle.journal_device.specs.declared.call.Call.{Call}

@@ -1,7 +1,7 @@
 -- The warehouse that the bytes of a file hold. Our own.
 use Rattle.std.specs.Prelude.{◌≡◌, ◌<◌, ◌%◌, ◌/◌, ◌^◌, ℕ, List, [], length, None}
 use Rattle.sector_device.specs.Memory.{memory_state}
-use Rattle.file_device.specs.Runs.{sectors_in}
+use Rattle.sector_device.specs.EventRuns.{sectors_in}
 use Rattle.object_store.specs.Disk.{Disk, AllShow}
 use Rattle.warehouse_objects.specs.Facts.{Facts}
 use Rattle.warehouse.specs.Found.{MayRepresent}

@@ -3,7 +3,7 @@ use Rattle.std.specs.Prelude.{◌≡◌, ℕ, List, length, take, All}
 use Rattle.cube_model.specs.declared.fault.Fault.{Fault}
 use Rattle.cube_model.specs.declared.fault.Fault.TheVariants.{Device, Memory}
 use Rattle.sector_device.specs.Device.{Image}
-use Rattle.file_device.specs.Runs.{sectors_in}
+use Rattle.sector_device.specs.EventRuns.{sectors_in}
 use Rattle.journal_device.specs.After.{state_after}
 use Rattle.journal_device.specs.Calls.{IsWithin, journal_of}
 use Rattle.journal_device.specs.declared.call.Call.{Call}

@@ -7,18 +7,31 @@ use cube_model::LineOrder;
 /// A column of numbers.
 #[derive(Clone, Copy, PartialEq, Eq)]
 pub enum FactColumn {
+    /// The number of the order.
     OrderKey,
+    /// The number of the line in its order.
     LineNumber,
+    /// The key of the customer.
     CustKey,
+    /// The key of the part.
     PartKey,
+    /// The key of the supplier.
     SuppKey,
+    /// The key of the day on which it was ordered.
     OrderDate,
+    /// How many pieces.
     Quantity,
+    /// The price of the line.
     ExtendedPrice,
+    /// The price of the order.
     OrdTotalPrice,
+    /// The discount, in percent.
     Discount,
+    /// The price of the line less its discount.
     Revenue,
+    /// What the pieces cost the seller.
     SupplyCost,
+    /// The tax, in percent.
     Tax,
 }
 
@@ -94,6 +107,7 @@ impl FactColumn {
 /// A column of numbers of so many bytes each.
 #[derive(Clone, Copy)]
 pub struct Column<const WIDTH: usize> {
+    /// Which column.
     pub name: FactColumn,
 
     /// Its numbers have that width.
@@ -117,58 +131,71 @@ impl<const WIDTH: usize> Column<WIDTH> {
 }
 
 impl Column<8> {
+    /// [`FactColumn::OrderKey`], of eight bytes.
     pub const ORDER_KEY: Column<8> = Column {
         name: FactColumn::OrderKey,
     };
 
+    /// [`FactColumn::ExtendedPrice`], of eight bytes.
     pub const EXTENDED_PRICE: Column<8> = Column {
         name: FactColumn::ExtendedPrice,
     };
 
+    /// [`FactColumn::OrdTotalPrice`], of eight bytes.
     pub const ORD_TOTAL_PRICE: Column<8> = Column {
         name: FactColumn::OrdTotalPrice,
     };
 
+    /// [`FactColumn::Revenue`], of eight bytes.
     pub const REVENUE: Column<8> = Column {
         name: FactColumn::Revenue,
     };
 
+    /// [`FactColumn::SupplyCost`], of eight bytes.
     pub const SUPPLY_COST: Column<8> = Column {
         name: FactColumn::SupplyCost,
     };
 }
 
 impl Column<4> {
+    /// [`FactColumn::LineNumber`], of four bytes.
     pub const LINE_NUMBER: Column<4> = Column {
         name: FactColumn::LineNumber,
     };
 
+    /// [`FactColumn::CustKey`], of four bytes.
     pub const CUST_KEY: Column<4> = Column {
         name: FactColumn::CustKey,
     };
 
+    /// [`FactColumn::PartKey`], of four bytes.
     pub const PART_KEY: Column<4> = Column {
         name: FactColumn::PartKey,
     };
 
+    /// [`FactColumn::SuppKey`], of four bytes.
     pub const SUPP_KEY: Column<4> = Column {
         name: FactColumn::SuppKey,
     };
 
+    /// [`FactColumn::OrderDate`], of four bytes.
     pub const ORDER_DATE: Column<4> = Column {
         name: FactColumn::OrderDate,
     };
 }
 
 impl Column<1> {
+    /// [`FactColumn::Quantity`], of one byte.
     pub const QUANTITY: Column<1> = Column {
         name: FactColumn::Quantity,
     };
 
+    /// [`FactColumn::Discount`], of one byte.
     pub const DISCOUNT: Column<1> = Column {
         name: FactColumn::Discount,
     };
 
+    /// [`FactColumn::Tax`], of one byte.
     pub const TAX: Column<1> = Column {
         name: FactColumn::Tax,
     };
@@ -177,9 +204,13 @@ impl Column<1> {
 /// A column of texts: a dictionary, and two bytes each.
 #[derive(Clone, Copy, PartialEq, Eq)]
 pub enum TextColumn {
+    /// How urgent the order is.
     OrderPriority,
+    /// How urgent its delivery is.
     ShipPriority,
+    /// The day on which delivery was promised.
     CommitDate,
+    /// How the line is delivered.
     ShipMode,
 }
 

@@ -24,7 +24,7 @@ use Rattle.cube_model.proofs.Ascending.{IsAscending-ascending, list_any-ascendin
 use Rattle.cube_model.specs.Keys.{key_cmp, keys_of, GroupingSet, beginnings, subsets, grouping_sets, key_under}
 use Rattle.cube_model.specs.Lawful.{AnswerIsTheOne, FractionIsTheOne, IsAnswer, RowsOfAKey, EachPair, KeepsRules}
 use Rattle.cube_model.specs.Lawful.{ValidRowsKeepTheRules}
-use Rattle.cube_model.specs.Order.{member_cmp_total}
+use Rattle.cube_model.proofs.KeyOrder.{member_cmp_total}
 use Rattle.cube_model.proofs.KeyOrder.{key_cmp_total, key_cmp-IsAntisymmetric}
 use Rattle.cube_model.specs.Orders.{answer_cmp, value_cmp, in_order}
 use Rattle.cube_model.specs.Selection.{selected}

@@ -1,7 +1,6 @@
-use Rattle.std.specs.Prelude.{Bool, true, false, List, [], ◌∷◌, ◌++◌, map}
+use Rattle.std.specs.Prelude.{Bool, true, false, ℕ, List, [], ◌∷◌, ◌++◌, map}
 use Rattle.std.specs.declared.cmp.Ordering.{Ordering}
-use Rattle.std.specs.declared.cmp.Ordering.TheVariants.{Less, Equal, Greater}
-use Rattle.std.specs.Ordering.{nat_cmp}
+use Rattle.std.specs.Ordering.{bool_cmp, nat_cmp, on, then_cmp}
 use Rattle.std.specs.Cmp.Lexicographic.{slice_cmp}
 use Rattle.cube_model.specs.declared.answer.Member.{Member}
 use Rattle.cube_model.specs.declared.answer.Member.TheVariants.{All, Text}
@@ -46,12 +45,18 @@ key_under dimensions row (column ∷ columns) (false ∷ grouping) = All ∷ key
 abbrev pub keys_of : DimRows → Query → LineOrder → List (List Member)
 keys_of dimensions query row = map (key_under dimensions row query.columns) (grouping_sets query.kind query.columns)
 
--- texts by bytes, ALL after every text
+abbrev pub is_all : Member → Bool
+is_all (Text text) = false
+is_all All = true
+
+-- the bytes of a member, none of ALL
+abbrev pub member_bytes : Member → List ℕ
+member_bytes (Text text) = text
+member_bytes All = []
+
+-- ALL after every text, and texts by bytes
 abbrev pub member_cmp : Member → Member → Ordering
-member_cmp (Text left) (Text right) = slice_cmp nat_cmp left right
-member_cmp (Text left) All = Less
-member_cmp All (Text right) = Greater
-member_cmp All All = Equal
+member_cmp = then_cmp (on is_all bool_cmp) (on member_bytes (slice_cmp nat_cmp))
 
 -- keys column by column
 abbrev pub key_cmp : List Member → List Member → Ordering

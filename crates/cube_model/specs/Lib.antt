@@ -11,7 +11,6 @@ pub mod Lawful
 pub mod Limits
 pub mod Measures
 pub mod Names
-pub mod Order
 pub mod Orders
 pub mod Places
 pub mod Proper

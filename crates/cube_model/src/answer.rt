@@ -1,9 +1,8 @@
 //! Answers.
-ghost use Rattle.std.specs.Prelude.{refl};
-ghost use Rattle.std.specs.Cmp.{eq_by_cmp_equiv, partial_equiv_from_equiv, po};
+ghost use Rattle.std.proofs.Common.{rules};
+ghost use Rattle.std.specs.Cmp.Rules.{comparing};
 ghost use Rattle.std.specs.Ordering.{as_partial_cmp, eq_by_cmp};
 ghost use Rattle.cube_model.specs.Keys.{member_cmp};
-ghost use Rattle.cube_model.specs.Order.{member_cmp_total};
 
 use crate::items::{Items, Text};
 use std::cmp::Ordering;
@@ -20,7 +19,7 @@ pub enum Member {
 impl PartialEq for Member {
     ghost eq = { eq_by_cmp member_cmp };
 
-    ghost laws = { partial_equiv_from_equiv (eq_by_cmp_equiv member_cmp_total) };
+    ghost laws = { Prim.search (comparing, rules) };
 
     fn eq(&self, other: &Self) -> bool {
         self.cmp(other).is_eq()
@@ -28,13 +27,13 @@ impl PartialEq for Member {
 }
 
 impl Eq for Member {
-    ghost laws = { eq_by_cmp_equiv member_cmp_total };
+    ghost laws = { Prim.search (comparing, rules) };
 }
 
 impl PartialOrd for Member {
     ghost partial_cmp = { as_partial_cmp member_cmp };
 
-    ghost laws = { po member_cmp_total (λ x y. refl) };
+    ghost laws = { Prim.search (comparing, rules) };
 
     fn partial_cmp(&self, other: &Self) -> Option<Ordering> {
         Some(self.cmp(other))
@@ -44,11 +43,11 @@ impl PartialOrd for Member {
 impl Ord for Member {
     ghost cmp = { member_cmp };
 
-    ghost total = { member_cmp_total };
+    ghost total = { Prim.search (comparing, rules) };
 
-    ghost matches_partial_cmp = { λ x y. refl };
+    ghost matches_partial_cmp = { Prim.search (comparing, rules) };
 
-    ghost matches_eq = { λ x y. refl };
+    ghost matches_eq = { Prim.search (comparing, rules) };
 
     fn cmp(&self, other: &Self) -> Ordering {
         match (self, other) {

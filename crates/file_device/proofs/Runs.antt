@@ -4,11 +4,11 @@ use Rattle.std.proofs.Common.{◌∷◌, length, take, get_or, refl, add-one, sy
 use Rattle.sector_device.specs.Device.{Image, CandidatesStay, HasRun}
 use Rattle.sector_device.proofs.WriteRuns.{stays_then}
 use Rattle.sector_device.proofs.CallerLemmas.{length-chunks, chunk_at}
-use Rattle.file_device.specs.History.{reads_after, HasKeptWord, file_state}
-use Rattle.file_device.specs.Runs.{sectors_in, with_reads}
-use Rattle.file_device.specs.declared.event.Event.{Event}
-use Rattle.file_device.specs.declared.event.Event.TheVariants.{Read}
-use Rattle.file_device.proofs.SyncStep.{passes}
+use Rattle.sector_device.specs.History.{reads_after, HasKeptWord, file_state}
+use Rattle.sector_device.specs.EventRuns.{sectors_in, with_reads}
+use Rattle.sector_device.specs.declared.event.Event.{Event}
+use Rattle.sector_device.specs.declared.event.Event.TheVariants.{Read}
+use Rattle.sector_device.proofs.HistorySteps.{passes}
 
 -- one sector more in the record
 next_read : (first : ℕ) (sectors : List (List ℕ)) (k : ℕ) (events : List Event) → k < length sectors

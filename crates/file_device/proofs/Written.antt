@@ -6,12 +6,12 @@ use Rattle.std.proofs.Common.{arith}
 use Rattle.sector_device.specs.Device.{Image, WritesSector, WritesWithin, HasRun, IsInRun}
 use Rattle.sector_device.proofs.WriteRuns.{none_written, one_written, within_then}
 use Rattle.sector_device.proofs.CallerLemmas.{length-chunks, chunk_at}
-use Rattle.file_device.specs.History.{reads_after, HasKeptWord, file_state}
-use Rattle.file_device.specs.Laws.{file_only_now}
-use Rattle.file_device.specs.Runs.{sectors_in, with_writes}
-use Rattle.file_device.specs.declared.event.Event.{Event}
-use Rattle.file_device.specs.declared.event.Event.TheVariants.{Written}
-use Rattle.file_device.proofs.SyncStep.{passes}
+use Rattle.sector_device.specs.History.{reads_after, HasKeptWord, file_state}
+use Rattle.sector_device.proofs.HistoryLaws.{file_only_now}
+use Rattle.sector_device.specs.EventRuns.{sectors_in, with_writes}
+use Rattle.sector_device.specs.declared.event.Event.{Event}
+use Rattle.sector_device.specs.declared.event.Event.TheVariants.{Written}
+use Rattle.sector_device.proofs.HistorySteps.{passes}
 
 -- one write more in the record
 next_write : (first : ℕ) (sectors : List (List ℕ)) (ok : Bool) (k : ℕ) (events : List Event) → k < length sectors
@@ -65,6 +65,13 @@ module _ (size : ℕ) (start : Image) (at_first : ℕ → List ℕ → Type 0) w
     no_fewer = λ j x may. inl may;
     time = passes size start at_first events (Written i bytes false);
   }
+
+  -- a write more in the record
+  pub one_noted : (i : ℕ) (bytes : List ℕ) (ok : Bool) (old new : List Event) → new ≡ Written i bytes ok ∷ old
+      → WritesSector i bytes (file_state size start at_first old) (file_state size start at_first new)
+  one_noted i bytes ok old new is =
+      subst (λ (l : List Event). WritesSector i bytes (file_state size start at_first old)
+      (file_state size start at_first l)) (sym is) (writes_one old i bytes ok)
 
   within_run : (first : ℕ) (sectors : List (List ℕ)) (ok : Bool) (events : List Event)
       → WritesWithin (IsInRun first (length sectors)) (file_state size start at_first events)

@@ -3,8 +3,8 @@ use Rattle.std.specs.Prelude.{◌≡◌, ◌≢◌, ◌⊎◌, ℕ, ◌*◌, Lis
 use Rattle.file_device.specs.Length.{IsNotToBeMade}
 use Rattle.file_device.specs.declared.claim.Existing.{Existing}
 use Rattle.file_device.specs.declared.claim.Existing.TheVariants.{Any}
-use Rattle.file_device.specs.declared.event.Event.{Event}
-use Rattle.file_device.specs.declared.event.Event.TheVariants.{Locked, Measured, Lengthened, Read, Written, Synced}
+use Rattle.sector_device.specs.declared.event.Event.{Event}
+use Rattle.sector_device.specs.declared.event.Event.TheVariants.{Locked, Measured, Lengthened, Read, Written, Synced}
 
 -- a sector of zeros
 abbrev pub blank : List ℕ

@@ -1,9 +1,9 @@
 // The calls of a file so far. They are there for the proofs alone: no memory holds them.
 ghost use Rattle.std.specs.Prelude.{◌≡◌, List, [], ◌∷◌};
 ghost use Rattle.std.specs.Borrow.{ftrue};
-ghost use Rattle.file_device.specs.declared.event.Event.{Event};
+ghost use Rattle.sector_device.specs.declared.event.Event.{Event};
 
-use crate::event::Event;
+use sector_device::Event;
 use std::marker::Model;
 
 /// The calls of a file with their answers, the newest first.

@@ -5,7 +5,7 @@ ghost use Rattle.cube_model.specs.declared.fault.Fault.{Fault};
 ghost use Rattle.file_device.specs.OpenError.{fault_of};
 ghost use Rattle.file_device.specs.Claim.{blank, ChangeNothing, IsClaimedBy, MeasuredOther, ReadOther};
 ghost use Rattle.file_device.specs.Host.{events_of};
-ghost use Rattle.file_device.specs.declared.event.Event.{Event};
+ghost use Rattle.sector_device.specs.declared.event.Event.{Event};
 
 use crate::length::{SECTOR, is_to_be_made};
 use crate::{Host, OpenError, RawFile};

@@ -91,7 +91,7 @@ impl<F: RawFile, S: Start> Sectors for FileDisk<F, S> {
     ghost use Rattle.file_device.specs.FileDisk.{recorded_calls, failures_of, has_broken, is_read_only, state_of};
     ghost use Rattle.file_device.specs.FileDisk.{KeepsWord};
     ghost use Rattle.file_device.specs.FileDisk.{BreaksDisk};
-    ghost use Rattle.file_device.specs.Laws.{file_read_may_stay, file_whole, file_counts_now, file_only_now};
+    ghost use Rattle.sector_device.proofs.HistoryLaws.{file_read_may_stay, file_whole, file_counts_now, file_only_now};
 
     ghost state = { λ f. state_of F.RawFile S.Start f };
 

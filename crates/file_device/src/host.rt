@@ -2,13 +2,13 @@
 ghost use Rattle.std.specs.Prelude.{◌≡◌, ◌∷◌, [], Some, IfErr, MatchResult, is_ok};
 ghost use Rattle.cube_model.specs.declared.fault.Fault.{Fault};
 ghost use Rattle.file_device.specs.OpenError.{fault_of};
-ghost use Rattle.file_device.specs.declared.event.Event.{Event};
+ghost use Rattle.sector_device.specs.declared.event.Event.{Event};
 
 use crate::calls::Calls;
-use crate::event::Event;
-use crate::lock::{LockFile, LockKind};
+use crate::lock::LockFile;
 use crate::open_error::OpenError;
 use crate::raw::RawFile;
+use sector_device::{Event, LockKind};
 use std::fs::{Metadata, OpenFile, TryLockError};
 use std::io;
 use std::os::unix::fs::FileExt;

@@ -1,14 +1,6 @@
 // Locks on whole files. They bind the programs that ask for one.
+use sector_device::LockKind;
 use std::fs::{File, TryLockError};
-
-/// What a lock on a file leaves to the other programs that ask for one.
-#[derive(Clone, Copy, PartialEq, Eq)]
-pub enum LockKind {
-    /// No lock.
-    Exclusive,
-    /// Shared locks.
-    Shared,
-}
 
 /// A file on which an advisory lock can be taken, which is held until the file is closed.
 pub trait LockFile {

@@ -1,11 +1,11 @@
 // A device over a file that is named by its path.
-ghost use Rattle.std.specs.Prelude.{◌≡◌, ◌⊎◌, ◌<◌, ◌≤◌, ◌*◌, [], ◌∷◌, true, false, IfOk, IfErr, OnOk};
+ghost use Rattle.std.specs.Prelude.{◌≡◌, ◌⊎◌, ◌<◌, ◌≤◌, ◌*◌, [], ◌∷◌, true, false, IfOk, IfErr};
 ghost use Rattle.cube_model.specs.declared.fault.Fault.{Fault};
 ghost use Rattle.file_device.specs.Claim.{IsClaimedBy};
 ghost use Rattle.file_device.specs.Host.{events_of};
 ghost use Rattle.file_device.specs.OpenError.{fault_of};
-ghost use Rattle.file_device.specs.declared.event.Event.{Event};
-ghost use Rattle.file_device.specs.declared.lock.LockKind.{LockKind};
+ghost use Rattle.sector_device.specs.declared.event.Event.{Event};
+ghost use Rattle.sector_device.specs.declared.event.LockKind.{LockKind};
 
 use crate::length::{is_to_be_made, sectors_of};
 use crate::{Existing, FileDisk, Host, LockFile, LockKind, OpenError, Start};

@@ -15,7 +15,8 @@ use Rattle.cube_model.specs.declared.rows.DimRows.{DimRows}
 use Rattle.cube_model.specs.Places.{attr_members}
 use Rattle.group_numbers.specs.declared.column.Column.{Column}
 use Rattle.group_numbers.specs.Numbers.{digit_count, group_count, digit_member, group_key_at}
-use Rattle.group_numbers.specs.Columns.{is_all, digit_of, with_highest, attr_at, weight_at, AreColumns, IsColumnAt}
+use Rattle.group_numbers.specs.Columns.{digit_of, with_highest, attr_at, weight_at, AreColumns, IsColumnAt}
+use Rattle.cube_model.specs.Keys.{is_all}
 use Rattle.group_numbers.proofs.Numbers.{positive, member_at-all, member_at-rank}
 
 -- ---- a whole that is taken some times, with something after it

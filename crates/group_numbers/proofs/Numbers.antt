@@ -21,7 +21,7 @@ use Rattle.cube_model.specs.declared.rows.DimRows.{DimRows}
 use Rattle.cube_model.specs.declared.rows.LineOrder.{LineOrder}
 use Rattle.cube_model.specs.Attributes.{axis_of}
 use Rattle.cube_model.specs.Keys.{key_cmp, key_under, member_cmp}
-use Rattle.cube_model.specs.Order.{member_cmp_total}
+use Rattle.cube_model.proofs.KeyOrder.{member_cmp_total}
 use Rattle.cube_model.specs.Places.{attr_members, row_count_of, texts_of, text_at}
 use Rattle.group_numbers.specs.Numbers.{digit_count, group_count, digit_member, group_key_at, KeysRise, IsKnownOn}
 use Rattle.group_numbers.specs.Parts.{IsKnownFor, is_on, is_same, is_used, rank_at, part_at}

@@ -1,8 +1,6 @@
 -- The columns of a query as group numbers keep them: where the digits of each are in the numbers of groups. Our own.
-use Rattle.std.specs.Prelude.{◌≡◌, ℕ, ◌+◌, ◌-◌, ◌*◌, ◌/◌, ◌%◌, ◌<◌, Bool, true, false, List, length, drop}
+use Rattle.std.specs.Prelude.{◌≡◌, ℕ, ◌+◌, ◌-◌, ◌*◌, ◌/◌, ◌%◌, ◌<◌, List, length, drop}
 use Rattle.std.specs.Prelude.{slice_index_or}
-use Rattle.cube_model.specs.declared.answer.Member.{Member}
-use Rattle.cube_model.specs.declared.answer.Member.TheVariants.{All, Text}
 use Rattle.cube_model.specs.declared.attr.Attr.{Attr}
 use Rattle.cube_model.specs.declared.attr.Attr.TheVariants.{CustomerCity}
 use Rattle.cube_model.specs.declared.rows.DimRows.{DimRows}
@@ -25,11 +23,6 @@ attr_at columns i = slice_index_or columns i CustomerCity
 -- how many groups the columns after one can make
 abbrev pub weight_at : DimRows → List Attr → ℕ → ℕ
 weight_at dimensions columns i = group_count dimensions (drop (i + 1) columns)
-
--- a member is ALL
-abbrev pub is_all : Member → Bool
-is_all All = true
-is_all (Text text) = false
 
 -- the column at a place
 pub record IsColumnAt (dimensions : DimRows) (columns : List Attr) (i : ℕ) (column : Column) : Type 0 where

@@ -6,7 +6,8 @@ ghost use Rattle.cube_model.specs.declared.answer.Member.TheVariants.{All, Text}
 ghost use Rattle.cube_model.specs.declared.attr.Axis.TheVariants.{Customer, Supplier, Part, Date};
 ghost use Rattle.cube_model.specs.declared.rows.LineOrder.{LineOrder};
 ghost use Rattle.cube_model.specs.Places.{row_count_of, row_index_of};
-ghost use Rattle.group_numbers.specs.Columns.{attr_at, is_all};
+ghost use Rattle.group_numbers.specs.Columns.{attr_at};
+ghost use Rattle.cube_model.specs.Keys.{is_all};
 ghost use Rattle.group_numbers.specs.Kept.{ArePlaces, KeepPlaces};
 ghost use Rattle.group_numbers.specs.Numbers.{IsKnown, IsKnownOn, IsGroupNumber, digit_count, group_count};
 ghost use Rattle.group_numbers.specs.Numbers.{group_key_at};

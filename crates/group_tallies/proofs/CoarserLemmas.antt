@@ -19,7 +19,8 @@ use Rattle.cube_model.specs.declared.measure.Agg.{Agg}
 use Rattle.cube_model.specs.declared.query.Query.{Query}
 use Rattle.cube_model.specs.declared.rows.DimRows.{DimRows}
 use Rattle.cube_model.specs.declared.rows.LineOrder.{LineOrder}
-use Rattle.group_numbers.specs.Columns.{is_all, attr_at}
+use Rattle.group_numbers.specs.Columns.{attr_at}
+use Rattle.cube_model.specs.Keys.{is_all}
 use Rattle.group_numbers.specs.Numbers.{group_count, group_key_at, KeysRise}
 use Rattle.group_tallies.specs.Coarser.{keys_from, rows_from, leads, sources_of, AreTalliedFrom, IsTarget, AreTargets}
 use Rattle.group_tallies.specs.Coarser.{gathered, AddIn, CanMergeAll, HaveMergeRoom, LieWithin, MayMerge}

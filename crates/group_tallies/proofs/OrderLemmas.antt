@@ -12,7 +12,7 @@ use Rattle.std.proofs.lemmas.Cmp.{nat_cmp_total, int_cmp_total}
 use Rattle.std.proofs.lemmas.List.Sorted.{sorted_far, ranks_by}
 use Rattle.cube_model.specs.Ascending.{IsAscending}
 use Rattle.cube_model.specs.Keys.{key_cmp, member_cmp}
-use Rattle.cube_model.specs.Order.{member_cmp_total}
+use Rattle.cube_model.proofs.KeyOrder.{member_cmp_total}
 use Rattle.cube_model.specs.Orders.{line_cmp, value_cmp}
 use Rattle.cube_model.specs.declared.answer.Line.{Line}
 use Rattle.cube_model.specs.declared.answer.Member.{Member}

@@ -14,7 +14,8 @@ use Rattle.cube_model.specs.declared.query.Kind.{Kind}
 use Rattle.cube_model.specs.declared.query.Kind.TheVariants.{Plain, Rollup, Cube}
 use Rattle.cube_model.specs.declared.rows.DimRows.{DimRows}
 use Rattle.cube_model.specs.declared.rows.LineOrder.{LineOrder}
-use Rattle.group_numbers.specs.Columns.{is_all, attr_at}
+use Rattle.group_numbers.specs.Columns.{attr_at}
+use Rattle.cube_model.specs.Keys.{is_all}
 use Rattle.group_tallies.specs.Coarser.{sets_from, keys_from, leads}
 
 pub any-map : {X Y : Type 0} (p : Y → Bool) (f : X → Y) (xs : List X)

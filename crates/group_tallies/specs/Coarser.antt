@@ -17,7 +17,7 @@ use Rattle.cube_model.specs.declared.query.Kind.TheVariants.{Plain, Rollup, Cube
 use Rattle.cube_model.specs.declared.query.Query.{Query}
 use Rattle.cube_model.specs.declared.rows.DimRows.{DimRows}
 use Rattle.cube_model.specs.declared.rows.LineOrder.{LineOrder}
-use Rattle.group_numbers.specs.Columns.{is_all}
+use Rattle.cube_model.specs.Keys.{is_all}
 use Rattle.cube_model.specs.Proper.{IsProper}
 use Rattle.group_tallies.specs.declared.slots.Slots.{Slots}
 use Rattle.group_numbers.specs.Numbers.{group_count, group_key_at, KeysRise}

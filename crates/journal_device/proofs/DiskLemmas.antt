@@ -8,12 +8,12 @@ use Rattle.sector_device.proofs.CallerLemmas.{chunk_at, length-chunks}
 use Rattle.std.specs.Option.{unwrap_or}
 use Rattle.sector_device.specs.Device.{Image, DeviceState, Elapses, IsSettled, Syncs, WritesSector}
 use Rattle.sector_device.specs.Memory.{content}
-use Rattle.file_device.specs.History.{FileMayHold, file_state, reads_after}
-use Rattle.file_device.proofs.SyncStep.{passes}
-use Rattle.file_device.specs.Laws.{file_read_may_stay}
-use Rattle.file_device.specs.declared.event.Event.{Event}
-use Rattle.file_device.specs.declared.event.Event.TheVariants.{Written, Synced}
-use Rattle.file_device.specs.Runs.{sectors_in}
+use Rattle.sector_device.specs.History.{FileMayHold, file_state, reads_after}
+use Rattle.sector_device.proofs.HistorySteps.{passes}
+use Rattle.sector_device.proofs.HistoryLaws.{file_read_may_stay}
+use Rattle.sector_device.specs.declared.event.Event.{Event}
+use Rattle.sector_device.specs.declared.event.Event.TheVariants.{Written, Synced}
+use Rattle.sector_device.specs.EventRuns.{sectors_in}
 use Rattle.journal_device.specs.Calls.{event_of, record_of, IsWithin}
 use Rattle.journal_device.specs.After.{state_after, CallsAreWhole}
 use Rattle.journal_device.specs.Latest.{ShowsLatest, last_at}

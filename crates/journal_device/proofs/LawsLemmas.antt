@@ -1,13 +1,13 @@
 -- Lemmas of `laws`, by subject.
-use Rattle.std.proofs.Common.{◌≡◌, inl, inr, ℕ, zero, suc, ◌+◌, List, [], ◌∷◌, ◌++◌, length, take, drop, map, reverse}
+use Rattle.std.proofs.Common.{◌≡◌, ℕ, ◌+◌, List, [], ◌∷◌, ◌++◌, length, take, drop, map, reverse}
 use Rattle.std.proofs.Common.{sym, ◌∙◌, ap, subst, arith, ◌^◌, ◌-◌, ◌<◌, refl, append_assoc, length-append}
-use Rattle.std.proofs.lemmas.List.{reverse-append, take-append-drop, drop-map, length-reverse, take_at}
+use Rattle.std.proofs.lemmas.List.{reverse-append, take-append-drop, drop-map, length-drop, length-map, length-reverse}
+use Rattle.std.proofs.lemmas.List.{take_at}
 use Rattle.std.proofs.Math.Seq.{drop-append-add}
-use Rattle.sector_device.specs.Device.{Image}
 use Rattle.sector_device.specs.Memory.{content}
-use Rattle.file_device.specs.History.{FileMayHold, FileLeftWithin}
-use Rattle.file_device.specs.declared.event.Event.{Event}
-use Rattle.file_device.specs.Runs.{sectors_in}
+use Rattle.sector_device.specs.History.{FileMayHold}
+use Rattle.sector_device.specs.declared.event.Event.{Event}
+use Rattle.sector_device.specs.EventRuns.{sectors_in}
 use Rattle.journal_device.specs.Calls.{event_of, record_of, IsWithin, journal_of, spelled_call}
 use Rattle.journal_device.specs.Lawful.{PrefixIsLeft, SpellsOneList}
 use Rattle.journal_device.specs.declared.call.Call.{Call}
@@ -17,15 +17,6 @@ use Rattle.wire.proofs.CallerLemmas.{length-spelling, spelling-one}
 use Rattle.journal_device.specs.declared.call.Call.TheVariants.{Write, Sync}
 
 -- ==== What a crash leaves after some of the calls.
-
--- an image of any moment is one of the last so many
-left_then : (start : Image) (at_first : ℕ → List ℕ → Type 0) (k : ℕ) (events : List Event) (image : Image)
-    → ((i : ℕ) → FileMayHold start at_first (drop k events) i (image i))
-    → FileLeftWithin start at_first (length events) events image
-left_then start at_first zero [] image may = may
-left_then start at_first (suc k) [] image may = may
-left_then start at_first zero (e ∷ earlier) image may = inl may
-left_then start at_first (suc k) (e ∷ earlier) image may = inr (left_then start at_first k earlier image may)
 
 -- the record of the first calls is that of all without the newest
 record_take : (n : ℕ) (calls : List Call) → record_of (take n calls) ≡ drop (length (drop n calls)) (record_of calls)
@@ -40,14 +31,18 @@ record_take n calls =
     ∙ drop-append-add rest (reverse (take n calls)) 0 in
     ap (map event_of) (sym cut) ∙ sym (drop-map event_of (length (drop n calls)) (reverse calls))
 
+-- it has an event for each call
+length-record : (calls : List Call) → length (record_of calls) ≡ length calls
+length-record calls = length-map (reverse calls) event_of ∙ length-reverse calls
+
 pub prefix_is_left : PrefixIsLeft
 prefix_is_left image calls n left is =
-    let start = content (sectors_in image) in
-    let all : FileLeftWithin start (λ i b. b ≡ start i) (length (record_of calls)) (record_of calls) left =
-    left_then start (λ i b. b ≡ start i) (length (drop n calls)) (record_of calls) left
-    (subst (λ (l : List Event). (i : ℕ) → FileMayHold start (λ i b. b ≡ start i) l i (left i)) (record_take n calls)
-    is) in
-    subst (λ (k : ℕ). FileLeftWithin start (λ i b. b ≡ start i) k (record_of calls) left) (omega arith) all
+    let start = content (sectors_in image) in record {
+      ago = length (drop n calls);
+      within = omega (arith, length-drop n calls, length-record calls);
+      may = subst (λ (l : List Event). (i : ℕ) → FileMayHold start (λ i b. b ≡ start i) l i (left i))
+          (record_take n calls) is;
+    }
 
 -- ==== A journal spells one list of calls.
 

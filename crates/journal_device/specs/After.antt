@@ -2,8 +2,8 @@
 use Rattle.std.specs.Prelude.{◌≡◌, ℕ, ◌<◌, List, length}
 use Rattle.sector_device.specs.Device.{DeviceState}
 use Rattle.sector_device.specs.Memory.{content}
-use Rattle.file_device.specs.History.{file_state}
-use Rattle.file_device.specs.Runs.{sectors_in}
+use Rattle.sector_device.specs.History.{file_state}
+use Rattle.sector_device.specs.EventRuns.{sectors_in}
 use Rattle.journal_device.specs.Calls.{record_of}
 use Rattle.journal_device.specs.declared.call.Call.{Call}
 

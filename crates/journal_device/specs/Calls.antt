@@ -2,8 +2,8 @@
 use Rattle.std.specs.Prelude.{◌≡◌, ℕ, ◌-◌, ◌^◌, ◌<◌, true, List, ◌++◌, length, map, reverse}
 use Rattle.std.specs.List.{flat_map}
 use Rattle.wire.specs.Spelling.{spelling}
-use Rattle.file_device.specs.declared.event.Event.{Event}
-use Rattle.file_device.specs.declared.event.Event.TheVariants.{Written, Synced}
+use Rattle.sector_device.specs.declared.event.Event.{Event}
+use Rattle.sector_device.specs.declared.event.Event.TheVariants.{Written, Synced}
 use Rattle.journal_device.specs.declared.call.Call.{Call}
 use Rattle.journal_device.specs.declared.call.Call.TheVariants.{Write, Sync}
 

@@ -4,7 +4,7 @@ ghost use Rattle.std.specs.Prelude.{length, is_ok, nat_eq, if◌then◌else◌, 
 ghost use Rattle.sector_device.specs.Device.{CountsFailure, IsSettled, CandidatesStay, Syncs, WritesSector};
 ghost use Rattle.sector_device.specs.Memory.{content};
 ghost use Rattle.journal_device.specs.ImageDisk.{shown_sectors};
-ghost use Rattle.file_device.specs.Runs.{sectors_in};
+ghost use Rattle.sector_device.specs.EventRuns.{sectors_in};
 ghost use Rattle.journal_device.specs.After.{state_after, CallsAreWhole};
 ghost use Rattle.journal_device.specs.Calls.{IsWithin};
 ghost use Rattle.journal_device.specs.Latest.{ShowsLatest, last_at};
@@ -113,7 +113,7 @@ fn counted(outcome: Result<(), AllocError>, failures: &mut u64) -> Result<(), De
 
 impl<'a, O: Origin> Sectors for JournalDisk<'a, O> {
     ghost use Rattle.journal_device.specs.JournalDisk.{state_of, calls_of, failures_of, KeepsWord};
-    ghost use Rattle.file_device.specs.Laws.{file_read_may_stay, file_counts_now, file_only_now};
+    ghost use Rattle.sector_device.proofs.HistoryLaws.{file_read_may_stay, file_counts_now, file_only_now};
     ghost use Rattle.journal_device.specs.Calls.{record_of};
 
     ghost state = { state_of };

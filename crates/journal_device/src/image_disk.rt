@@ -20,7 +20,7 @@ pub struct ImageDisk<'a> {
 
 impl<'a> ImageDisk<'a> {
     ghost use Rattle.journal_device.specs.ImageDisk.{state_of, failures_of, shown_sectors};
-    ghost use Rattle.file_device.specs.Runs.{sectors_in};
+    ghost use Rattle.sector_device.specs.EventRuns.{sectors_in};
 
     /// A device over the bytes of a whole number of sectors, of fewer than 2^32 sectors. None over other bytes.
     pub fn over(image: &'a [u8]) -> Option<ImageDisk<'a>>
@@ -49,7 +49,7 @@ impl<'a> ImageDisk<'a> {
 
 impl<'a> Sectors for ImageDisk<'a> {
     ghost use Rattle.journal_device.specs.ImageDisk.{state_of, failures_of, KeepsWord};
-    ghost use Rattle.sector_device.specs.MemoryLaws.{read_may_stay, counts_now, only_now};
+    ghost use Rattle.sector_device.proofs.MemoryLaws.{read_may_stay, counts_now, only_now};
 
     ghost state = { state_of };
 

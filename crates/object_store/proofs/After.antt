@@ -18,7 +18,7 @@ use Rattle.object_store.specs.Shows.{Spells, ShowsBy}
 use Rattle.object_store.specs.Publish.{written_by, staged_slot, IsStagedForPuts, HasWritten}
 use Rattle.object_store.proofs.Lists.{map-put_each}
 use Rattle.object_store.proofs.Extents.{held_in_range}
-use Rattle.object_store.specs.Frames.{objects_same}
+use Rattle.object_store.proofs.Frames.{objects_same}
 
 module _ (size : ℕ) (was image : Image) (used : List Extent) (kept : List Entry) (puts : List (ℕ × List ℕ))
     (root : List ℕ) (generation layout : ℕ) (staged : Staged)

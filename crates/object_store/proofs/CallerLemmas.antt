@@ -21,7 +21,7 @@ use Rattle.object_store.specs.Places.{bytes_at, objects_at}
 use Rattle.object_store.specs.Shows.{Shows}
 use Rattle.object_store.specs.Disk.{Disk, Each, AllShow, IsShown, Leaves, OnlyImagesOf, Passes}
 use Rattle.object_store.specs.declared.store.Store.{Store}
-use Rattle.object_store.specs.Sourced.{none_read}
+use Rattle.object_store.proofs.SourceLemmas.{none_read}
 use Rattle.object_store.specs.Store.{content_of, disk_of, has_failed}
 use Rattle.object_store.specs.Reading.{IsNewest}
 use Rattle.std.specs.List.{AllPairs}

@@ -21,7 +21,7 @@ use Rattle.object_store.proofs.CallerLemmas.{only_images}
 use Rattle.object_store.specs.Ready.{content_from, IsReady}
 use Rattle.object_store.proofs.DeviceCalls.{images_of}
 use Rattle.object_store.proofs.Lists.{All-unmap}
-use Rattle.object_store.specs.Frames.{objects_same, ready_shows}
+use Rattle.object_store.proofs.Frames.{objects_same, ready_shows}
 
 -- what is at an id is what its entry names
 pub look_up_at : (image : Image) (entries : List Entry) (id : ℕ)

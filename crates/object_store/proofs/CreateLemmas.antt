@@ -15,7 +15,7 @@ use Rattle.object_store.specs.Commit.{IsFew, created, put_all, put_each, put_siz
 use Rattle.object_store.specs.Shows.{ShowsBy, HasNone}
 use Rattle.object_store.specs.DeviceCalls.{ReadsDevice}
 use Rattle.object_store.specs.Disk.{disk, Each, IsBlank, LeavesOrNone, OnlyImagesOf, ShowsSomeOrNone}
-use Rattle.object_store.specs.Moments.{passes_then}
+use Rattle.object_store.proofs.Moments.{passes_then}
 use Rattle.object_store.proofs.CallerLemmas.{only_images}
 use Rattle.object_store.specs.Ready.{content_from, KeepsLayout, IsReady}
 use Rattle.object_store.specs.Publish.{written_by, staged_slot, IsStagedForPuts, IsUnchangedOutside, HasWritten}

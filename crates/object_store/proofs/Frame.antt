@@ -9,7 +9,7 @@ use Rattle.object_store.specs.Content.{Content}
 use Rattle.object_store.specs.Places.{used_by}
 use Rattle.object_store.specs.Shows.{ShowsBy}
 use Rattle.object_store.specs.Publish.{IsUnchangedOutside}
-use Rattle.object_store.specs.Frames.{shows_same}
+use Rattle.object_store.proofs.Frames.{shows_same}
 use Rattle.object_store.proofs.Extents.{held_in_range}
 
 -- where nothing in use was written, an image shows what another showed

@@ -4,6 +4,9 @@ pub mod Lists
 pub mod Extents
 pub mod ExtentLemmas
 pub mod Frame
+pub mod Frames
+pub mod Moments
+pub mod SourceLemmas
 pub mod After
 pub mod PublishLemmas
 pub mod Fits

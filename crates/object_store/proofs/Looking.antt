@@ -15,7 +15,7 @@ use Rattle.object_store.specs.Shows.{ShowsBy, Shows, HasNone}
 use Rattle.object_store.specs.Ready.{content_from, KeepsLayout, IsReady}
 use Rattle.object_store.specs.Reading.{IsNewest, two}
 use Rattle.object_store.specs.Found.{IsFound, SpellNoCatalogue, ShowsNothing}
-use Rattle.object_store.specs.Frames.{shows_same}
+use Rattle.object_store.proofs.Frames.{shows_same}
 
 -- the one that is chosen is the newest
 pub chosen_is : (even odd : List ℕ) (first second chosen : Option Super)

@@ -13,7 +13,7 @@ use Rattle.object_store.specs.Commit.{put_size, puts_of}
 use Rattle.object_store.specs.Places.{bytes_at, extent_of, extents_of, object_at, objects_at, size_at}
 use Rattle.object_store.specs.Publish.{AreFor, written_by, staged_slot, HasWritten, IsEither}
 use Rattle.object_store.proofs.Extents.{before_apart, one_holds, held_in_range}
-use Rattle.object_store.specs.Frames.{objects_same, bytes_same}
+use Rattle.object_store.proofs.Frames.{objects_same, bytes_same}
 use Rattle.std.proofs.lemmas.Bool.{cases_eq}
 use Rattle.sector_device.proofs.Moments.{goes_on, leaves_also}
 use Rattle.sector_device.proofs.WriteRuns.{synced_within}

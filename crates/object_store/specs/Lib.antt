@@ -13,8 +13,6 @@ pub mod Reading
 pub mod DeviceCalls
 pub mod Found
 pub mod Store
-pub mod Frames
-pub mod Moments
 pub mod Sourced
 pub mod Publish
 pub mod Placing

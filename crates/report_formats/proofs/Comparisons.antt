@@ -4,7 +4,7 @@ use Rattle.std.specs.declared.cmp.Ordering.{Ordering}
 use Rattle.std.specs.Cmp.{IsTotalOrder, back_total, nat_cmp_total, on_total, then_total}
 use Rattle.std.specs.FinMap.{IsAntisymmetric, nat_cmp-IsAntisymmetric}
 use Rattle.cube_model.specs.declared.answer.Line.{Line}
-use Rattle.cube_model.specs.Order.{member_cmp_total}
+use Rattle.cube_model.proofs.KeyOrder.{member_cmp_total}
 use Rattle.cube_model.proofs.KeyOrder.{key_cmp_total}
 use Rattle.cube_model.proofs.LawsLemmas.{last_ties}
 use Rattle.group_tallies.specs.GroupLines.{line_at}

@@ -25,7 +25,7 @@ use Rattle.cube_model.specs.declared.answer.Value.{Value}
 use Rattle.cube_model.specs.declared.answer.Value.TheVariants.{Whole, Ratio}
 use Rattle.cube_model.specs.declared.query.Order.{Order}
 use Rattle.cube_model.specs.Keys.{key_cmp}
-use Rattle.cube_model.specs.Order.{member_cmp_total}
+use Rattle.cube_model.proofs.KeyOrder.{member_cmp_total}
 use Rattle.cube_model.proofs.KeyOrder.{key_cmp_total, key_cmp-IsAntisymmetric}
 use Rattle.cube_model.proofs.LawsLemmas.{last_ties}
 use Rattle.cube_model.specs.Orders.{answer_cmp, value_cmp}

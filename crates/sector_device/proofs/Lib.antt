@@ -4,4 +4,7 @@ pub mod MemorySteps
 pub mod PickSteps
 pub mod Runs
 pub mod WriteRuns
+pub mod HistoryLaws
+pub mod HistorySteps
+pub mod MemoryLaws
 pub mod Moments

@@ -1,6 +1,7 @@
 -- What a write and a sync do to a memory disk.
 use Rattle.std.proofs.Common.{◌≡◌, ◌≢◌, ◌⊎◌, ⊎_elim, inl, inr, ℕ, suc, ◌-◌, ◌<◌, ◌≤◌, Bool, if◌then◌else◌, List, []}
-use Rattle.std.proofs.Common.{◌∷◌, length, reverse, get_or, Contains, Result, Ok, Err, OnOk, OnErr, refl, sym, ◌∙◌, ap}
+use Rattle.std.proofs.Common.{zero, ◌∷◌, length, drop, reverse, get_or, Contains, Result, Ok, Err, OnOk, OnErr, refl}
+use Rattle.std.proofs.Common.{sym, ◌∙◌, ap}
 use Rattle.std.proofs.Common.{subst, arith}
 use Rattle.std.proofs.Math.ListN.{set}
 use Rattle.std.proofs.lemmas.List.{length-set, get_or-set_same, get_or-set_other, set-set, set-get_or, get_or_read}
@@ -8,31 +9,41 @@ use Rattle.std.proofs.lemmas.List.{reverse-append}
 use Rattle.std.proofs.lemmas.Bool.{cases_eq}
 use Rattle.std.proofs.lemmas.Bool.Decides.{eqb_tells}
 use Rattle.sector_device.specs.Device.{Elapses, WritesSector, Syncs}
-use Rattle.sector_device.specs.Memory.{content, replaced, candidates, MayHold, LeftWithin, before, memory_state}
-use Rattle.sector_device.specs.Memory.{AreWhole}
-use Rattle.sector_device.specs.MemoryLaws.{read_may_stay}
+use Rattle.sector_device.specs.Device.{Image}
+use Rattle.sector_device.specs.Memory.{content, replaced, candidates, MayHold, LeftWithin, before, before_last}
+use Rattle.sector_device.specs.Memory.{AreWhole, memory_state}
+use Rattle.sector_device.proofs.MemoryLaws.{read_may_stay}
 use Rattle.sector_device.specs.declared.change.Change.{Change}
 use Rattle.sector_device.specs.declared.change.Change.TheVariants.{Replaced, Synced}
 use Rattle.sector_device.specs.declared.memory.MemDisk.{MemDisk}
 use Rattle.sector_device.specs.MemDisk.{oldest_first, AddsCandidate}
 use Rattle.sector_device.proofs.Lists.{only, later, which}
 
--- one change more
-pub passes : (old new : List (List ℕ)) (log : List Change) (change : Change) → before change new ≡ old
-    → Elapses (memory_state old log) (memory_state new (change ∷ log))
-passes old new log change is =
-    let steps : (t : ℕ) → t ≤ length log → suc (length log) - t ≡ suc (length log - t) = λ t le. omega arith in record {
-      later = omega arith;
-      nothing_else = λ t image le left.
-          let from : LeftWithin (suc (length log - t)) new (change ∷ log) image =
-          subst (λ (n : ℕ). LeftWithin n new (change ∷ log) image) (steps t le) left in
-          ⊎_elim (λ now. inr now)
-          (λ was. inl (subst (λ (s : List (List ℕ)). LeftWithin (length log - t) s log image) is was)) from;
-      keeps = λ t image le left.
-          let to : LeftWithin (suc (length log - t)) new (change ∷ log) image =
-          inr (subst (λ (s : List (List ℕ)). LeftWithin (length log - t) s log image) (sym is) left) in
-          subst (λ (n : ℕ). LeftWithin n new (change ∷ log) image) (sym (steps t le)) to;
-    }
+module _ (old new : List (List ℕ)) (log : List Change) (change : Change) (is : before change new ≡ old) where
+  -- an image of so many moments ago is one of before a change, or of now
+  of_a_moment : (n : ℕ) (image : Image) (ago : ℕ) → ago ≤ suc n
+      → ((i : ℕ) → MayHold (before_last ago new (change ∷ log)) (drop ago (change ∷ log)) i (image i))
+      → LeftWithin n old log image ⊎ ((i : ℕ) → MayHold new (change ∷ log) i (image i))
+  of_a_moment n image zero le may = inr may
+  of_a_moment n image (suc ago) le may = inl (record {
+    ago = ago;
+    within = omega (arith, le);
+    may = λ i. subst (λ (s : List (List ℕ)). MayHold (before_last ago s log) (drop ago log) i (image i)) is (may i);
+  })
+
+  -- one change more
+  pub passes : Elapses (memory_state old log) (memory_state new (change ∷ log))
+  passes = record {
+    later = omega arith;
+    nothing_else = λ t image le left. of_a_moment (length log - t) image left.ago (omega (arith, left.within, le))
+        left.may;
+    keeps = λ t image le left. record {
+      ago = suc left.ago;
+      within = omega (arith, left.within, le);
+      may = λ i. subst (λ (s : List (List ℕ)). MayHold (before_last left.ago s log) (drop left.ago log) i (image i))
+          (sym is) (left.may i);
+    };
+  }
 
 pub replaced-here : (log : List Change) (at i : ℕ) (old : List ℕ) → i ≡ at → replaced (Replaced at old ∷ log) i ≡ old
     ∷ replaced log i

@@ -3,5 +3,6 @@ pub mod FailurePlan
 pub mod Fuse
 pub mod MemDisk
 pub mod Memory
-pub mod MemoryLaws
+pub mod EventRuns
+pub mod History
 pub mod Picks

@@ -1,5 +1,5 @@
 -- A disk in memory: what is in it, and what each write and sync since it began took away, the newest first. Our own.
-use Rattle.std.specs.Prelude.{◌≡◌, ◌⊎◌, ℕ, zero, suc, ◌-◌, ◌<◌, ◌==◌, if◌then◌else◌, List, [], ◌∷◌, length}
+use Rattle.std.specs.Prelude.{◌≡◌, ℕ, zero, suc, ◌-◌, ◌<◌, ◌≤◌, ◌==◌, if◌then◌else◌, List, [], ◌∷◌, length, drop}
 use Rattle.std.specs.Prelude.{slice_index_or, slice_set, Contains}
 use Rattle.sector_device.specs.Device.{Image, DeviceState}
 use Rattle.sector_device.specs.declared.change.Change.{Change}
@@ -27,12 +27,18 @@ abbrev pub before : Change → List (List ℕ) → List (List ℕ)
 before (Replaced at old) sectors = slice_set sectors at old
 before Synced sectors = sectors
 
+-- what was in the disk before the last n changes
+abbrev pub before_last : ℕ → List (List ℕ) → List Change → List (List ℕ)
+before_last zero sectors log = sectors
+before_last (suc n) sectors [] = sectors
+before_last (suc n) sectors (change ∷ earlier) = before_last n (before change sectors) earlier
+
 -- an image of now, or of one of the n moments before
-abbrev pub LeftWithin : ℕ → List (List ℕ) → List Change → Image → Type 0
-LeftWithin zero sectors log image = (i : ℕ) → MayHold sectors log i (image i)
-LeftWithin (suc n) sectors [] image = (i : ℕ) → MayHold sectors [] i (image i)
-LeftWithin (suc n) sectors (change ∷ earlier) image =
-    ((i : ℕ) → MayHold sectors (change ∷ earlier) i (image i)) ⊎ LeftWithin n (before change sectors) earlier image
+pub record LeftWithin (n : ℕ) (sectors : List (List ℕ)) (log : List Change) (image : Image) : Type 0 where
+  -- how many changes ago
+  pub ago : ℕ
+  pub within : ago ≤ n
+  pub may : (i : ℕ) → MayHold (before_last ago sectors log) (drop ago log) i (image i)
 
 abbrev pub memory_state : List (List ℕ) → List Change → DeviceState
 memory_state sectors log = record {

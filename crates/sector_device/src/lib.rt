@@ -4,10 +4,12 @@
 mod change;
 mod crash;
 mod device;
+mod event;
 mod fuse;
 mod memory;
 mod run;
 
 pub use device::{DeviceError, Sectors};
+pub use event::{Event, LockKind};
 pub use fuse::Fuse;
 pub use memory::MemDisk;

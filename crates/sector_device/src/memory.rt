@@ -1,5 +1,6 @@
 // A disk in memory. It keeps what each write and sync took away, so that each earlier moment is known.
-ghost use Rattle.std.specs.Prelude.{◌≡◌, ◌+◌, ◌-◌, ◌^◌, ◌<◌, ℕ, [], ◌∷◌, length, min, replicate, reverse, IsOk, IfOk};
+ghost use Rattle.std.specs.Prelude.{◌≡◌, ◌+◌, ◌-◌, ◌^◌, ◌<◌, ℕ, [], ◌∷◌, length, drop, min, replicate, reverse, IsOk};
+ghost use Rattle.std.specs.Prelude.{IfOk};
 ghost use Rattle.std.specs.Prelude.{IfErr, OnOk, OnErr};
 ghost use Rattle.sector_device.specs.Device.{IsImage, IsSettled, CandidatesStay, WritesSector, Syncs, CountsFailure};
 ghost use Rattle.sector_device.specs.Memory.{AreWhole};
@@ -129,7 +130,9 @@ fn noted(log: &mut Vec<Change>, change: Change, failures: &mut u64) -> Result<()
 impl Sectors for MemDisk {
     ghost use Rattle.sector_device.specs.MemDisk.{state_of, oldest_first, reads_of, failures_of, AddsCandidate};
     ghost use Rattle.sector_device.specs.MemDisk.{IsUnchanged};
-    ghost use Rattle.sector_device.specs.MemoryLaws.{read_may_stay, counts_now, only_now};
+    ghost use Rattle.std.proofs.Common.{arith, subst};
+    ghost use Rattle.std.proofs.lemmas.List.Elements.{Contains-get_or};
+    ghost use Rattle.sector_device.specs.Memory.{before_last, candidates, MayHold};
 
     ghost state = { state_of };
 
@@ -139,13 +142,16 @@ impl Sectors for MemDisk {
 
     ghost failed = { λ m. m.failures };
 
-    ghost read_may_stay = { λ m i word. read_may_stay m.sectors.items (reverse m.log.items) i };
+    ghost read_may_stay = { λ m i word. Contains-get_or (candidates m.sectors.items (reverse m.log.items) i) 0 []
+        (omega arith) };
 
     ghost whole = { λ m i b word. m.whole i b };
 
-    ghost counts_now = { λ m t image word le now. counts_now m.sectors.items (reverse m.log.items) t image now };
+    ghost counts_now = { λ m t image word le now. record { ago = 0; within = omega arith; may = now } };
 
-    ghost only_now = { λ m image word left. only_now m.sectors.items (reverse m.log.items) image left };
+    ghost only_now = { λ m image word left i. let none : left.ago ≡ 0 = omega (arith, left.within) in
+        subst (λ n. MayHold (before_last n m.sectors.items (reverse m.log.items)) (drop n (reverse m.log.items)) i
+        (image i)) none (left.may i) };
 
     fn count(&self) -> u32 {
         self.count

@@ -21,7 +21,7 @@ use Rattle.cube_model.specs.declared.fault.Fault.TheVariants.{BadLayout, Device,
 use Rattle.cube_model.specs.FaultNumbers.{number_of}
 use Rattle.cube_model.specs.declared.rows.DimRows.{DimRows}
 use Rattle.object_store.specs.Disk.{Leaves}
-use Rattle.object_store.specs.Moments.{leaves_then, leaves_weaker}
+use Rattle.object_store.proofs.Moments.{leaves_then, leaves_weaker}
 use Rattle.object_store.specs.Room.{Room}
 use Rattle.object_store.specs.Store.{IsAsBefore, IsStill, Refuses, content_of, device_of, disk_of, room_of}
 use Rattle.object_store.specs.declared.store.Store.{Store}

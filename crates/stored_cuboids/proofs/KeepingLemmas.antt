@@ -7,7 +7,7 @@ use Rattle.cube_model.specs.declared.rows.DimRows.{DimRows}
 use Rattle.object_store.specs.Content.{Content, bytes_of}
 use Rattle.object_store.specs.Commit.{IsFew, committed, without}
 use Rattle.object_store.specs.Disk.{Disk, Leaves}
-use Rattle.object_store.specs.Moments.{leaves_weaker}
+use Rattle.object_store.proofs.Moments.{leaves_weaker}
 use Rattle.cube_model.specs.declared.fault.Fault.{Fault}
 use Rattle.object_store.specs.Room.{Room}
 use Rattle.object_store.specs.Store.{IsOneOf, Refuses}

@@ -8,7 +8,7 @@ use Rattle.cube_model.specs.declared.fault.Fault.TheVariants.{Device}
 use Rattle.cube_model.specs.declared.rows.DimRows.{DimRows}
 use Rattle.object_store.specs.Content.{Content}
 use Rattle.object_store.specs.Disk.{Disk, Leaves}
-use Rattle.object_store.specs.Moments.{leaves_weaker}
+use Rattle.object_store.proofs.Moments.{leaves_weaker}
 use Rattle.object_store.specs.Store.{Breaks, IsAsBefore, IsStill, content_of, disk_of, has_failed}
 use Rattle.object_store.proofs.CallerLemmas.{leaves_now}
 use Rattle.object_store.specs.declared.store.Store.{Store}

@@ -14,5 +14,6 @@ mod Spans
 mod KeepingLemmas
 pub mod StoredRuns
 mod NextsLemmas
+mod ReadingLemmas
 mod Turns
 mod UpkeepLemmas

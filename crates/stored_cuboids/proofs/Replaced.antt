@@ -16,7 +16,7 @@ use Rattle.wire.specs.Limits.{most_objects}
 use Rattle.object_store.specs.Content.{Content, bytes_of}
 use Rattle.object_store.specs.Commit.{IsFew, committed, without}
 use Rattle.object_store.specs.Disk.{Disk, Leaves, disk}
-use Rattle.object_store.specs.Moments.{leaves_weaker}
+use Rattle.object_store.proofs.Moments.{leaves_weaker}
 use Rattle.object_store.specs.Store as stores
 use Rattle.object_store.specs.Store.{IsAsBefore, IsOneOf, Refuses}
 use Rattle.object_store.specs.declared.store.Store.{Store}

@@ -10,7 +10,7 @@ use Rattle.lattice.specs.declared.view.View.{View}
 use Rattle.lattice.specs.Views.{index_of}
 use Rattle.object_store.specs.Content.{Content}
 use Rattle.object_store.specs.Disk.{Disk, Leaves}
-use Rattle.object_store.specs.Moments.{leaves_then, leaves_weaker}
+use Rattle.object_store.proofs.Moments.{leaves_then, leaves_weaker}
 use Rattle.cuboid_upkeep.specs.Steps.{HaveTooMany}
 use Rattle.warehouse_root.specs.Modes.{kept_modes}
 use Rattle.warehouse_root.specs.Root.{ViewsAscend}

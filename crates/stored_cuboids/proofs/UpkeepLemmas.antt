@@ -9,7 +9,7 @@ use Rattle.cube_model.specs.declared.rows.LineOrder.{LineOrder}
 use Rattle.lattice.specs.declared.view.View.{View}
 use Rattle.object_store.specs.Content.{Content}
 use Rattle.object_store.specs.Disk.{Disk, Leaves}
-use Rattle.object_store.specs.Moments.{leaves_then, leaves_weaker}
+use Rattle.object_store.proofs.Moments.{leaves_then, leaves_weaker}
 use Rattle.object_store.proofs.Lists.{All-unmap}
 use Rattle.warehouse_root.specs.Root.{IsProperCuboid, PlainRoot}
 use Rattle.warehouse_objects.specs.Represents.{AreItsMembers, Represents, root_of, said_of}

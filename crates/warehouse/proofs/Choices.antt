@@ -10,7 +10,7 @@ use Rattle.view_choice.specs.Choice.{Lattice, benefits_after}
 use Rattle.view_choice.specs.Cuboids.{most_demanded}
 use Rattle.object_store.specs.Content.{Content}
 use Rattle.object_store.specs.Disk.{Disk, Leaves}
-use Rattle.object_store.specs.Moments.{leaves_weaker}
+use Rattle.object_store.proofs.Moments.{leaves_weaker}
 use Rattle.warehouse_objects.specs.Warehouse.{Warehouse, with_views}
 use Rattle.warehouse_objects.specs.Represents.{Represents}
 use Rattle.warehouse.specs.declared.chosen.Chosen.{Chosen}

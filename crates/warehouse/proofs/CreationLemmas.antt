@@ -12,7 +12,7 @@ use Rattle.cube_model.specs.declared.rows.DimRows.{DimRows}
 use Rattle.object_store.specs.Content.{Content}
 use Rattle.object_store.specs.Commit.{created, IsFew, puts_of}
 use Rattle.object_store.specs.Disk.{Disk, disk, Each, IsBlank, LeavesOrNone, OnlyImagesOf, ShowsSomeOrNone}
-use Rattle.object_store.specs.Moments.{begins, passes_also}
+use Rattle.object_store.proofs.Moments.{begins, passes_also}
 use Rattle.object_store.specs.Room.{LacksRoom, empty_room}
 use Rattle.object_store.specs.Shows.{HasNone}
 use Rattle.object_store.specs.Store.{content_of, disk_of, has_failed}

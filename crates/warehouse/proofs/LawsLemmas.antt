@@ -5,9 +5,9 @@ use Rattle.sector_device.specs.declared.device.Sectors.{Ghosts}
 use Rattle.sector_device.specs.Device.{Image, IsImage}
 use Rattle.object_store.specs.Content.{Content}
 use Rattle.object_store.specs.Shows.{Shows, HasNone}
-use Rattle.object_store.specs.Frames.{shows_same}
+use Rattle.object_store.proofs.Frames.{shows_same}
 use Rattle.object_store.specs.Disk.{ShowsSome, disk, AllShow, Each, IsBlank}
-use Rattle.object_store.specs.Moments.{begins}
+use Rattle.object_store.proofs.Moments.{begins}
 use Rattle.stored_rows.specs.Added.{widened}
 use Rattle.warehouse_objects.specs.Facts.{Change, Facts, IsAdmissibleIn, a_batch, addition_refusal, facts_in, some_rows}
 use Rattle.warehouse_objects.specs.Facts.{the_layout, AddsChange, in_second, with_next, with_rows}

@@ -8,8 +8,8 @@ use Rattle.warehouse_objects.specs.Reads.{ReadsOnly}
 use Rattle.sector_device.specs.declared.device.Sectors.{Ghosts}
 use Rattle.object_store.specs.Content.{Content}
 use Rattle.object_store.specs.Disk.{Disk, Leaves, disk}
-use Rattle.object_store.specs.Frames.{always_shows}
-use Rattle.object_store.specs.Moments.{leaves_weaker}
+use Rattle.object_store.proofs.Frames.{always_shows}
+use Rattle.object_store.proofs.Moments.{leaves_weaker}
 use Rattle.object_store.proofs.CallerLemmas.{all_weaker}
 use Rattle.object_store.specs.Store as stores
 use Rattle.object_store.specs.declared.store.Store.{Store}

@@ -11,7 +11,7 @@ use Rattle.object_store.specs.Commit.{ArePuts, IsFew, committed, among}
 use Rattle.sector_device.specs.declared.device.Sectors.{Ghosts}
 use Rattle.sector_device.specs.Device.{Image, IsImage}
 use Rattle.object_store.specs.Disk.{Disk, Leaves, ShowsSome}
-use Rattle.object_store.specs.Moments.{begins, leaves_weaker}
+use Rattle.object_store.proofs.Moments.{begins, leaves_weaker}
 use Rattle.object_store.specs.Room.{Room}
 use Rattle.object_store.specs.Store.{IsOneOf, Refuses}
 use Rattle.object_store.proofs.CallerLemmas.{bytes_after, few_after, layout_after, once_after, one_put, root_after}

@@ -3,7 +3,7 @@ use Rattle.std.proofs.Common.{◌≡◌, ◌⊎◌, ⊎_elim, inl, inr, ℕ, zer
 use Rattle.std.proofs.Common.{List, [], ◌∷◌, ◌++◌, take, slice_get, refl, sym, ◌∙◌, ap, subst}
 use Rattle.sector_device.specs.declared.device.Sectors.{Ghosts}
 use Rattle.object_store.specs.Disk.{Leaves}
-use Rattle.object_store.specs.Moments.{leaves_then, leaves_weaker}
+use Rattle.object_store.proofs.Moments.{leaves_then, leaves_weaker}
 use Rattle.cube_model.specs.declared.fault.Fault.{Fault}
 use Rattle.cube_model.specs.declared.fault.Fault.TheVariants.{Memory}
 use Rattle.planned_queries.specs.Stepping.{Started, stepped}

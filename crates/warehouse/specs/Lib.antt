@@ -1,4 +1,3 @@
-pub mod Props
 pub mod Refusing
 pub mod Loaded
 pub mod Session

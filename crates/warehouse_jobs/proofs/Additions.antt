@@ -11,7 +11,7 @@ use Rattle.cube_model.specs.declared.fault.Fault.TheVariants.{Device}
 use Rattle.cube_model.specs.declared.rows.DimRows.{DimRows}
 use Rattle.object_store.specs.Content.{Content}
 use Rattle.object_store.specs.Disk.{Leaves}
-use Rattle.object_store.specs.Moments.{leaves_weaker}
+use Rattle.object_store.proofs.Moments.{leaves_weaker}
 use Rattle.ssb_reports.specs.Writing.{AppendsBeginning, Writes}
 use Rattle.warehouse_objects.specs.Facts.{AdmitsRows}
 use Rattle.warehouse_objects.specs.Warehouse.{Warehouse}

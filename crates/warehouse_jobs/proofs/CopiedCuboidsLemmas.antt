@@ -1,12 +1,12 @@
 -- Lemmas of `copied_cuboids`, by subject.
-use Rattle.std.proofs.Common.{◌≡◌, ◌⊎◌, ⊎_elim, inl, inr, ◌∙◌, ℕ, List, [], ◌∷◌, get_or, length, map, take, refl, ap}
-use Rattle.std.proofs.Common.{subst, arith, ◌+◌, ◌<◌, ◌≤◌, ◌++◌, All, Option, Some, None, slice_get, sym, add-one}
-use Rattle.std.proofs.lemmas.List.{get_or-map, length-map, take_all, map-append}
+use Rattle.std.proofs.Common.{◌≡◌, ◌⊎◌, ⊎_elim, inl, inr, ◌∙◌, ℕ, List, [], ◌∷◌, length, map, take, refl, ap}
+use Rattle.std.proofs.Common.{subst, arith, ◌+◌, ◌<◌, ◌≤◌, ◌++◌, Option, Some, None, slice_get, sym, add-one}
+use Rattle.std.proofs.lemmas.List.{length-map, take_all, map-append}
 use Rattle.lattice.specs.declared.view.View.{View}
 use Rattle.object_store.specs.Content.{Content}
 use Rattle.object_store.specs.Disk.{Disk, Leaves}
-use Rattle.object_store.specs.Moments.{leaves_then, leaves_weaker}
-use Rattle.warehouse_objects.specs.Facts.{Facts, facts_in}
+use Rattle.object_store.proofs.Moments.{leaves_then, leaves_weaker}
+use Rattle.warehouse_objects.specs.Facts.{Facts}
 use Rattle.warehouse_objects.specs.Represents.{Represents, said_of}
 use Rattle.warehouse_objects.specs.Warehouse.{Cuboid, Warehouse, views_in_order, with_views}
 use Rattle.stored_cuboids.specs.Keeping.{AreKeptOn, IsKeptUp}

@@ -1,7 +1,7 @@
 -- A warehouse that has the first batches of another one.
-use Rattle.std.proofs.Common.{◌≡◌, ◌⊎◌, ⊎_elim, ◌∙◌, ℕ, ◌+◌, ◌<◌, List, ◌++◌, ◌∷◌, [], length, Option, Some, None}
+use Rattle.std.proofs.Common.{◌≡◌, ◌⊎◌, ⊎_elim, ◌∙◌, ℕ, ◌+◌, ◌<◌, List, length, Option, Some, None}
 use Rattle.std.proofs.Common.{slice_get, take, refl, sym, ap, subst, add-one, arith}
-use Rattle.std.proofs.lemmas.List.{length-take-le, take_all}
+use Rattle.std.proofs.lemmas.List.{length-take-le}
 use Rattle.std.proofs.lemmas.Option.{slice_get_within}
 use Rattle.sector_device.specs.declared.device.Sectors.{Ghosts}
 use Rattle.cube_model.specs.declared.fault.Fault.{Fault}
@@ -9,15 +9,15 @@ use Rattle.cube_model.specs.declared.fault.Fault.TheVariants.{Device, Memory}
 use Rattle.cube_model.specs.declared.rows.LineOrder.{LineOrder}
 use Rattle.object_store.specs.Content.{Content}
 use Rattle.object_store.specs.Disk.{Disk, Leaves}
-use Rattle.object_store.specs.Moments.{leaves_weaker}
+use Rattle.object_store.proofs.Moments.{leaves_weaker}
 use Rattle.warehouse_objects.specs.Facts.{AdmitsBatch, refusal_in, refusal_of}
 use Rattle.warehouse_objects.specs.Represents.{Represents}
 use Rattle.warehouse_objects.specs.Warehouse.{Warehouse, fresh_in, loaded}
-use Rattle.warehouse_objects.proofs.Batches.{get_within, some_one, take_next}
+use Rattle.warehouse_objects.proofs.Batches.{get_within, take_next}
 use Rattle.warehouse_objects.proofs.CallerLemmas.{admitted_in_order}
 use Rattle.warehouse.specs.declared.session.Session.{Session}
 use Rattle.warehouse.specs.Comparing.{numbered}
-use Rattle.warehouse.specs.Session.{IsAt, SubmitRefuses}
+use Rattle.warehouse.specs.Session.{SubmitRefuses}
 use Rattle.warehouse_jobs.specs.Copied.{HoldsPart, IsCopyFault, IsPart, with_first}
 use Rattle.warehouse_jobs.proofs.CopyCauses.{is_fault, of_commit, or_device}
 

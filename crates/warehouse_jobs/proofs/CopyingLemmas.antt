@@ -1,10 +1,10 @@
 -- A copy from its first device call on.
-use Rattle.std.proofs.Common.{◌≡◌, ⊎_elim, inl, inr, sym, ap, subst}
+use Rattle.std.proofs.Common.{◌≡◌, ⊎_elim, inl, inr, sym, subst}
 use Rattle.sector_device.specs.declared.device.Sectors.{Ghosts}
 use Rattle.cube_model.specs.declared.rows.DimRows.{DimRows}
 use Rattle.object_store.specs.Content.{Content}
 use Rattle.object_store.specs.Disk.{Disk, Leaves, LeavesOrNone, OnlyImagesOf, ShowsSome, ShowsSomeOrNone, disk}
-use Rattle.object_store.specs.Moments.{passes_also, passes_then}
+use Rattle.object_store.proofs.Moments.{passes_also, passes_then}
 use Rattle.object_store.specs.Shows.{HasNone}
 use Rattle.warehouse_objects.specs.Represents.{Represents}
 use Rattle.warehouse_root.specs.declared.layout.Layout.{Layout}

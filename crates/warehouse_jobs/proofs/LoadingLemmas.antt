@@ -25,7 +25,7 @@ use Rattle.warehouse_objects.specs.Facts.{AdmitsBatch}
 use Rattle.cube_model.specs.Limits.{most_batches}
 use Rattle.object_store.specs.Content.{Content}
 use Rattle.object_store.specs.Disk.{Leaves}
-use Rattle.object_store.specs.Moments.{leaves_then, leaves_weaker}
+use Rattle.object_store.proofs.Moments.{leaves_then, leaves_weaker}
 use Rattle.warehouse_objects.specs.Warehouse.{Warehouse, loaded}
 use Rattle.warehouse_objects.specs.Represents.{Represents}
 use Rattle.warehouse.specs.declared.session.Session.{Session}

@@ -14,7 +14,7 @@ use Rattle.cube_model.specs.declared.rows.LineOrder.{LineOrder}
 use Rattle.warehouse_objects.specs.Facts.{AdmitsBatch}
 use Rattle.object_store.specs.Content.{Content}
 use Rattle.object_store.specs.Disk.{Leaves, ShowsSome}
-use Rattle.object_store.specs.Moments.{begins, leaves_weaker}
+use Rattle.object_store.proofs.Moments.{begins, leaves_weaker}
 use Rattle.ssb_reports.specs.Writing.{AppendsBeginning, Writes}
 use Rattle.warehouse_objects.specs.Warehouse.{Warehouse, loaded}
 use Rattle.warehouse_objects.specs.Represents.{Represents}

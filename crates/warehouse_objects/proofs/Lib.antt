@@ -12,3 +12,4 @@ pub mod ModesRead
 pub mod OneMoreRead
 pub mod Rows
 pub mod KeptModes
+pub mod Props

@@ -6,8 +6,8 @@ use Rattle.cube_model.specs.declared.fault.Fault.TheVariants.{Device}
 use Rattle.sector_device.specs.declared.device.Sectors.{Ghosts}
 use Rattle.sector_device.specs.Device.{Image, IsImage}
 use Rattle.object_store.specs.Disk.{Leaves}
-use Rattle.object_store.specs.Moments.{leaves_then, leaves_weaker}
-use Rattle.object_store.specs.Sourced.{still_here}
+use Rattle.object_store.proofs.Moments.{leaves_then, leaves_weaker}
+use Rattle.object_store.proofs.SourceLemmas.{still_here}
 use Rattle.object_store.specs.Store.{Breaks, IsStill, content_of, disk_of, has_failed}
 use Rattle.object_store.proofs.CallerLemmas.{leaves_now}
 use Rattle.object_store.specs.declared.store.Store.{Store}

@@ -4,7 +4,7 @@ use Rattle.std.proofs.lemmas.Result.{err_from_is_err_and}
 use Rattle.cube_model.specs.declared.fault.Fault.{Fault}
 use Rattle.object_store.specs.Found.{ExplainsRefusal, SpellNoCatalogue, is_of_layout}
 use Rattle.object_store.specs.Reading.{IsNewest}
-use Rattle.object_store.specs.Frames.{bytes_same}
+use Rattle.object_store.proofs.Frames.{bytes_same}
 use Rattle.object_store.proofs.Looking.{newest_same, nothing_sized, nothing_spelled}
 use Rattle.object_store.proofs.find.find.Goals as goal
 

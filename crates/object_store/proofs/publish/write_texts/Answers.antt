@@ -8,7 +8,7 @@ use Rattle.object_store.specs.Publish.{written_by}
 use Rattle.object_store.proofs.DeviceCalls.{writes_more, writes_then}
 use Rattle.object_store.proofs.Lists.{AllPairs-head}
 use Rattle.object_store.proofs.Extents.{laid_out_tail, apart_from}
-use Rattle.object_store.specs.Frames.{objects_same}
+use Rattle.object_store.proofs.Frames.{objects_same}
 use Rattle.object_store.proofs.publish.write_texts.Goals as goal
 
 pub write_objects-requires-clause-laid_out : goal.write_objects-requires-clause-laid_out

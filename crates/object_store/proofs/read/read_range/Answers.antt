@@ -1,7 +1,7 @@
 use Rattle.std.proofs.Common.{◌≡◌, ℕ, ◌+◌, ◌-◌, List, ◌++◌, length, take, drop, refl, ◌∙◌, ap, arith, length-drop}
 use Rattle.std.proofs.lemmas.List.{length-take-le}
 use borrow.Rule.Slice.PartMut.{post_of}
-use Rattle.object_store.specs.Frames.{bytes_same}
+use Rattle.object_store.proofs.Frames.{bytes_same}
 use Rattle.object_store.specs.Places.{bytes_at}
 use Rattle.object_store.proofs.DeviceCalls.{reads_then}
 use Rattle.object_store.proofs.Pieces.{range_grows, part_within}

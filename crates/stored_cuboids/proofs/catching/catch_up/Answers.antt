@@ -1,7 +1,7 @@
 use Rattle.std.proofs.Common.{◌≡◌, ◌+◌, ℕ, List, length, refl, sym, ◌∙◌, ap, subst, arith}
 use Rattle.std.proofs.lemmas.List.{length-map}
 use Rattle.object_store.specs.Content.{Content}
-use Rattle.object_store.specs.Moments.{leaves_weaker}
+use Rattle.object_store.proofs.Moments.{leaves_weaker}
 use Rattle.object_store.specs.Store as stores
 use Rattle.warehouse_root.specs.Root.{PlainRoot}
 use Rattle.warehouse_objects.specs.Warehouse.{Warehouse}

@@ -6,7 +6,7 @@ use Rattle.warehouse_root.specs.Layouts.{layout_number}
 use Rattle.warehouse_root.proofs.CallerLemmas.{root_is_short}
 use Rattle.warehouse_objects.specs.Loaded.{IsLoaded}
 use Rattle.stored_cuboids.proofs.Replaced.{few_replaced, loaded_replaced, replaced_by}
-use Rattle.object_store.specs.Moments.{leaves_weaker}
+use Rattle.object_store.proofs.Moments.{leaves_weaker}
 use Rattle.object_store.proofs.CallerLemmas.{leaves_now}
 use Rattle.stored_cuboids.proofs.replacing.replace_root.Goals as goal
 

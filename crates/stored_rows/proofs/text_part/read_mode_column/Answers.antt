@@ -1,8 +1,8 @@
-use Rattle.std.proofs.Common.{◌+◌, ◌*◌, List, ℕ, drop, subst, sym}
+use Rattle.std.proofs.Common.{◌≡◌, ◌+◌, ◌*◌, Err, List, ℕ, ap, drop, subst, sym}
 use Rattle.std.specs.Option.{IsSomeAnd}
-use Rattle.std.proofs.lemmas.Result.{IfOk-weaker}
+use Rattle.std.proofs.lemmas.Result.{IfOk-weaker, err_from_is_err_and}
 use Rattle.cube_model.specs.declared.fault.Fault.TheVariants.{BadLayout}
-use Rattle.column_segment.specs.Projected.{HasColumns}
+use Rattle.column_segment.specs.Projected.{HasColumns, HoldsNoneOf}
 use Rattle.object_store.specs.Content.{bytes_of}
 use Rattle.object_store.specs.Store.{content_of}
 use Rattle.warehouse_objects.proofs.Folded.{bad_one, of_fault}
@@ -11,6 +11,14 @@ use Rattle.stored_rows.specs.Passing.{LeadsToLast}
 use Rattle.stored_rows.specs.TextColumns.{SpellLast}
 use Rattle.stored_rows.proofs.TextPartLemmas.{holds_modes, holds_none}
 use Rattle.stored_rows.proofs.text_part.read_mode_column.Goals as goal
+
+pub returns-in_err-bytes-clause-refused : goal.returns-in_err-bytes-clause-refused
+returns-in_err-bytes-clause-refused g c =
+    let p = err_from_is_err_and c.from_residual.result c.from_residual.ensures.1 in
+    rw (p.1, p.2) (λ bad k.
+    let fault : c.in_err-bytes.field-0.0 ≡ BadLayout = cc bad in
+    subst (λ (id : ℕ). HoldsNoneOf (bytes_of (content_of g.D.Sectors c.args.store.now) id) c.args.number c.args.count)
+    c.segment_id.ensures (c.in_err-bytes.ensures.refused (ap (λ fault. Err fault) fault) k))
 
 pub returns-clause-modes : goal.returns-clause-modes
 returns-clause-modes g c =

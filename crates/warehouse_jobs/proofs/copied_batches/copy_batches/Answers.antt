@@ -1,7 +1,7 @@
 use Rattle.std.proofs.Common.{◌<◌, length, subst, arith}
 use Rattle.std.proofs.lemmas.Result.{err_from_is_err_and}
 use Rattle.object_store.specs.Content.{Content}
-use Rattle.object_store.specs.Moments.{leaves_then}
+use Rattle.object_store.proofs.Moments.{leaves_then}
 use Rattle.warehouse_objects.specs.Represents.{Represents}
 use Rattle.warehouse_objects.specs.Warehouse.{Warehouse}
 use Rattle.warehouse.specs.Session.{IsAt}

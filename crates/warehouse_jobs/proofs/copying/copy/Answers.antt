@@ -1,11 +1,11 @@
 use Rattle.std.proofs.Common.{◌≡◌, true, false, ⊎_elim, inl, sym, subst, ◌∙◌}
-use Rattle.cube_model.specs.declared.fault.Fault.TheVariants.{Failed, Memory}
-use Rattle.object_store.specs.Disk.{LeavesOrNone, OnlyImagesOf, ShowsSomeOrNone, disk}
-use Rattle.object_store.specs.Moments.{begins}
+use Rattle.cube_model.specs.declared.fault.Fault.TheVariants.{Memory}
+use Rattle.object_store.specs.Disk.{ShowsSomeOrNone, disk}
+use Rattle.object_store.proofs.Moments.{begins}
 use Rattle.sector_device.specs.Device.{IsImage}
-use Rattle.warehouse_objects.specs.Warehouse.{Warehouse, fresh}
+use Rattle.warehouse_objects.specs.Warehouse.{Warehouse}
 use Rattle.warehouse.specs.Session.{IsAt}
-use Rattle.warehouse_jobs.specs.Copied.{HoldsPart, IsCopyFault, with_first}
+use Rattle.warehouse_jobs.specs.Copied.{HoldsPart}
 use Rattle.warehouse_jobs.proofs.CopyingLemmas.{back_leaves, back_spared, back_word, filling_leaves, fresh_first}
 use Rattle.warehouse_jobs.proofs.CopyingLemmas.{making_leaves}
 use Rattle.warehouse_jobs.proofs.CopyCauses.{is_fault, of_making}

@@ -1,5 +1,5 @@
 use Rattle.std.proofs.lemmas.Result.{IfErr-weaker, err_from_is_err_and}
-use Rattle.object_store.specs.Moments.{leaves_then}
+use Rattle.object_store.proofs.Moments.{leaves_then}
 use Rattle.warehouse_objects.proofs.Folded.{ok_so}
 use Rattle.warehouse_jobs.specs.Copied.{HoldsPart}
 use Rattle.warehouse_jobs.proofs.copying.copy_into.Goals as goal

@@ -7,7 +7,7 @@ use Rattle.file_device.proofs.CallsLemmas.{stay_dropped, Goes-dropped, ends_at}
 use Rattle.file_device.specs.contracts.calls.Calls.then as f
 use Rattle.file_device.specs.declared.calls.Calls.{Calls}
 use Rattle.file_device.specs.contracts.calls.Calls.{the_row as C}
-use Rattle.file_device.specs.contracts.event.Event.{the_row as E}
+use Rattle.sector_device.specs.contracts.event.Event.{the_row as E}
 use Rattle.file_device.proofs.calls.Calls.then.Statement.{statement}
 use Rattle.file_device.proofs.calls.Calls.then.Code as code
 

@@ -1,4 +1,4 @@
-use Rattle.file_device.specs.Runs.{sectors_in}
+use Rattle.sector_device.specs.EventRuns.{sectors_in}
 use Rattle.file_device.proofs.Runs.{kept_if_run_read, run_if_read, stays_if_run_read}
 use Rattle.file_device.proofs.disk.FileDiskSectors.read_run.Goals as goal
 

@@ -1,5 +1,5 @@
 use Rattle.std.proofs.Common.{is_ok}
-use Rattle.file_device.specs.Runs.{sectors_in}
+use Rattle.sector_device.specs.EventRuns.{sectors_in}
 use Rattle.file_device.proofs.Written.{kept_if_written, run_if_written, within_written}
 use Rattle.file_device.proofs.disk.FileDiskSectors.write_run.Goals as goal
 

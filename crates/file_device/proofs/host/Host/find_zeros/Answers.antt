@@ -1,6 +1,6 @@
 use Rattle.std.proofs.Common.{◌∙◌, ◌∷◌, ℕ, List, ap}
 use Rattle.file_device.specs.Host.{events_of}
-use Rattle.file_device.specs.declared.event.Event.TheVariants.{Read}
+use Rattle.sector_device.specs.declared.event.Event.TheVariants.{Read}
 use Rattle.file_device.proofs.host.Host.find_zeros.Goals as goal
 
 pub returns-then-are_same-clause-ok : goal.returns-then-are_same-clause-ok

@@ -1,5 +1,5 @@
 use Rattle.std.proofs.Common.{◌≡◌, take}
-use Rattle.file_device.specs.Runs.{with_writes}
+use Rattle.sector_device.specs.EventRuns.{with_writes}
 use Rattle.file_device.proofs.host.HostRawFile.write_run.Given as goal
 
 abbrev pub invariant-loop-k : goal.invariant-loop-k

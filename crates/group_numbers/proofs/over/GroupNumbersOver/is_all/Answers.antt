@@ -3,7 +3,8 @@ use Rattle.std.specs.Prelude.{nat_le}
 use Rattle.std.proofs.lemmas.Bool.Decides.{nat_tests}
 use Rattle.std.proofs.lemmas.List.{get_or_past}
 use Rattle.cube_model.specs.declared.answer.Member.TheVariants.{All}
-use Rattle.group_numbers.specs.Columns.{IsColumnAt, is_all}
+use Rattle.group_numbers.specs.Columns.{IsColumnAt}
+use Rattle.cube_model.specs.Keys.{is_all}
 use Rattle.group_numbers.specs.Numbers.{group_count, group_key_at}
 use Rattle.group_numbers.proofs.EachDigit.{column_weight, column_is_all, key_length}
 use Rattle.group_numbers.proofs.over.GroupNumbersOver.is_all.Goals as goal

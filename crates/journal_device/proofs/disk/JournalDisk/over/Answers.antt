@@ -1,7 +1,7 @@
 use Rattle.std.proofs.Common.{◌∙◌, ap, subst, sym, List, length, All}
 use Rattle.std.proofs.lemmas.List.Elements.{All-nil}
 use Rattle.journal_device.specs.Calls.{IsWithin}
-use Rattle.file_device.specs.Runs.{sectors_in}
+use Rattle.sector_device.specs.EventRuns.{sectors_in}
 use Rattle.journal_device.specs.After.{CallsAreWhole}
 use Rattle.journal_device.specs.declared.call.Call.{Call}
 use Rattle.journal_device.proofs.DiskLemmas.{agrees_at_first, whole_at_first}

@@ -3,7 +3,7 @@ use Rattle.std.proofs.lemmas.List.Elements.{All-push}
 use Rattle.journal_device.specs.Calls.{IsWithin}
 use Rattle.sector_device.specs.Device.{Syncs}
 use Rattle.sector_device.specs.Memory.{content}
-use Rattle.file_device.specs.Runs.{sectors_in}
+use Rattle.sector_device.specs.EventRuns.{sectors_in}
 use Rattle.journal_device.specs.After.{state_after, CallsAreWhole}
 use Rattle.journal_device.specs.Latest.{ShowsLatest}
 use Rattle.journal_device.specs.declared.call.Call.{Call}

@@ -1,6 +1,6 @@
 use Rattle.std.proofs.Common.{◌∷◌, ◌++◌, [], List, length, All, arith}
 use Rattle.std.proofs.lemmas.List.Elements.{All-push}
-use Rattle.file_device.specs.Runs.{sectors_in}
+use Rattle.sector_device.specs.EventRuns.{sectors_in}
 use Rattle.journal_device.specs.Calls.{IsWithin}
 use Rattle.sector_device.specs.Device.{WritesSector}
 use Rattle.journal_device.specs.After.{state_after, CallsAreWhole}

@@ -2,8 +2,8 @@ use Rattle.std.proofs.Common.{inl, refl}
 use Rattle.std.proofs.lemmas.Result.{on_ok_weaker}
 use Rattle.object_store.specs.Commit.{committed, puts_of}
 use Rattle.object_store.specs.Disk.{ShowsSome}
-use Rattle.object_store.specs.Frames.{always_shows, ready_shows}
-use Rattle.object_store.specs.Moments.{begins}
+use Rattle.object_store.proofs.Frames.{always_shows, ready_shows}
+use Rattle.object_store.proofs.Moments.{begins}
 use Rattle.object_store.specs.Store.{IsOneOf, content_of, disk_of}
 use Rattle.object_store.proofs.store.Store.commit.Goals as goal
 

@@ -1,7 +1,7 @@
 use Rattle.std.proofs.Common.{refl}
 use Rattle.object_store.specs.Commit.{puts_of}
 use Rattle.object_store.specs.Ready.{content_from}
-use Rattle.object_store.specs.Frames.{ready_shows}
+use Rattle.object_store.proofs.Frames.{ready_shows}
 use Rattle.object_store.proofs.Committing.{lacks_first}
 use Rattle.object_store.proofs.store.Store.create.Goals as goal
 

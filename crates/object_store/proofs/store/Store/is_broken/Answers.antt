@@ -1,9 +1,9 @@
 use Rattle.std.proofs.Common.{◌≡◌, refl}
 use Rattle.object_store.specs.Content.{Content}
 use Rattle.object_store.specs.Disk.{ShowsSome}
-use Rattle.object_store.specs.Moments.{begins}
+use Rattle.object_store.proofs.Moments.{begins}
 use Rattle.object_store.specs.Store.{content_of, disk_of}
-use Rattle.object_store.specs.Frames.{ready_shows}
+use Rattle.object_store.proofs.Frames.{ready_shows}
 use Rattle.object_store.proofs.store.Store.is_broken.Goals as goal
 
 pub returns-clause-leaves : goal.returns-clause-leaves

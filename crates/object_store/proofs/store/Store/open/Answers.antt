@@ -1,6 +1,6 @@
 use Rattle.std.proofs.Common.{refl, arith}
 use Rattle.object_store.specs.Ready.{content_from}
-use Rattle.object_store.specs.Frames.{ready_shows}
+use Rattle.object_store.proofs.Frames.{ready_shows}
 use Rattle.object_store.proofs.store.Store.open.Goals as goal
 
 pub returns-then-count-lt-LEAST_SECTORS-clause-nothing : goal.returns-then-count-lt-LEAST_SECTORS-clause-nothing

@@ -1,7 +1,7 @@
 use Rattle.std.proofs.Common.{sym, ◌∙◌}
 use Rattle.std.proofs.lemmas.Result.{IfErr-weaker, on_ok_weaker}
 use Rattle.cube_model.specs.declared.fault.Fault.TheVariants.{Device}
-use Rattle.object_store.specs.Moments.{leaves_then}
+use Rattle.object_store.proofs.Moments.{leaves_then}
 use Rattle.object_store.specs.Store as stores
 use Rattle.warehouse_objects.specs.Represents.{Represents}
 use Rattle.warehouse_objects.proofs.Folded.{err_fault}

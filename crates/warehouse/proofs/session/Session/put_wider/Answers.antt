@@ -3,7 +3,7 @@ use Rattle.cube_model.specs.declared.rows.DimRows.{DimRows}
 use Rattle.wire.specs.Limits.{most_root_bytes}
 use Rattle.stored_rows.specs.Added.{widened, widening_puts}
 use Rattle.object_store.specs.Content.{Content}
-use Rattle.object_store.specs.Moments.{leaves_weaker}
+use Rattle.object_store.proofs.Moments.{leaves_weaker}
 use Rattle.object_store.specs.Commit.{ArePuts, committed, puts_of}
 use Rattle.object_store.specs.Store as stores
 use Rattle.object_store.proofs.CallerLemmas.{generation_after}

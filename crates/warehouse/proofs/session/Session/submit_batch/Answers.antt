@@ -1,6 +1,6 @@
 use Rattle.std.proofs.Common.{⊎_elim, inl, inr}
 use Rattle.std.proofs.lemmas.Result.{IfErr-weaker, on_ok_weaker}
-use Rattle.object_store.specs.Moments.{leaves_weaker}
+use Rattle.object_store.proofs.Moments.{leaves_weaker}
 use Rattle.warehouse_objects.specs.Represents.{Represents}
 use Rattle.warehouse.specs.Session.{disk_of}
 use Rattle.warehouse.specs.Submitting.{WithOrWithout}

@@ -1,4 +1,4 @@
--- The set for `by { Prim.hlevel props }` after a ghost field.
+-- The rules by which the fact that a session keeps has one proof at most, for `by` after its ghost field.
 use Rattle.std.proofs.Props as below
 use Rattle.std.specs.Prelude.{◌≡◌, false, ℕ, List, [], ◌∷◌}
 use Rattle.std.specs.List.{list_any}

@@ -1,8 +1,8 @@
 -- Neighbouring sectors that are read or written at once. Our own.
 use Rattle.std.specs.Prelude.{ℕ, suc, ◌/◌, Bool, List, [], ◌∷◌, length}
 use Rattle.std.specs.Simd.{first_chunks}
-use Rattle.file_device.specs.declared.event.Event.{Event}
-use Rattle.file_device.specs.declared.event.Event.TheVariants.{Read, Written}
+use Rattle.sector_device.specs.declared.event.Event.{Event}
+use Rattle.sector_device.specs.declared.event.Event.TheVariants.{Read, Written}
 
 -- the whole sectors that bytes are, end to end
 abbrev pub sectors_in : List ℕ → List (List ℕ)

@@ -4,7 +4,7 @@ use Rattle.std.proofs.Common.{◌∙◌, subst}
 use Rattle.sector_device.specs.Device.{Image, IsImage, LeavesOnly}
 use Rattle.sector_device.proofs.Moments.{started, join_runs, leaves_also}
 use Rattle.object_store.specs.Content.{Content}
-use Rattle.object_store.specs.Disk.{Disk, Each, Passes, Leaves, ShowsSome, OnlyImagesOf}
+use Rattle.object_store.specs.Disk.{Disk, Each, Passes, Leaves, ShowsSome}
 
 -- before the first call
 pub begins : (P : ℕ → Image → Type 0) (now : Disk)
