@@ -1,5 +1,5 @@
 //! The ship modes of a batch, where they are the members of an axis.
-ghost use Rattle.std.specs.Prelude.{◌≡◌, ◌<◌, ◌≤◌, ◌++◌, ℕ, List, length, IfErr, IfOk};
+ghost use Rattle.std.specs.Prelude.{◌≡◌, ◌<◌, ◌≤◌, ◌++◌, ℕ, List, length, IfOk, IsOkUnless};
 ghost use Rattle.std.specs.Int.{from_le_bytes};
 ghost use Rattle.std.specs.Option.{IfNone};
 ghost use Rattle.cube_model.specs.Limits.{most_batch_rows, most_members};
@@ -53,7 +53,7 @@ pub fn add_modes(
         → row ≡ row_number_at (crowded_place earlier (texts_by modes.now.texts codes.now))) }
     ensures limit { known.new.limit ≡ known.old.limit }
     ensures few { length known.old.texts ≤ most_members → length known.new.texts ≤ most_members }
-    ensures memory { IfErr result (λ fault. fault ≡ Fault.Memory) }
+    ensures memory { IsOkUnless result Fault.Memory }
 {
     let mut met = Vec::from_elem(alloc, false, modes.len())?;
     for (place, bytes) in codes.iter().enumerate() {

@@ -1,5 +1,5 @@
 //! The lines of a text, one by one.
-ghost use Rattle.std.specs.Prelude.{◌≡◌, ◌+◌, Some, None, MatchBool, IfOk, IfErr};
+ghost use Rattle.std.specs.Prelude.{◌≡◌, ◌+◌, Some, None, MatchBool, IfOk, IfErr, IsOkUnless};
 ghost use Rattle.std.specs.Prelude.{IfSome, length, ◌≤◌};
 ghost use Rattle.std.specs.Io.KnownBytes.{Keeps};
 ghost use Rattle.batch_loader.specs.Reading.{TakesNext, IsAllTaken, RefusesNext, NextGives};
@@ -69,7 +69,7 @@ impl<R: Read> Lines<R> {
         ensures left { IfOk result (λ lines. Keeps (R.remaining reader) lines.left) }
         ensures number { IfOk result (λ lines. lines.number ≡ 0) }
         ensures fault { IfOk result (λ lines. lines.fault ≡ None) }
-        ensures err { IfErr result (λ fault. fault ≡ Fault.Memory) }
+        ensures err { IsOkUnless result Fault.Memory }
     {
         let window = Window::new(alloc)?;
         let buffer = Vec::with_capacity(alloc, LINE_LIMIT)?;

@@ -1,6 +1,6 @@
 //! How a line becomes a row.
 ghost use Rattle.std.specs.Prelude.{◌≡◌, ◌⊎◌, ◌≤◌, ◌∷◌, [], ℕ, Some, None, Ok, Err, MatchResult, IfSome, IfOk, IfErr};
-ghost use Rattle.std.specs.Prelude.{drop, length, take};
+ghost use Rattle.std.specs.Prelude.{drop, length, take, IsOkUnless};
 ghost use Rattle.batch_loader.specs.Columns.{fields_fault, row_of, field_text};
 ghost use Rattle.batch_loader.specs.LineFields.{fields_at};
 ghost use Rattle.batch_loader.specs.Parsing.{AreNumbers, ReadsNumbers};
@@ -238,7 +238,7 @@ fn line_order(
 ) -> Result<LineOrder, Fault>
     requires { AreNumbers 0 lineorder_columns (fields_at fields.now) numbers.now }
     ensures ok { IfOk result (λ row. row ≡ lineorder_of_fields (fields_at fields.now)) }
-    ensures err { IfErr result (λ fault. fault ≡ Fault.Memory) }
+    ensures err { IsOkUnless result Fault.Memory }
 {
     let texts = line_order_texts(alloc, fields)?;
     Ok(LineOrder {
@@ -271,7 +271,7 @@ fn line_order_texts(
     ensures ok { IfOk result (λ texts. (texts.0 ≡ field_text (fields_at fields.now) 6)
         × (texts.1 ≡ field_text (fields_at fields.now) 7)
         × (texts.2 ≡ field_text (fields_at fields.now) 15) × (texts.3 ≡ field_text (fields_at fields.now) 16)) }
-    ensures err { IfErr result (λ fault. fault ≡ Fault.Memory) }
+    ensures err { IsOkUnless result Fault.Memory }
 {
     let (orderpriority, shippriority) = row_texts(alloc, fields.get(6), fields.get(7))?;
     let (commitdate, shipmode) = row_texts(alloc, fields.get(15), fields.get(16))?;
@@ -281,7 +281,7 @@ fn line_order_texts(
 /// A copy of a field as a text of its own.
 fn text(alloc: Global, bytes: &[u8]) -> Result<Text, Fault>
     ensures ok { IfOk result (λ text. text ≡ bytes.now) }
-    ensures err { IfErr result (λ fault. fault ≡ Fault.Memory) }
+    ensures err { IsOkUnless result Fault.Memory }
 {
     let bytes = Vec::from_slice(alloc, bytes)?;
     Ok(Items::from_vec(bytes))
@@ -295,7 +295,7 @@ fn texts(
     third: &[u8],
 ) -> Result<(Text, Text, Text), Fault>
     ensures ok { IfOk result (λ texts. (texts.0 ≡ first.now) × (texts.1 ≡ second.now) × (texts.2 ≡ third.now)) }
-    ensures err { IfErr result (λ fault. fault ≡ Fault.Memory) }
+    ensures err { IsOkUnless result Fault.Memory }
 {
     let first = text(alloc, first)?;
     let second = text(alloc, second)?;
@@ -307,7 +307,7 @@ fn texts(
 #[inline]
 fn row_texts(alloc: Global, first: &[u8], second: &[u8]) -> Result<(RowText, RowText), Fault>
     ensures ok { IfOk result (λ texts. (texts.0 ≡ first.now) × (texts.1 ≡ second.now)) }
-    ensures err { IfErr result (λ fault. fault ≡ Fault.Memory) }
+    ensures err { IsOkUnless result Fault.Memory }
 {
     let first = RowText::from_slice(alloc, first)?;
     let second = RowText::from_slice(alloc, second)?;

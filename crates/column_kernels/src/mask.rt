@@ -1,6 +1,6 @@
 //! Masks: one truth value a row.
 ghost use Rattle.std.specs.Prelude.{◌≡◌, ◌≤◌, ◌<◌, ◌^◌, ◌+◌, ◌*◌, ◌++◌, ◌==◌, ◌-ℤ◌, pos, if◌then◌else◌, length, take};
-ghost use Rattle.std.specs.Prelude.{drop, slice_get, sum, count_by, IfOk, IfErr};
+ghost use Rattle.std.specs.Prelude.{drop, slice_get, sum, count_by, IfOk, IsOkUnless};
 ghost use Rattle.std.specs.Int.{bit_at};
 ghost use Rattle.std.specs.List.{flat_map};
 ghost use Rattle.std.specs.Simd.Lanes.{mask_l, zip2};
@@ -49,7 +49,7 @@ impl Mask {
         requires rows { length discounts.now ≡ length quantities.now }
         requires few { length quantities.now ≤ most_batch_rows }
         ensures ok { IfOk result (λ mask. mask ≡ zip2 (lies_in quantity discount) quantities.now discounts.now) }
-        ensures memory { IfErr result (λ fault. fault ≡ Fault.Memory) }
+        ensures memory { IsOkUnless result Fault.Memory }
     {
         let (blocks, last) = quantities.as_chunks::<32>();
         let (others, other) = discounts.as_chunks::<32>();
@@ -158,7 +158,7 @@ fn whole_words(
     requires rows { length discounts.now ≡ length quantities.now }
     ensures ok { IfOk result (λ words. words.items
         ≡ zip2 (λ ones others. mask_l (zip2 (lies_in quantity discount) ones others)) quantities.now discounts.now) }
-    ensures memory { IfErr result (λ fault. fault ≡ Fault.Memory) }
+    ensures memory { IsOkUnless result Fault.Memory }
 {
     let mut words = Vec::with_capacity(alloc, quantities.len())?;
     for i in 0..quantities.len() {

@@ -1,7 +1,7 @@
 //! The columns of texts of a batch while its rows are added: the texts that were seen, and the code of each row's.
 #![tactic(auto, unfolding(wire::specs::Spelling::spelling))]
 
-ghost use Rattle.std.specs.Prelude.{◌≡◌, ◌<◌, ◌∷◌, ◌++◌, [], ℕ, List, Some, IfErr, IfOk, IsOkUnless};
+ghost use Rattle.std.specs.Prelude.{◌≡◌, ◌<◌, ◌∷◌, ◌++◌, [], ℕ, List, Some, IfOk, IsOkUnless};
 ghost use Rattle.std.specs.Prelude.{OnOk};
 ghost use Rattle.std.specs.List.{flat_map};
 ghost use Rattle.cube_model.specs.declared.rows.LineOrder.{LineOrder};
@@ -39,7 +39,7 @@ impl Coding {
     // That of no row, with room for the codes of so many.
     fn new(alloc: Global, rows: usize) -> Result<Coding, Fault>
         ensures ok { IfOk result (IsCoding []) }
-        ensures memory { IfErr result (λ fault. fault ≡ Fault.Memory) }
+        ensures memory { IsOkUnless result Fault.Memory }
     {
         Ok(Coding {
             texts: Dictionary::new(alloc, MOST_BATCH_ROWS as u32),
@@ -89,7 +89,7 @@ impl Texts {
     // Those of no row, with room for the codes of so many.
     pub(crate) fn new(alloc: Global, rows: usize) -> Result<Texts, Fault>
         ensures ok { IfOk result (HaveTexts []) }
-        ensures memory { IfErr result (λ fault. fault ≡ Fault.Memory) }
+        ensures memory { IsOkUnless result Fault.Memory }
     {
         Ok(Texts {
             orderpriority: Coding::new(alloc, rows)?,

@@ -1,6 +1,7 @@
 //! A buffer into which columns of one batch after another are read.
-ghost use Rattle.std.specs.Prelude.{◌≡◌, ◌⊎◌, [], ℕ, List, length, IfOk, IsErrOf, IsSomeAnd, OnOk};
+ghost use Rattle.std.specs.Prelude.{◌≡◌, [], ℕ, List, length, IfOk, IsErrOf, IsSomeAnd, OnOk};
 ghost use Rattle.std.specs.List.{AllByRecursion};
+ghost use Rattle.cube_model.specs.Causes.{EndsDecoding};
 ghost use Rattle.cube_model.specs.declared.fault.Fault.{Fault};
 ghost use Rattle.cube_model.specs.declared.rows.LineOrder.{LineOrder};
 ghost use Rattle.wire.specs.Runs.{ReadsSourceOr};
@@ -84,8 +85,7 @@ impl ColumnBuffer {
             × AllByRecursion (FitsColumnIn text rows) columns.now)) }
         ensures refused { IsErrOf result Fault.BadLayout → S.keeps_word source.new
             → HoldsNoneOf (S.texts source.old id) number rows }
-        ensures run { ReadsSourceOr S.Source (λ fault. (fault ≡ Fault.Memory) ⊎ (fault ≡ Fault.BadLayout)) source.old
-            source.new result }
+        ensures run { ReadsSourceOr S.Source EndsDecoding source.old source.new result }
     {
         let rows = rows as usize;
         if rows > MOST_BATCH_ROWS {

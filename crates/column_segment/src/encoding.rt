@@ -1,5 +1,5 @@
 //! Spelling a batch.
-ghost use Rattle.std.specs.Prelude.{◌≡◌, ◌≤◌, ◌+◌, ◌++◌, [], List, length, IfOk, IfErr, IsOkUnless, OnOk};
+ghost use Rattle.std.specs.Prelude.{◌≡◌, ◌≤◌, ◌+◌, ◌++◌, [], List, length, IfOk, IsOkUnless, OnOk};
 ghost use Rattle.cube_model.specs.declared.rows.LineOrder.{LineOrder};
 ghost use Rattle.column_segment.specs.Encoding.{HaveFewTexts, HaveTexts};
 ghost use Rattle.column_segment.specs.Segment.{IsBatch, segment_header, segment_of};
@@ -27,7 +27,7 @@ const OTHER_BYTES: usize = 28;
 pub fn encode(alloc: Global, number: u32, rows: &[LineOrder]) -> Result<Vec<u8>, Fault>
     requires batch { IsBatch rows.now }
     ensures ok { IfOk result (λ bytes. bytes.items ≡ segment_of number rows.now) }
-    ensures memory { IfErr result (λ fault. fault ≡ Fault.Memory) }
+    ensures memory { IsOkUnless result Fault.Memory }
 {
     let mut columns = BatchColumns::new(alloc, rows.len())?;
     columns.push(alloc, rows)?;
@@ -70,7 +70,7 @@ impl BatchColumns {
     /// Those of no row, with room for so many rows.
     pub fn new(alloc: Global, rows: usize) -> Result<BatchColumns, Fault>
         ensures ok { IfOk result (HaveRows []) }
-        ensures memory { IfErr result (λ fault. fault ≡ Fault.Memory) }
+        ensures memory { IsOkUnless result Fault.Memory }
     {
         Ok(BatchColumns {
             keys: Keys::new(alloc, rows)?,
@@ -122,7 +122,7 @@ impl BatchColumns {
         requires batch { AreColumnsOfBatch self.now }
         ensures ok { IfOk result (λ bytes. (rows : List LineOrder) → HaveRows rows self.now
             → bytes.items ≡ segment_of number rows) }
-        ensures memory { IfErr result (λ fault. fault ≡ Fault.Memory) }
+        ensures memory { IsOkUnless result Fault.Memory }
     {
         let mut out = Vec::with_capacity(alloc, OTHER_BYTES + ROW_BYTES * self.keys.len())?;
         self.push_to(&mut out, number)?;

@@ -1,5 +1,5 @@
 //! The columns of numbers of a batch, as they are in its bytes.
-ghost use Rattle.std.specs.Prelude.{◌≡◌, ◌≤◌, ◌<◌, List, length, map, IfErr, IfOk};
+ghost use Rattle.std.specs.Prelude.{◌≡◌, ◌≤◌, ◌<◌, List, length, map, IfOk, IsOkUnless};
 ghost use Rattle.cube_model.specs.declared.fault.Fault.{Fault};
 ghost use Rattle.cube_model.specs.declared.rows.LineOrder.{LineOrder};
 ghost use Rattle.cube_model.specs.Aggregates.{total};
@@ -83,7 +83,7 @@ impl<'a> FactColumns<'a> {
     pub fn mask(&self, alloc: Global, quantity: (u8, u8), discount: (u8, u8)) -> Result<Mask, Fault>
         ensures ok { IfOk result
             (λ mask. mask ≡ map (λ row. lies_in quantity discount row.quantity row.discount) self.now) }
-        ensures memory { IfErr result (λ fault. fault ≡ Fault.Memory) }
+        ensures memory { IsOkUnless result Fault.Memory }
         ensures figures { HaveSmallFigures self.now }
     {
         let quantities = byte_part(self.bytes, self.layout.rows, Column::QUANTITY);

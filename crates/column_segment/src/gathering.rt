@@ -1,6 +1,6 @@
 //! The columns of numbers of a batch while its rows are added, a piece at a time: the bytes of each row's number, a
 //! vector a column.
-ghost use Rattle.std.specs.Prelude.{◌≡◌, ◌≤◌, ◌++◌, [], List, length, IfErr, IfOk, IsOkUnless, OnOk};
+ghost use Rattle.std.specs.Prelude.{◌≡◌, ◌≤◌, ◌++◌, [], List, length, IfOk, IsOkUnless, OnOk};
 ghost use Rattle.std.specs.List.{flat_map};
 ghost use Rattle.cube_model.specs.declared.rows.LineOrder.{LineOrder};
 ghost use Rattle.column_segment.specs.Columns.{figure_columns, key_columns};
@@ -32,7 +32,7 @@ impl Keys {
     // Those of no row, with room for so many.
     pub(crate) fn new(alloc: Global, rows: usize) -> Result<Keys, Fault>
         ensures ok { IfOk result (HaveKeys []) }
-        ensures memory { IfErr result (λ fault. fault ≡ Fault.Memory) }
+        ensures memory { IsOkUnless result Fault.Memory }
     {
         Ok(Keys {
             orderkey: Vec::with_capacity(alloc, rows)?,
@@ -99,7 +99,7 @@ impl Figures {
     // Those of no row, with room for so many.
     pub(crate) fn new(alloc: Global, rows: usize) -> Result<Figures, Fault>
         ensures ok { IfOk result (HaveFigures []) }
-        ensures memory { IfErr result (λ fault. fault ≡ Fault.Memory) }
+        ensures memory { IsOkUnless result Fault.Memory }
     {
         Ok(Figures {
             quantity: Vec::with_capacity(alloc, rows)?,

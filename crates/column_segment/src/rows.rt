@@ -1,5 +1,5 @@
 //! Rows from the bytes of a batch.
-ghost use Rattle.std.specs.Prelude.{◌≡◌, ◌-◌, ◌<◌, ◌≤◌, ◌++◌, [], map, slice_index, slice_index_or, IfErr, IfOk};
+ghost use Rattle.std.specs.Prelude.{◌≡◌, ◌-◌, ◌<◌, ◌≤◌, ◌++◌, [], map, slice_index, slice_index_or, IfOk};
 ghost use Rattle.std.specs.Prelude.{IsOkUnless, OnOk};
 ghost use Rattle.std.specs.List.{range_with_len};
 ghost use Rattle.cube_model.specs.Limits.{most_batch_rows};
@@ -62,7 +62,7 @@ fn row_at(alloc: Global, bytes: &[u8], layout: &Layout, row: usize) -> Result<Li
     requires readable { IsReadable bytes.now layout.now }
     requires within { row < layout.now.rows }
     ensures ok { IfOk result (λ found. found ≡ row_in bytes.now layout.now row) }
-    ensures memory { IfErr result (λ fault. fault ≡ Fault.Memory) }
+    ensures memory { IsOkUnless result Fault.Memory }
 {
     let rows = layout.rows;
     let texts = &layout.texts;
@@ -180,7 +180,7 @@ fn two_texts(
     requires within { row < rows }
     ensures ok { IfOk result (λ texts. (texts.0 ≡ slice_index_or (texts_in bytes.now rows one.now) row [])
         × (texts.1 ≡ slice_index_or (texts_in bytes.now rows other.now) row [])) }
-    ensures memory { IfErr result (λ fault. fault ≡ Fault.Memory) }
+    ensures memory { IsOkUnless result Fault.Memory }
 {
     let first = text_at(alloc, bytes, rows, one, row)?;
     let second = text_at(alloc, bytes, rows, other, row)?;
@@ -199,7 +199,7 @@ fn text_at(
     requires codes { HasCodes bytes.now rows coded.now }
     requires within { row < rows }
     ensures ok { IfOk result (λ text. text ≡ slice_index_or (texts_in bytes.now rows coded.now) row []) }
-    ensures memory { IfErr result (λ fault. fault ≡ Fault.Memory) }
+    ensures memory { IsOkUnless result Fault.Memory }
 {
     let codes = bytes.split_at(coded.at).1.split_at(2 * rows).0;
     let code = u16::from_le_bytes(codes.as_chunks::<2>().0[row]);

@@ -1,5 +1,6 @@
 //! Reading a batch from a source.
 ghost use Rattle.std.specs.Prelude.{◌≡◌, ◌⊎◌, option_map, IfErr, IfOk, IsErrOf, IsSomeAnd};
+ghost use Rattle.cube_model.specs.Causes.{EndsDecoding};
 ghost use Rattle.cube_model.specs.declared.fault.Fault.{Fault};
 ghost use Rattle.wire.specs.Runs.{ReadsSourceOr};
 ghost use Rattle.column_segment.specs.Segment.{HoldsNoBatch, IsSegment};
@@ -17,8 +18,7 @@ pub fn decode_from<S: Source>(alloc: Global, source: &mut S, id: u32) -> Result<
     ensures ok { IfOk result (λ segment. S.keeps_word source.new
         → IsSomeAnd (S.texts source.old id) (λ bytes. IsSegment bytes segment.number segment.rows)) }
     ensures refused { IsErrOf result Fault.BadLayout → S.keeps_word source.new → HoldsNoBatch (S.texts source.old id) }
-    ensures run { ReadsSourceOr S.Source (λ fault. (fault ≡ Fault.Memory) ⊎ (fault ≡ Fault.BadLayout)) source.old
-        source.new result }
+    ensures run { ReadsSourceOr S.Source EndsDecoding source.old source.new result }
 {
     let found = read_whole(alloc, source, id)?;
     decode_found(alloc, found)

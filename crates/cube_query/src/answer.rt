@@ -1,8 +1,8 @@
 //! The answer to a query over fact rows at hand.
-ghost use Rattle.std.specs.Prelude.{◌≡◌, ◌≢◌, ◌⊎◌, Err, IfOk, IfErr, OnOk};
+ghost use Rattle.std.specs.Prelude.{◌≡◌, ◌≢◌, Err, IfOk, IfErr, OnOk};
+ghost use Rattle.group_tallies.specs.Limits.{AreFoldable, EndsFolding};
 ghost use Rattle.cube_model.specs.Answers.{answer};
 ghost use Rattle.cube_model.specs.Proper.{IsProper};
-ghost use Rattle.group_tallies.specs.Limits.{AreFoldable};
 
 use crate::running::Fold;
 use cube_model::{Answer, Fault, LineOrder, Query};
@@ -19,7 +19,7 @@ pub fn fold(alloc: Global, dims: &Dims, rows: &[LineOrder], query: &Query) -> Re
     ensures improper { (IsProper query.now → ⊥) → result ≡ Err Fault.BadQuery }
     ensures refused { result ≡ Err Fault.BadQuery → IsProper query.now → ⊥ }
     ensures unfolded { result ≡ Err Fault.BadLayout → AreFoldable dims.now rows.now → ⊥ }
-    ensures only { IfErr result (λ fault. fault ≢ Fault.BadQuery → (fault ≡ Fault.Memory) ⊎ (fault ≡ Fault.BadLayout)) }
+    ensures only { IfErr result (λ fault. fault ≢ Fault.BadQuery → EndsFolding fault) }
 {
     let query = query.check()?;
     let mut state = Fold::new(alloc, dims, &query)?;

@@ -1,6 +1,7 @@
 //! A cell of a cuboid, merged into the tallies at the slot of its group.
-ghost use Rattle.std.specs.Prelude.{◌≡◌, ◌≢◌, ◌⊎◌, ◌≤◌, ◌<◌, ◌^◌, ℕ, [], ◌∷◌, length, slice_set, Some, Err, IfErr};
+ghost use Rattle.std.specs.Prelude.{◌≡◌, ◌≢◌, ◌≤◌, ◌<◌, ◌^◌, ℕ, [], ◌∷◌, length, slice_set, Some, Err, IfErr};
 ghost use Rattle.std.specs.Prelude.{IfOk, OnErr, OnOk};
+ghost use Rattle.group_tallies.specs.Limits.{EndsFolding};
 ghost use Rattle.cube_query.specs.CellTallies.{cell_tally, counted, summary_in, with_cells, HasRoomForCells};
 ghost use Rattle.cube_query.specs.CellTallies.{HaveRoomFor};
 ghost use Rattle.cube_query.specs.CellTallies.{MergesCells};
@@ -26,7 +27,7 @@ pub fn merge_cell(
     ensures refused { result ≡ Err Fault.BadLayout
         → HaveRoomFor aggs.now (cell.now ∷ []) (tallies_at columns.old slot) → ⊥ }
     ensures others { (other : ℕ) → other ≢ slot → tallies_at columns.new other ≡ tallies_at columns.old other }
-    ensures only { IfErr result (λ fault. (fault ≡ Fault.Memory) ⊎ (fault ≡ Fault.BadLayout)) }
+    ensures only { IfErr result EndsFolding }
 {
     for i in 0..aggs.len() {
         merge_in_column(&mut columns[i], aggs[i], cell, slot)?;
@@ -41,7 +42,7 @@ fn merge_in_column(column: &mut Vec<Tally>, agg: Agg, cell: &Cell, slot: u32) ->
         → HasRoomForCells agg (cell.now ∷ []) (tally_at column.old.items slot)
         → ⊥ }
     ensures others { (other : ℕ) → other ≢ slot → tally_at column.new.items other ≡ tally_at column.old.items other }
-    ensures only { IfErr result (λ fault. (fault ≡ Fault.Memory) ⊎ (fault ≡ Fault.BadLayout)) }
+    ensures only { IfErr result EndsFolding }
 {
     lengthen(column, slot as usize + 1)?;
     match merge_at(column.as_mut_slice(), agg, cell, slot) {

@@ -1,6 +1,7 @@
 //! The cells of a run, merged in as they are read.
 ghost use Rattle.std.specs.Prelude.{◌≡◌, ◌⊎◌, ◌<◌, ◌≤◌, ℕ, List, Some, length, IsErrOf, OnOk};
 ghost use Rattle.std.specs.List.{All};
+ghost use Rattle.group_tallies.specs.Limits.{EndsFolding};
 ghost use Rattle.cube_model.specs.declared.fault.Fault.{Fault};
 ghost use Rattle.wire.specs.Runs.{ReadsSourceOr};
 ghost use Rattle.cuboid_cells.specs.Cells.{IsCellOf};
@@ -52,8 +53,7 @@ pub fn merge_run<S: Source>(
     ensures cover { Cover (group_count numbers.now.dimensions numbers.now.query.columns) slots.new }
     ensures grow { Grow (group_count numbers.now.dimensions numbers.now.query.columns) (entries_of slots.old)
         (entries_of slots.new) }
-    ensures run { ReadsSourceOr S.Source (λ fault. (fault ≡ Fault.Memory) ⊎ (fault ≡ Fault.BadLayout)) source.old
-        source.new result }
+    ensures run { ReadsSourceOr S.Source EndsFolding source.old source.new result }
 {
     let mut cells = Vec::new(alloc);
     while !run.is_done() {
@@ -83,8 +83,7 @@ fn read_wanted<S: Source>(
         → ReadsWanted numbers.now (S.texts source.old run.old.id) left run.new cells.new.items) }
     ensures refused { IsErrOf result Fault.BadLayout → S.keeps_word source.new → (left : List Cell)
         → AreLeft (S.texts source.old run.old.id) run.old left → ⊥ }
-    ensures run { ReadsSourceOr S.Source (λ fault. (fault ≡ Fault.Memory) ⊎ (fault ≡ Fault.BadLayout)) source.old
-        source.new result }
+    ensures run { ReadsSourceOr S.Source EndsFolding source.old source.new result }
 {
     cells.clear();
     let Some(least) = numbers.next_number(run.least()) else {

@@ -1,6 +1,7 @@
 //! The slots of the groups of cells, and the cells merged in at them.
 ghost use Rattle.std.specs.Prelude.{◌≡◌, ◌⊎◌, ◌<◌, ◌≤◌, ℕ, List, [], ◌∷◌, length, Some, Err, IfOk, IfErr, OnOk};
 ghost use Rattle.std.specs.List.{All};
+ghost use Rattle.group_tallies.specs.Limits.{EndsFolding};
 ghost use Rattle.cuboid_cells.specs.Cells.{IsCellOf};
 ghost use Rattle.group_numbers.specs.Numbers.{group_count};
 ghost use Rattle.cube_query.specs.CellSlots.{AreMergedIn, HasNoRepresentative, HaveNoRepresentative, IsCellSlot};
@@ -37,7 +38,7 @@ pub fn with_cells(
         AreMergedIn numbers.now aggs.now (entries_of slots.new) cells.now columns.now merged.items) }
     ensures refused { result ≡ Err Fault.BadLayout → HaveNoRepresentative numbers.now cells.now
         ⊎ (GroupsHaveRoomFor (entries_of slots.new) aggs.now cells.now columns.now → ⊥) }
-    ensures only { IfErr result (λ fault. (fault ≡ Fault.Memory) ⊎ (fault ≡ Fault.BadLayout)) }
+    ensures only { IfErr result EndsFolding }
     ensures cover { Cover (group_count numbers.now.dimensions numbers.now.query.columns) slots.new }
     ensures grow { Grow (group_count numbers.now.dimensions numbers.now.query.columns) (entries_of slots.old)
         (entries_of slots.new) }
@@ -68,7 +69,7 @@ pub fn merge_cells(
         → Grow (group_count numbers.now.dimensions numbers.now.query.columns) first (entries_of slots.old)
         → (slot : ℕ) → length (entries_of slots.new) ≤ slot
         → tallies_at columns.new slot ≡ tallies_at columns.old slot }
-    ensures only { IfErr result (λ fault. (fault ≡ Fault.Memory) ⊎ (fault ≡ Fault.BadLayout)) }
+    ensures only { IfErr result EndsFolding }
     ensures cover { Cover (group_count numbers.now.dimensions numbers.now.query.columns) slots.new }
     ensures grow { (first : List (ℕ × ℕ))
         → Grow (group_count numbers.now.dimensions numbers.now.query.columns) first (entries_of slots.old)
@@ -99,7 +100,7 @@ fn merge_one(
         → Grow (group_count numbers.now.dimensions numbers.now.query.columns) first (entries_of slots.old)
         → (slot : ℕ) → length (entries_of slots.new) ≤ slot
         → tallies_at columns.new slot ≡ tallies_at columns.old slot }
-    ensures only { IfErr result (λ fault. (fault ≡ Fault.Memory) ⊎ (fault ≡ Fault.BadLayout)) }
+    ensures only { IfErr result EndsFolding }
     ensures cover { Cover (group_count numbers.now.dimensions numbers.now.query.columns) slots.new }
     ensures keep { (number slot : ℕ) → slot_of (entries_of slots.old) number ≡ Some slot
         → slot_of (entries_of slots.new) number ≡ Some slot }
@@ -119,7 +120,7 @@ fn cell_slot_of(numbers: &CellNumbers, slots: &mut Slots, cell: &Cell) -> Result
     requires cover { Cover (group_count numbers.now.dimensions numbers.now.query.columns) slots.old }
     ensures group_slot { IfOk result (IsCellSlot numbers.now (entries_of slots.new) cell.now) }
     ensures refused { result ≡ Err Fault.BadLayout → HasNoRepresentative numbers.now cell.now }
-    ensures only { IfErr result (λ fault. (fault ≡ Fault.Memory) ⊎ (fault ≡ Fault.BadLayout)) }
+    ensures only { IfErr result EndsFolding }
     ensures cover { Cover (group_count numbers.now.dimensions numbers.now.query.columns) slots.new }
     ensures keep { (number slot : ℕ) → slot_of (entries_of slots.old) number ≡ Some slot
         → slot_of (entries_of slots.new) number ≡ Some slot }

@@ -1,5 +1,5 @@
 //! The rows of a batch that lie within bounds.
-ghost use Rattle.std.specs.Prelude.{◌≡◌, ◌<◌, ◌^◌, List, length, IfErr, IfOk};
+ghost use Rattle.std.specs.Prelude.{◌≡◌, ◌<◌, ◌^◌, List, length, IfOk, IsOkUnless};
 ghost use Rattle.std.specs.List.{range_with_len};
 ghost use Rattle.cube_model.specs.declared.fault.Fault.{Fault};
 ghost use Rattle.cube_model.specs.declared.query.Cond.{Cond};
@@ -45,7 +45,7 @@ impl<'a> ChosenRows<'a> {
     ) -> Result<ChosenRows<'a>, Fault>
         ensures ok { IfOk result
             (λ chosen. KeepSelected grouping.now.dimensions grouping.now.query.conditions chosen batch.entry) }
-        ensures memory { IfErr result (λ fault. fault ≡ Fault.Memory) }
+        ensures memory { IsOkUnless result Fault.Memory }
     {
         let chosen = ChosenRows::bounded(alloc, batch, grouping.bounds())?;
         let chosen = chosen.without(grouping, Axis::Supplier);
@@ -63,7 +63,7 @@ impl<'a> ChosenRows<'a> {
         ensures ok { IfOk result (λ chosen. (dimensions : DimRows) (conditions : List Cond)
             → AreBounds conditions bounds
             → KeepSelected dimensions conditions chosen batch.entry) }
-        ensures memory { IfErr result (λ fault. fault ≡ Fault.Memory) }
+        ensures memory { IsOkUnless result Fault.Memory }
     {
         if are_open(bounds) {
             return ChosenRows::all(alloc, batch);
@@ -74,7 +74,7 @@ impl<'a> ChosenRows<'a> {
     // All rows of a batch.
     fn all(alloc: Global, batch: FactColumns<'a>) -> Result<ChosenRows<'a>, Fault>
         ensures ok { IfOk result (λ chosen. chosen ≡ batch.entry) }
-        ensures memory { IfErr result (λ fault. fault ≡ Fault.Memory) }
+        ensures memory { IsOkUnless result Fault.Memory }
     {
         let places = all_places(alloc, batch.len())?;
         Ok(ChosenRows {
@@ -92,7 +92,7 @@ impl<'a> ChosenRows<'a> {
         ensures ok { IfOk result (λ chosen. (dimensions : DimRows) (conditions : List Cond)
             → AreBounds conditions bounds
             → KeepSelected dimensions conditions chosen batch.entry) }
-        ensures memory { IfErr result (λ fault. fault ≡ Fault.Memory) }
+        ensures memory { IsOkUnless result Fault.Memory }
     {
         let quantity = (bounds.least_quantity, bounds.greatest_quantity);
         let discount = (bounds.least_discount, bounds.greatest_discount);

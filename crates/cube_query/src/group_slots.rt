@@ -1,6 +1,7 @@
 //! The slots of the groups of fact rows.
-ghost use Rattle.std.specs.Prelude.{◌≡◌, ◌⊎◌, ◌<◌, ℕ, List, length, Some, Err, IfOk, IfErr};
+ghost use Rattle.std.specs.Prelude.{◌≡◌, ◌<◌, ℕ, List, length, Some, Err, IfOk, IfErr};
 ghost use Rattle.std.specs.List.{All};
+ghost use Rattle.group_tallies.specs.Limits.{EndsFolding};
 ghost use Rattle.group_numbers.specs.Numbers.{group_count};
 ghost use Rattle.group_numbers.specs.Parts.{IsKnownFor};
 ghost use Rattle.group_numbers.specs.Rows.{row_at};
@@ -25,7 +26,7 @@ fn group_slot_of<F: FactRows>(
         (entries_of slots.new) (row_at (F.rows rows.now) place) group_slot) }
     ensures refused { result ≡ Err Fault.BadLayout
         → IsKnownFor grouping.now.dimensions grouping.now.query (row_at (F.rows rows.now) place) → ⊥ }
-    ensures only { IfErr result (λ fault. (fault ≡ Fault.Memory) ⊎ (fault ≡ Fault.BadLayout)) }
+    ensures only { IfErr result EndsFolding }
     ensures cover { Cover (group_count grouping.now.dimensions grouping.now.query.columns) slots.new }
     ensures keep { (number slot : ℕ) → slot_of (entries_of slots.old) number ≡ Some slot
         → slot_of (entries_of slots.new) number ≡ Some slot }
@@ -60,7 +61,7 @@ pub fn group_slots_of<F: FactRows>(
         group_slots.items) }
     ensures refused { result ≡ Err Fault.BadLayout
         → All (IsKnownFor grouping.now.dimensions grouping.now.query) (F.rows rows.now) → ⊥ }
-    ensures only { IfErr result (λ fault. (fault ≡ Fault.Memory) ⊎ (fault ≡ Fault.BadLayout)) }
+    ensures only { IfErr result EndsFolding }
     ensures cover { Cover (group_count grouping.now.dimensions grouping.now.query.columns) slots.new }
     ensures grow { Grow (group_count grouping.now.dimensions grouping.now.query.columns) (entries_of slots.old)
         (entries_of slots.new) }

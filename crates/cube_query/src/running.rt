@@ -1,8 +1,9 @@
 //! A fold over fact rows that come in any number of calls.
-ghost use Rattle.std.specs.Prelude.{◌≡◌, ◌⊎◌, ◌≤◌, ◌<◌, ℕ, List, true, length, map, Some, Err, IfOk};
+ghost use Rattle.std.specs.Prelude.{◌≡◌, ◌⊎◌, ◌≤◌, ◌<◌, ℕ, List, true, length, map, Some, Err, IfOk, IsOkUnless};
 ghost use Rattle.std.specs.Prelude.{IfErr, IsErrOf, OnOk, OnErr};
 ghost use Rattle.std.specs.List.{All, AllByRecursion};
 ghost use Rattle.std.specs.Option.{option_map};
+ghost use Rattle.group_tallies.specs.Limits.{EndsFolding};
 ghost use Rattle.cube_model.specs.Answers.{answer};
 ghost use Rattle.cube_model.specs.Selection.{is_selected};
 ghost use Rattle.cube_model.specs.declared.rows.LineOrder.{LineOrder};
@@ -112,7 +113,7 @@ impl Fold {
     /// The columns of fact rows at which its query looks, in the order of their places.
     pub fn asked_columns(&self) -> Result<Vec<FactColumn>, Fault>
         ensures ok { IfOk result (λ columns. columns.items ≡ asked_columns self.now.query) }
-        ensures memory { IfErr result (λ fault. fault ≡ Fault.Memory) }
+        ensures memory { IsOkUnless result Fault.Memory }
     {
         Ok(asked_columns(self.alloc, self.grouping.query())?)
     }
@@ -215,8 +216,7 @@ impl Fold {
             → RepresentRows dims.now (modes_of (option_map (λ modes. modes.now) modes.entry)) rows
             (cells_of run.old.head.view cells)
             → CanTake dims.now self.old rows → ⊥ }
-        ensures run { ReadsSourceOr S.Source (λ fault. (fault ≡ Fault.Memory) ⊎ (fault ≡ Fault.BadLayout)) source.old
-            source.new result }
+        ensures run { ReadsSourceOr S.Source EndsFolding source.old source.new result }
     {
         let slots = &mut self.slots;
         let columns = self.columns.as_mut_slice();
@@ -241,7 +241,7 @@ impl Fold {
         ensures refused { result ≡ Err Fault.BadLayout → (rows : List LineOrder)
             → AreSame (is_asked self.old.query) batch.entry rows
             → CanTake dims.now self.old rows → ⊥ }
-        ensures only { IfErr result (λ fault. (fault ≡ Fault.Memory) ⊎ (fault ≡ Fault.BadLayout)) }
+        ensures only { IfErr result EndsFolding }
     {
         if has_one_group(self.grouping.query()) {
             return self.add_whole(dims, &batch);
@@ -263,7 +263,7 @@ impl Fold {
         ensures refused { result ≡ Err Fault.BadLayout → (rows : List LineOrder)
             → AreSame (is_asked self.old.query) batch.now rows
             → CanTake dims.now self.old rows → ⊥ }
-        ensures only { IfErr result (λ fault. (fault ≡ Fault.Memory) ⊎ (fault ≡ Fault.BadLayout)) }
+        ensures only { IfErr result EndsFolding }
     {
         let mask = selected_rows(self.alloc, &self.grouping.over(dims), batch)?;
         self.add_masked(dims, batch, &mask)
@@ -280,7 +280,7 @@ impl Fold {
         ensures refused { result ≡ Err Fault.BadLayout → (rows : List LineOrder)
             → AreSame (is_asked self.old.query) batch.now rows
             → CanTake dims.now self.old rows → ⊥ }
-        ensures only { IfErr result (λ fault. (fault ≡ Fault.Memory) ⊎ (fault ≡ Fault.BadLayout)) }
+        ensures only { IfErr result EndsFolding }
     {
         if mask.count() == 0 {
             return Ok(());
@@ -310,7 +310,7 @@ impl Fold {
         ensures refused { result ≡ Err Fault.BadLayout → (others : List LineOrder)
             → AreSame (is_asked self.old.query) (F.rows rows.now) others
             → CanTake dims.now self.old others → ⊥ }
-        ensures only { IfErr result (λ fault. (fault ≡ Fault.Memory) ⊎ (fault ≡ Fault.BadLayout)) }
+        ensures only { IfErr result EndsFolding }
     {
         let columns = &mut self.columns;
         let slots = &mut self.slots;
@@ -334,7 +334,7 @@ impl Fold {
         ensures answer { IfOk result (λ found. (rows : List LineOrder) → RepresentsRows dims.now self.now rows
             → found ≡ answer self.now.query dims.now rows) }
         ensures refused { result ≡ Err Fault.BadLayout → IsFoldable dims.now self.now → ⊥ }
-        ensures only { IfErr result (λ fault. (fault ≡ Fault.Memory) ⊎ (fault ≡ Fault.BadLayout)) }
+        ensures only { IfErr result EndsFolding }
     {
         let grouping = self.grouping.over(dims);
         let query = self.grouping.query();
@@ -356,7 +356,7 @@ impl Fold {
         ensures answer { IfOk result (λ groups. (rows : List LineOrder) → RepresentsRows dims.now self rows
             → answer_over dims.now groups ≡ answer self.query dims.now rows) }
         ensures refused { result ≡ Err Fault.BadLayout → IsFoldable dims.now self → ⊥ }
-        ensures only { IfErr result (λ fault. (fault ≡ Fault.Memory) ⊎ (fault ≡ Fault.BadLayout)) }
+        ensures only { IfErr result EndsFolding }
     {
         let Fold {
             alloc,
@@ -385,7 +385,7 @@ fn ready<F: FactRows>(
         AreGroupSlots dims.now (query_of grouping.now) (entries_of slots.new) (F.rows rows.now) group_slots.items) }
     ensures refused { result ≡ Err Fault.BadLayout → All (IsKnownFor dims.now (query_of grouping.now)) (F.rows rows.now)
         → ⊥ }
-    ensures only { IfErr result (λ fault. (fault ≡ Fault.Memory) ⊎ (fault ≡ Fault.BadLayout)) }
+    ensures only { IfErr result EndsFolding }
     ensures long { OnOk result (AllByRecursion (λ column. length (entries_of slots.new) ≤ length column.items)
         columns.new.items) }
     ensures same { (slot : ℕ) → tallies_at columns.new.items slot ≡ tallies_at columns.old.items slot }
@@ -421,7 +421,7 @@ fn columns_with_cells(
         → RepresentRows dims.now (modes_of (option_map (λ modes. modes.now) modes.entry)) rows cells.now
         → All (IsKnown dims.now) rows
         → GroupsHaveRoomFor (entries_of slots.new) (query_of grouping.now).aggregates cells.now.cells columns.now → ⊥ }
-    ensures only { IfErr result (λ fault. (fault ≡ Fault.Memory) ⊎ (fault ≡ Fault.BadLayout)) }
+    ensures only { IfErr result EndsFolding }
     ensures cover { Cover (group_count dims.now (query_of grouping.now).columns) slots.new }
     ensures grow { Grow (group_count dims.now (query_of grouping.now).columns) (entries_of slots.old)
         (entries_of slots.new) }
@@ -469,8 +469,7 @@ fn with_run<S: Source>(
     ensures cover { Cover (group_count dims.now (query_of grouping.now).columns) slots.new }
     ensures grow { Grow (group_count dims.now (query_of grouping.now).columns) (entries_of slots.old)
         (entries_of slots.new) }
-    ensures run { ReadsSourceOr S.Source (λ fault. (fault ≡ Fault.Memory) ⊎ (fault ≡ Fault.BadLayout)) source.old
-        source.new result }
+    ensures run { ReadsSourceOr S.Source EndsFolding source.old source.new result }
     ensures storable { AreStorable dims.now }
 {
     let view = run.head().view;

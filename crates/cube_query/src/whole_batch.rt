@@ -1,6 +1,6 @@
 //! The selected rows of a batch, merged into the one group of a query by a mask and sums over columns.
 ghost use Rattle.std.specs.Prelude.{◌≡◌, ◌⊎◌, ◌<◌, ◌^◌, ℕ, true, count_by, length, map, nat_abs, slice_set, FitsSigned};
-ghost use Rattle.std.specs.Prelude.{IfErr, IfOk, OnErr, OnOk};
+ghost use Rattle.std.specs.Prelude.{IfErr, IfOk, OnErr, OnOk, IsOkUnless};
 ghost use Rattle.std.specs.Int.{w64};
 ghost use Rattle.std.specs.List.{AllByRecursion, list_all, sum_by};
 ghost use Rattle.cube_model.specs.declared.fault.Fault.{Fault};
@@ -53,7 +53,7 @@ pub fn selected_rows(
     requires { list_all is_on_row grouping.now.query.conditions ≡ true }
     ensures ok { IfOk result
         (λ mask. mask ≡ map (is_selected grouping.now.dimensions grouping.now.query.conditions) batch.now) }
-    ensures memory { IfErr result (λ fault. fault ≡ Fault.Memory) }
+    ensures memory { IsOkUnless result Fault.Memory }
 {
     let limits = grouping.bounds();
     let quantity = (limits.least_quantity, limits.greatest_quantity);

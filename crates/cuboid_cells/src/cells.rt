@@ -1,5 +1,5 @@
 //! The cells of a view.
-ghost use Rattle.std.specs.Prelude.{◌≡◌, ◌⊎◌, ◌<◌, [], IfErr, IfOk, OnErr, OnOk};
+ghost use Rattle.std.specs.Prelude.{◌≡◌, ◌⊎◌, ◌<◌, [], IfErr, IfOk, OnErr, OnOk, IsOkUnless};
 ghost use Rattle.cube_model.specs.declared.fault.Fault.{Fault};
 ghost use Rattle.cuboid_cells.specs.Cells.{AreProperCells, PlainCells};
 ghost use Rattle.cuboid_cells.specs.Merges.{IsMergeFault, IsMergeOf};
@@ -93,7 +93,7 @@ impl Cells {
     pub fn encode(&self, alloc: Global, span: Span) -> Result<Vec<u8>, Fault>
         requires some { span.from < span.to }
         ensures ok { IfOk result (λ bytes. IsRun bytes.items span self.now) }
-        ensures memory { IfErr result (λ fault. fault ≡ Fault.Memory) }
+        ensures memory { IsOkUnless result Fault.Memory }
     {
         let (modes, count) = (self.view.ship_mode, self.cells.len());
         let mut out = Vec::with_capacity(alloc, 20 + bytes_of_cell(modes) * count)?;

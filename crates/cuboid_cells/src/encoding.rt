@@ -1,5 +1,5 @@
 //! Spelling cells.
-ghost use Rattle.std.specs.Prelude.{◌≡◌, ◌+◌, ◌++◌, IfErr, OnOk};
+ghost use Rattle.std.specs.Prelude.{◌≡◌, ◌+◌, ◌++◌, OnOk, IsOkUnless};
 ghost use Rattle.std.specs.List.{flat_map};
 ghost use Rattle.cube_model.specs.declared.fault.Fault.{Fault};
 ghost use Rattle.cuboid_cells.specs.Spelled.{cell_bytes, cell_of, run_header, key_codes, mode_bytes, mode_of, name_of};
@@ -52,7 +52,7 @@ pub(crate) fn push_header(
 ) -> Result<(), Fault>
     ensures ok { OnOk result
         (out.new.items ≡ out.old.items ++ run_header (name_of ship_modes) view span.from span.to cells) }
-    ensures memory { IfErr result (λ fault. fault ≡ Fault.Memory) }
+    ensures memory { IsOkUnless result Fault.Memory }
 {
     push_bytes(out, name(ship_modes))?;
     push_u32(out, view)?;
@@ -64,7 +64,7 @@ pub(crate) fn push_header(
 // Adds cells.
 pub(crate) fn push_cells(out: &mut Vec<u8>, ship_modes: bool, cells: &[Cell]) -> Result<(), Fault>
     ensures ok { OnOk result (out.new.items ≡ out.old.items ++ flat_map (cell_of ship_modes) cells.now) }
-    ensures memory { IfErr result (λ fault. fault ≡ Fault.Memory) }
+    ensures memory { IsOkUnless result Fault.Memory }
 {
     for cell in cells {
         push_cell(out, ship_modes, cell)?;
@@ -74,7 +74,7 @@ pub(crate) fn push_cells(out: &mut Vec<u8>, ship_modes: bool, cells: &[Cell]) ->
 
 fn push_cell(out: &mut Vec<u8>, ship_modes: bool, cell: &Cell) -> Result<(), Fault>
     ensures ok { OnOk result (out.new.items ≡ out.old.items ++ cell_of ship_modes cell.now) }
-    ensures memory { IfErr result (λ fault. fault ≡ Fault.Memory) }
+    ensures memory { IsOkUnless result Fault.Memory }
 {
     push_key(out, ship_modes, cell.key)?;
     push_u64(out, cell.count)?;
@@ -83,7 +83,7 @@ fn push_cell(out: &mut Vec<u8>, ship_modes: bool, cell: &Cell) -> Result<(), Fau
 
 fn push_key(out: &mut Vec<u8>, ship_modes: bool, key: Key) -> Result<(), Fault>
     ensures ok { OnOk result (out.new.items ≡ out.old.items ++ key_codes ship_modes key) }
-    ensures memory { IfErr result (λ fault. fault ≡ Fault.Memory) }
+    ensures memory { IsOkUnless result Fault.Memory }
 {
     push_u16(out, key.customer)?;
     push_u16(out, key.supplier)?;
@@ -95,7 +95,7 @@ fn push_key(out: &mut Vec<u8>, ship_modes: bool, key: Key) -> Result<(), Fault>
 // Adds a fifth code, if there is one.
 fn push_mode(out: &mut Vec<u8>, ship_modes: bool, code: u16) -> Result<(), Fault>
     ensures ok { OnOk result (out.new.items ≡ out.old.items ++ mode_of ship_modes code) }
-    ensures memory { IfErr result (λ fault. fault ≡ Fault.Memory) }
+    ensures memory { IsOkUnless result Fault.Memory }
 {
     match ship_modes {
         false => Ok(()),
@@ -105,7 +105,7 @@ fn push_mode(out: &mut Vec<u8>, ship_modes: bool, code: u16) -> Result<(), Fault
 
 fn push_summaries(out: &mut Vec<u8>, measures: &Summaries) -> Result<(), Fault>
     ensures ok { OnOk result (out.new.items ≡ out.old.items ++ summaries_of measures.now) }
-    ensures memory { IfErr result (λ fault. fault ≡ Fault.Memory) }
+    ensures memory { IsOkUnless result Fault.Memory }
 {
     push_summary(out, measures.quantity)?;
     push_summary(out, measures.extendedprice)?;
@@ -117,7 +117,7 @@ fn push_summaries(out: &mut Vec<u8>, measures: &Summaries) -> Result<(), Fault>
 
 fn push_summary(out: &mut Vec<u8>, summary: Summary) -> Result<(), Fault>
     ensures ok { OnOk result (out.new.items ≡ out.old.items ++ summary_of summary) }
-    ensures memory { IfErr result (λ fault. fault ≡ Fault.Memory) }
+    ensures memory { IsOkUnless result Fault.Memory }
 {
     push_i64(out, summary.sum)?;
     push_i64(out, summary.least)?;

@@ -1,6 +1,7 @@
 //! Reading a run piece by piece.
 ghost use Rattle.std.specs.Prelude.{◌≡◌, ◌⊎◌, ◌↔◌, ◌<◌, ◌≤◌, ℕ, List, Option, Some, length, IfErr, IfOk, IsErrOf};
 ghost use Rattle.std.specs.Prelude.{IsTrue, OnOk};
+ghost use Rattle.cube_model.specs.Causes.{EndsDecoding};
 ghost use Rattle.cube_model.specs.declared.fault.Fault.{Fault};
 ghost use Rattle.wire.specs.Runs.{ReadsSource, ReadsSourceOr};
 ghost use Rattle.cuboid_cells.specs.Pieces.{AreCellsFrom, AreLeft, IsAtFirst, ReadsOn, least_after, size_of_run};
@@ -65,8 +66,7 @@ impl RunReader {
         ensures ok { IfOk result (λ run. S.keeps_word source.new → IsAtFirst (S.texts source.old id) run) }
         ensures refused { IsErrOf result Fault.BadLayout → S.keeps_word source.new
             → HoldsNoRun (S.texts source.old id) }
-        ensures run { ReadsSourceOr S.Source (λ fault. (fault ≡ Fault.Memory) ⊎ (fault ≡ Fault.BadLayout)) source.old
-            source.new result }
+        ensures run { ReadsSourceOr S.Source EndsDecoding source.old source.new result }
     {
         let Some(total) = source.total(id) else {
             return Err(Fault::BadLayout);
@@ -124,8 +124,7 @@ impl RunReader {
             → ReadsOn (S.texts source.old self.old.id) left self.new cells.new.items) }
         ensures refused { IsErrOf result Fault.BadLayout → S.keeps_word source.new → (left : List Cell)
             → AreLeft (S.texts source.old self.old.id) self.old left → ⊥ }
-        ensures run { ReadsSourceOr S.Source (λ fault. (fault ≡ Fault.Memory) ⊎ (fault ≡ Fault.BadLayout)) source.old
-            source.new result }
+        ensures run { ReadsSourceOr S.Source EndsDecoding source.old source.new result }
     {
         self.read_ahead(source)?;
         self.take_piece(cells)

@@ -1,5 +1,5 @@
 //! Reading the parts of a run from the front of bytes.
-ghost use Rattle.std.specs.Prelude.{◌≡◌, ◌+◌, ◌*◌, ◌≤◌, ◌<◌, ◌↔◌, length, IfErr, IfNone, IfOk, IfSome, IsErr};
+ghost use Rattle.std.specs.Prelude.{◌≡◌, ◌+◌, ◌*◌, ◌≤◌, ◌<◌, ◌↔◌, length, IfNone, IfOk, IfSome, IsErr};
 ghost use Rattle.std.specs.Prelude.{IsOkUnless, IsTrue, OnOk};
 ghost use Rattle.cuboid_cells.specs.Cells.{FollowRules};
 ghost use Rattle.cube_model.specs.declared.fault.Fault.{Fault};
@@ -85,7 +85,7 @@ pub(crate) fn read_cells(
     requires { cell_bytes view.ship_mode * count ≤ length cursor.old }
     ensures ok { IfOk result (λ read. ReadsCells view.ship_mode count cursor.old cursor.new read.0.items) }
     ensures rules { IfOk result (λ read. IsTrue read.1 ↔ FollowRules view read.0.items) }
-    ensures memory { IfErr result (λ fault. fault ≡ Fault.Memory) }
+    ensures memory { IsOkUnless result Fault.Memory }
 {
     let mut cells = Vec::with_capacity(alloc, count)?;
     match read_on(cursor, view, 0, count, &mut cells)? {
@@ -111,7 +111,7 @@ pub(crate) fn read_on(
         (λ found. IfSome found
         (λ next. AreCellsFrom view least cells.new.items × (next ≡ least_after least cells.new.items))) }
     ensures none { IfOk result (λ found. IfNone found (AreCellsFrom view least cells.new.items → ⊥)) }
-    ensures memory { IfErr result (λ fault. fault ≡ Fault.Memory) }
+    ensures memory { IsOkUnless result Fault.Memory }
 {
     cells.clear();
     let mut fine = true;

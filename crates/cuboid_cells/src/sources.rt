@@ -1,5 +1,6 @@
 //! Reading a run from a source.
 ghost use Rattle.std.specs.Prelude.{◌≡◌, ◌⊎◌, option_map, IfErr, IfOk, IsErrOf, IsSomeAnd};
+ghost use Rattle.cube_model.specs.Causes.{EndsDecoding};
 ghost use Rattle.cube_model.specs.declared.fault.Fault.{Fault};
 ghost use Rattle.wire.specs.Runs.{ReadsSourceOr};
 ghost use Rattle.cuboid_cells.specs.Spelled.{HoldsNoRun, IsRun};
@@ -22,8 +23,7 @@ pub fn decode_from<S: Source>(
     ensures ok { IfOk result (λ run. S.keeps_word source.new
         → IsSomeAnd (S.texts source.old id) (λ bytes. IsRun bytes run.0 run.1)) }
     ensures refused { IsErrOf result Fault.BadLayout → S.keeps_word source.new → HoldsNoRun (S.texts source.old id) }
-    ensures run { ReadsSourceOr S.Source (λ fault. (fault ≡ Fault.Memory) ⊎ (fault ≡ Fault.BadLayout)) source.old
-        source.new result }
+    ensures run { ReadsSourceOr S.Source EndsDecoding source.old source.new result }
 {
     let found = read_whole(alloc, source, id)?;
     decode_found(alloc, found)

@@ -1,5 +1,5 @@
 //! The cells of a view that grow with the fact rows.
-ghost use Rattle.std.specs.Prelude.{◌≡◌, ◌≤◌, ◌++◌, [], List, IfErr, IfOk, OnOk, length};
+ghost use Rattle.std.specs.Prelude.{◌≡◌, ◌≤◌, ◌++◌, [], List, IfErr, IfOk, OnOk, length, IsOkUnless};
 ghost use Rattle.std.specs.Option.{option_map};
 ghost use Rattle.cube_model.specs.declared.fault.Fault.{Fault};
 ghost use Rattle.cube_model.specs.declared.rows.DimRows.{DimRows};
@@ -36,7 +36,7 @@ impl GrowingCells {
     pub fn new(alloc: Global, dims: &Dims, view: View) -> Result<GrowingCells, Fault>
         ensures over { IfOk result (GrowOver dims.now) }
         ensures none { IfOk result (λ cells. grown cells ≡ record { view = view; cells = [] }) }
-        ensures memory { IfErr result (λ fault. fault ≡ Fault.Memory) }
+        ensures memory { IsOkUnless result Fault.Memory }
     {
         let members = ViewMembers::of(alloc, dims, view)?;
         if view.ship_mode {
@@ -90,7 +90,7 @@ impl GrowingCells {
     pub fn finish(self, alloc: Global) -> Result<Cells, Fault>
         requires { (dimensions : DimRows) × GrowOver dimensions self }
         ensures ok { IfOk result (λ cells. cells ≡ grown self) }
-        ensures memory { IfErr result (λ fault. fault ≡ Fault.Memory) }
+        ensures memory { IsOkUnless result Fault.Memory }
     {
         match self {
             GrowingCells::ByNumber(table) => Ok(table.finish(alloc)?),

@@ -52,7 +52,7 @@ impl Dictionary {
     /// The same texts again, with the same codes and the same limit. It can only fail when out of memory.
     pub fn copied(&self, alloc: Global) -> Result<Dictionary, Fault>
         ensures ok { IfOk result (λ copy. copy ≡ self.now) }
-        ensures memory { IfErr result (λ fault. fault ≡ Fault.Memory) }
+        ensures memory { IsOkUnless result Fault.Memory }
     {
         let mut copy = Dictionary::new(alloc, self.limit);
         copy.add_each(alloc, self.texts.as_slice())?;
@@ -99,7 +99,7 @@ impl Dictionary {
         ensures within { IfOk result (λ code. IfSome code (λ c. c < self.old.limit)) }
         ensures few { length self.new.texts ≤ self.new.limit }
         ensures err { OnErr result (self.new ≡ self.old) }
-        ensures memory { IfErr result (λ fault. fault ≡ Fault.Memory) }
+        ensures memory { IsOkUnless result Fault.Memory }
     {
         let guess = self.memo.guess(text);
         if self.has_text_at(text, guess) {
@@ -115,7 +115,7 @@ impl Dictionary {
         ensures within { IfOk result (λ code. IfSome code (λ c. c < self.old.limit)) }
         ensures few { length self.new.texts ≤ self.new.limit }
         ensures err { OnErr result (self.new ≡ self.old) }
-        ensures memory { IfErr result (λ fault. fault ≡ Fault.Memory) }
+        ensures memory { IsOkUnless result Fault.Memory }
     {
         let code = self.add_unkept(alloc, text)?;
         if let Some(place) = code {
@@ -130,7 +130,7 @@ impl Dictionary {
         ensures within { IfOk result (λ code. IfSome code (λ c. c < self.old.limit)) }
         ensures few { length self.new.texts ≤ self.new.limit }
         ensures err { OnErr result (self.new ≡ self.old) }
-        ensures memory { IfErr result (λ fault. fault ≡ Fault.Memory) }
+        ensures memory { IsOkUnless result Fault.Memory }
     {
         if let Some(place) = self.texts.get_index_of(text) {
             return Ok(Some(place as u32));
@@ -151,7 +151,7 @@ impl Dictionary {
         requires few { length texts.now ≤ self.old.limit }
         ensures ok { OnOk result
             (self.new ≡ record { texts = map (λ text. text.items) texts.now; limit = self.old.limit }) }
-        ensures memory { IfErr result (λ fault. fault ≡ Fault.Memory) }
+        ensures memory { IsOkUnless result Fault.Memory }
     {
         for text in texts {
             self.add_unkept(alloc, text)?;

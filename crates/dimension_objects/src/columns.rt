@@ -1,5 +1,5 @@
 //! The columns of a dimension, while they are read.
-ghost use Rattle.std.specs.Prelude.{◌≡◌, ◌<◌, length, IfSome, IfErr, IfOk};
+ghost use Rattle.std.specs.Prelude.{◌≡◌, ◌<◌, length, IfSome, IfOk, IsOkUnless};
 ghost use Rattle.cube_model.specs.declared.fault.Fault.{Fault};
 ghost use Rattle.dimensions.specs.Shapes.{lowers_of, lower_of};
 ghost use Rattle.dimensions.specs.Coded.{ColumnsHaveTexts};
@@ -15,7 +15,7 @@ use std::alloc::Global;
 pub(crate) fn empty_columns(alloc: Global, axis: Axis) -> Result<Vec<CodedColumn>, Fault>
     ensures count { IfOk result (λ columns. length columns.items ≡ length (lowers_of axis)) }
     ensures have { IfOk result (λ columns. ColumnsHaveTexts columns.items) }
-    ensures memory { IfErr result (λ fault. fault ≡ Fault.Memory) }
+    ensures memory { IsOkUnless result Fault.Memory }
 {
     let count = column_count(axis);
     let mut columns = Vec::with_capacity(alloc, count)?;

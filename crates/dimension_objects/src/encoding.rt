@@ -1,5 +1,5 @@
 //! Spelling a dimension.
-ghost use Rattle.std.specs.Prelude.{◌≡◌, ◌<◌, ◌++◌, length, IfErr, IfOk, OnOk};
+ghost use Rattle.std.specs.Prelude.{◌≡◌, ◌<◌, ◌++◌, length, IfOk, OnOk, IsOkUnless};
 ghost use Rattle.std.specs.List.{AllByRecursion};
 ghost use Rattle.cube_model.specs.declared.fault.Fault.{Fault};
 ghost use Rattle.dictionary.specs.Columns.{codes_spelling};
@@ -20,7 +20,7 @@ pub(crate) const NAME: &[u8] = b"DIM1";
 /// The bytes of a dimension. It can only fail when out of memory.
 pub fn encode(alloc: Global, dims: &Dims, axis: Axis) -> Result<Vec<u8>, Fault>
     ensures ok { IfOk result (λ bytes. bytes.items ≡ dimension_spelling axis (rows_on dims.now axis)) }
-    ensures memory { IfErr result (λ fault. fault ≡ Fault.Memory) }
+    ensures memory { IsOkUnless result Fault.Memory }
     ensures storable { AreStorable dims.now }
 {
     let mut out = Vec::new(alloc);
@@ -36,7 +36,7 @@ pub fn encode(alloc: Global, dims: &Dims, axis: Axis) -> Result<Vec<u8>, Fault>
 // Adds what is before the columns.
 fn push_header(out: &mut Vec<u8>, axis: Axis, rows: u32) -> Result<(), Fault>
     ensures ok { OnOk result (out.new.items ≡ out.old.items ++ dimension_header axis rows) }
-    ensures memory { IfErr result (λ fault. fault ≡ Fault.Memory) }
+    ensures memory { IsOkUnless result Fault.Memory }
 {
     push_bytes(out, NAME)?;
     push_u32(out, axis_number(axis))?;
@@ -49,7 +49,7 @@ fn push_texts(out: &mut Vec<u8>, dims: &Dims, axis: Axis, columns: &[usize]) -> 
     ensures ok { OnOk result
         (out.new.items ≡ out.old.items ++ texts_in_order (dimension_parts axis (rows_on dims.now axis)).texts
         columns.now) }
-    ensures memory { IfErr result (λ fault. fault ≡ Fault.Memory) }
+    ensures memory { IsOkUnless result Fault.Memory }
 {
     for column in columns {
         dims.texts(axis, *column).push_to(out)?;
@@ -63,7 +63,7 @@ fn push_columns(out: &mut Vec<u8>, dims: &Dims, axis: Axis, columns: &[usize]) -
     ensures ok { OnOk result
         (out.new.items ≡ out.old.items ++ codes_in_order (dimension_parts axis (rows_on dims.now axis)).codes
         columns.now) }
-    ensures memory { IfErr result (λ fault. fault ≡ Fault.Memory) }
+    ensures memory { IsOkUnless result Fault.Memory }
 {
     for column in columns {
         push_codes(out, dims.codes(axis, *column))?;
@@ -74,7 +74,7 @@ fn push_columns(out: &mut Vec<u8>, dims: &Dims, axis: Axis, columns: &[usize]) -
 // Adds codes.
 fn push_codes(out: &mut Vec<u8>, codes: &[u16]) -> Result<(), Fault>
     ensures ok { OnOk result (out.new.items ≡ out.old.items ++ codes_spelling codes.now) }
-    ensures memory { IfErr result (λ fault. fault ≡ Fault.Memory) }
+    ensures memory { IsOkUnless result Fault.Memory }
 {
     out.reserve(2 * codes.len())?;
     for code in codes {
@@ -86,7 +86,7 @@ fn push_codes(out: &mut Vec<u8>, codes: &[u16]) -> Result<(), Fault>
 // Adds keys.
 fn push_keys(out: &mut Vec<u8>, keys: &[u32]) -> Result<(), Fault>
     ensures ok { OnOk result (out.new.items ≡ out.old.items ++ keys_spelling keys.now) }
-    ensures memory { IfErr result (λ fault. fault ≡ Fault.Memory) }
+    ensures memory { IsOkUnless result Fault.Memory }
 {
     out.reserve(4 * keys.len())?;
     for key in keys {

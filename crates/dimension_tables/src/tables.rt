@@ -1,5 +1,5 @@
 //! The tables of the dimensions while they are read. After a refusal they have the line that is refused.
-ghost use Rattle.std.specs.Prelude.{◌≡◌, Some, IfErr, IfNone, IfOk, IfSome};
+ghost use Rattle.std.specs.Prelude.{◌≡◌, Some, IfNone, IfOk, IfSome, IsOkUnless};
 ghost use Rattle.cube_model.specs.Validity.{HaveShortTexts};
 ghost use Rattle.dimension_tables.specs.Tables.{AreFresh, AreUnread, IsRefusedFor, KeepLines};
 ghost use Rattle.dimension_tables.specs.Texts.{GivesUnlessFailed, TableTexts, tables_of};
@@ -62,7 +62,7 @@ impl<C: Read + Drop, S: Read + Drop, P: Read + Drop, D: Read + Drop> DimensionTa
             → S.remaining supplier ≡ Some texts.supplier
             → P.remaining part ≡ Some texts.part → D.remaining date ≡ Some texts.date → AreUnread tables texts) }
         ensures fresh { IfOk result AreFresh }
-        ensures err { IfErr result (λ fault. fault ≡ Fault.Memory) }
+        ensures err { IsOkUnless result Fault.Memory }
     {
         Ok(DimensionTables {
             customer: Lines::new(alloc, customer)?,

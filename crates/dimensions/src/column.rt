@@ -1,5 +1,5 @@
 //! A column of texts by codes.
-ghost use Rattle.std.specs.Prelude.{◌≡◌, ◌<◌, ◌≤◌, [], length, MatchOption, slice_index_or, IfOk, OnOk, IfErr};
+ghost use Rattle.std.specs.Prelude.{◌≡◌, ◌<◌, ◌≤◌, [], length, MatchOption, slice_index_or, IfOk, OnOk, IsOkUnless};
 ghost use Rattle.cube_model.specs.Limits.{most_members};
 
 use crate::coded::CodedColumn;
@@ -60,7 +60,7 @@ impl Column {
     ) -> Result<Column, Fault>
         requires { length coded.texts.texts ≤ most_members }
         ensures ok { IfOk result (λ column. column ≡ column_of_coded lower coded) }
-        ensures memory { IfErr result (λ fault. fault ≡ Fault.Memory) }
+        ensures memory { IsOkUnless result Fault.Memory }
     {
         let CodedColumn { texts, codes } = coded;
         let ranks = Ranks::of_dictionary(alloc, &texts)?;
@@ -75,7 +75,7 @@ impl Column {
     /// The same column again, with no ranks. It can only fail when out of memory.
     pub fn copied(&self, alloc: Global) -> Result<Column, Fault>
         ensures ok { IfOk result (λ copy. copy ≡ unranked self.now) }
-        ensures memory { IfErr result (λ fault. fault ≡ Fault.Memory) }
+        ensures memory { IsOkUnless result Fault.Memory }
     {
         let texts = self.texts.copied(alloc)?;
         let codes = Vec::from_slice(alloc, self.codes.uppers())?;
@@ -91,7 +91,7 @@ impl Column {
     pub fn rank_members(&mut self, alloc: Global) -> Result<(), Fault>
         requires { length self.old.texts.texts ≤ most_members }
         ensures ok { OnOk result (self.new ≡ ranked self.old) }
-        ensures memory { IfErr result (λ fault. fault ≡ Fault.Memory) }
+        ensures memory { IsOkUnless result Fault.Memory }
     {
         self.ranks = Ranks::of_dictionary(alloc, &self.texts)?;
         Ok(())
@@ -145,7 +145,7 @@ impl Column {
         requires limit { self.old.texts.limit ≡ most_members }
         requires code { HasCode self.old.texts text.now code }
         ensures ok { IfOk result (λ fits. Enters self.old place text.now code fits self.new) }
-        ensures memory { IfErr result (λ fault. fault ≡ Fault.Memory) }
+        ensures memory { IsOkUnless result Fault.Memory }
     {
         if usize::from(code) == self.texts.len() {
             self.texts.add(alloc, text)?;

@@ -1,6 +1,6 @@
 //! A dimension: its rows by codes, and the ranks of its members.
 ghost use Rattle.std.specs.Prelude.{◌≡◌, ◌≢◌, ◌≤◌, ◌<◌, ℕ, List, true, false, [], length, map, vec_len, slice_index_or};
-ghost use Rattle.std.specs.Prelude.{IfOk, OnOk, IfErr, IfSome};
+ghost use Rattle.std.specs.Prelude.{IfOk, OnOk, IfSome, IsOkUnless};
 ghost use Rattle.std.specs.Bool.{OnTrue, OnFalse};
 ghost use Rattle.cube_model.specs.Limits.{most_dimension_rows, most_members};
 ghost use Rattle.cube_model.specs.declared.attr.Axis.{Axis};
@@ -123,7 +123,7 @@ impl Dimension {
     // A dimension with no row.
     fn new(alloc: Global, axis: Axis) -> Result<Dimension, Fault>
         ensures ok { IfOk result (λ dimension. StoresRows axis [] dimension) }
-        ensures memory { IfErr result (λ fault. fault ≡ Fault.Memory) }
+        ensures memory { IsOkUnless result Fault.Memory }
     {
         let count = column_count(axis);
         let mut columns = Vec::with_capacity(alloc, count)?;
@@ -171,7 +171,7 @@ impl Dimension {
         ensures count { vec_len self.new.columns ≡ vec_len self.old.columns }
         ensures ok { OnOk result ((i : ℕ) → i < vec_len self.old.columns
             → column_at self.new i ≡ ranked (column_at self.old i)) }
-        ensures memory { IfErr result (λ fault. fault ≡ Fault.Memory) }
+        ensures memory { IsOkUnless result Fault.Memory }
     {
         for i in 0..self.columns.len() {
             self.columns[i].rank_members(alloc)?;
@@ -246,7 +246,7 @@ impl Dimension {
             (λ fits. OnFalse fits
             ((i : ℕ) × (i < vec_len self.old.columns)
             × ((new : Column) × EntersAt self.old (R.shown row.now) codes.now i false new))) }
-        ensures memory { IfErr result (λ fault. fault ≡ Fault.Memory) }
+        ensures memory { IsOkUnless result Fault.Memory }
     {
         for i in 0..self.columns.len() {
             if !self.enter_text(alloc, row, codes, i)? {
@@ -276,7 +276,7 @@ impl Dimension {
         ensures others { (other : ℕ) → other ≢ column → column_at self.new other ≡ column_at self.old other }
         ensures ok { IfOk result
             (λ fits. EntersAt self.old (R.shown row.now) codes.now column fits (column_at self.new column)) }
-        ensures memory { IfErr result (λ fault. fault ≡ Fault.Memory) }
+        ensures memory { IsOkUnless result Fault.Memory }
     {
         let place = place_in(self.columns[column].lower(), self.keys.len(), codes);
         self.columns[column].enter(alloc, place, row.text(column), codes[column])
@@ -287,7 +287,7 @@ impl Dimension {
 fn columns_of(alloc: Global, axis: Axis, coded: Vec<CodedColumn>) -> Result<Vec<Column>, Fault>
     requires { ColumnsHaveTexts coded.items }
     ensures ok { IfOk result (λ columns. columns.items ≡ columns_from axis 0 coded.items) }
-    ensures memory { IfErr result (λ fault. fault ≡ Fault.Memory) }
+    ensures memory { IsOkUnless result Fault.Memory }
 {
     let mut columns = Vec::with_capacity(alloc, coded.len())?;
     for column in coded {
@@ -300,7 +300,7 @@ fn columns_of(alloc: Global, axis: Axis, coded: Vec<CodedColumn>) -> Result<Vec<
 // The same columns again, with no ranks. It can only fail when out of memory.
 fn copied_columns(alloc: Global, columns: &[Column]) -> Result<Vec<Column>, Fault>
     ensures ok { IfOk result (λ copies. copies.items ≡ map unranked columns.now) }
-    ensures memory { IfErr result (λ fault. fault ≡ Fault.Memory) }
+    ensures memory { IsOkUnless result Fault.Memory }
 {
     let mut copies = Vec::with_capacity(alloc, columns.len())?;
     for column in columns {

@@ -1,6 +1,6 @@
 //! Keys and their row indexes.
 ghost use Rattle.std.specs.Prelude.{◌≡◌, ◌==◌, ◌<◌, ◌≤◌, ◌^◌, ◌++◌, ◌∷◌, ◌↔◌, ℕ, List, None, [], length, position};
-ghost use Rattle.std.specs.Prelude.{nat_eq, unwrap_or, MatchOption, IfSome, IfOk, OnOk, IfErr, OnErr, IsTrue};
+ghost use Rattle.std.specs.Prelude.{nat_eq, unwrap_or, MatchOption, IfSome, IfOk, OnOk, OnErr, IsTrue, IsOkUnless};
 ghost use Rattle.std.specs.HashMap.{get};
 ghost use Rattle.std.specs.List.{AllByRecursion, position_or_len};
 ghost use Rattle.cube_model.specs.Limits.{most_dimension_rows};
@@ -67,7 +67,7 @@ impl Keys {
             (λ found. MatchOption found (¬ KeysAreDistinct keys.items)
             (λ index. (index ≡ keys.items) × KeysAreDistinct keys.items)) }
         ensures fit { OnOk result (AllByRecursion (λ key. key < 2 ^ 32) keys.items) }
-        ensures memory { IfErr result (λ fault. fault ≡ Fault.Memory) }
+        ensures memory { IsOkUnless result Fault.Memory }
     {
         let lookup = Lookup::of(alloc, keys.as_slice())?;
         if !lookup.tells_apart(keys.as_slice()) {
@@ -79,7 +79,7 @@ impl Keys {
     /// The same keys again. It can only fail when out of memory.
     pub fn copied(&self, alloc: Global) -> Result<Keys, Fault>
         ensures ok { IfOk result (λ copy. copy ≡ self.now) }
-        ensures memory { IfErr result (λ fault. fault ≡ Fault.Memory) }
+        ensures memory { IsOkUnless result Fault.Memory }
     {
         let keys = Vec::from_slice(alloc, self.keys.as_slice())?;
         let lookup = self.lookup.copied(alloc)?;
@@ -114,7 +114,7 @@ impl Keys {
         requires new { position_or_len (λ other. other == key) self.old ≡ length self.old }
         requires few { length self.old < 4294967295 }
         ensures ok { OnOk result (self.new ≡ self.old ++ key ∷ []) }
-        ensures memory { IfErr result (λ fault. fault ≡ Fault.Memory) }
+        ensures memory { IsOkUnless result Fault.Memory }
     {
         let row = self.keys.len();
         self.keys.push(key)?;
@@ -131,7 +131,7 @@ impl Keys {
     /// can only fail when out of memory.
     pub fn densify(&mut self, alloc: Global) -> Result<(), Fault>
         ensures keys { self.new ≡ self.old }
-        ensures memory { IfErr result (λ fault. fault ≡ Fault.Memory) }
+        ensures memory { IsOkUnless result Fault.Memory }
     {
         if let Lookup::Hashed(_) = &self.lookup {
             if let Some(lookup) = Lookup::direct(alloc, self.keys.as_slice())? {

@@ -1,5 +1,6 @@
 //! The members among texts, in order by bytes, and the rank of each text.
-ghost use Rattle.std.specs.Prelude.{◌≡◌, ◌<◌, ◌≤◌, true, [], length, vec_len, slice_index_or, map, IfOk, IfErr, IsTrue};
+ghost use Rattle.std.specs.Prelude.{◌≡◌, ◌<◌, ◌≤◌, true, [], length, vec_len, slice_index_or, map, IfOk, IsTrue};
+ghost use Rattle.std.specs.Prelude.{IsOkUnless};
 ghost use Rattle.std.specs.Fmt.{decimal};
 ghost use Rattle.std.specs.List.{list_any};
 ghost use Rattle.std.specs.Str.{bytes_eq};
@@ -50,7 +51,7 @@ impl Ranks {
     pub fn of(alloc: Global, texts: Vec<Text>) -> Result<Ranks, Fault>
         requires { length texts.items ≤ most_members }
         ensures ok { IfOk result (λ ranks. ranks ≡ texts.items) }
-        ensures memory { IfErr result (λ fault. fault ≡ Fault.Memory) }
+        ensures memory { IsOkUnless result Fault.Memory }
     {
         if ascend(&texts) {
             let ranks = own_ranks(alloc, texts.as_slice())?;
@@ -66,7 +67,7 @@ impl Ranks {
     pub fn of_days(alloc: Global, keys: &[u32]) -> Result<Ranks, Fault>
         requires { length keys.now ≤ most_members }
         ensures ok { IfOk result (λ ranks. ranks ≡ map decimal keys.now) }
-        ensures memory { IfErr result (λ fault. fault ≡ Fault.Memory) }
+        ensures memory { IsOkUnless result Fault.Memory }
     {
         let texts = day_texts(alloc, keys)?;
         Ranks::of(alloc, texts)
@@ -76,7 +77,7 @@ impl Ranks {
     pub fn of_dictionary(alloc: Global, dictionary: &Dictionary) -> Result<Ranks, Fault>
         requires { length dictionary.now.texts ≤ most_members }
         ensures ok { IfOk result (λ ranks. ranks ≡ dictionary.now.texts) }
-        ensures memory { IfErr result (λ fault. fault ≡ Fault.Memory) }
+        ensures memory { IsOkUnless result Fault.Memory }
     {
         let texts = copied_texts(alloc, dictionary)?;
         Ranks::of(alloc, texts)

@@ -82,7 +82,7 @@ impl Free {
         requires in_range { IsInRange self.old.count extent }
         requires in_use { (sector : ℕ) → Holds extent sector → ¬ IsFree self.old sector }
         ensures ok { OnOk result (GivesBack self.old extent self.new) }
-        ensures memory { IfErr result (λ fault. fault ≡ Fault.Memory) }
+        ensures memory { IsOkUnless result Fault.Memory }
         ensures err { OnErr result (self.new ≡ self.old) }
     {
         let join = self.join_after(self.join_before(extent));
@@ -92,7 +92,7 @@ impl Free {
     /// The same free sectors, which do not change with these.
     pub fn copy(&self) -> Result<Free, Fault>
         ensures ok { IfOk result (λ copy. copy ≡ self.now) }
-        ensures memory { IfErr result (λ fault. fault ≡ Fault.Memory) }
+        ensures memory { IsOkUnless result Fault.Memory }
     {
         let runs = self.runs.clone()?;
         Ok(Free {

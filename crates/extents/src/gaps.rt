@@ -1,4 +1,4 @@
-ghost use Rattle.std.specs.Prelude.{◌≡◌, ◌+◌, ◌<◌, ◌⊎◌, ◌++◌, IfOk, IfErr, OnOk};
+ghost use Rattle.std.specs.Prelude.{◌≡◌, ◌+◌, ◌<◌, ◌⊎◌, ◌++◌, IfOk, IfErr, OnOk, IsOkUnless};
 ghost use Rattle.std.specs.List.Sorted.{IsNonDecreasingBy, IsPermutation};
 ghost use Rattle.cube_model.specs.declared.fault.Fault.{Fault};
 ghost use Rattle.extents.specs.Extents.{AreLaidOut};
@@ -12,7 +12,7 @@ use std::alloc::Global;
 pub(crate) fn sorted(alloc: Global, used: &[Extent]) -> Result<Vec<Extent>, Fault>
     ensures same { IfOk result (λ sorted. IsPermutation used.now sorted.items) }
     ensures order { IfOk result (λ sorted. IsNonDecreasingBy (λ extent. extent.first) sorted.items) }
-    ensures memory { IfErr result (λ fault. fault ≡ Fault.Memory) }
+    ensures memory { IsOkUnless result Fault.Memory }
 {
     let mut sorted = Vec::from_slice(alloc, used)?;
     sorted.sort_unstable_by_key(|extent| extent.first);
@@ -44,7 +44,7 @@ pub(crate) fn gaps(alloc: Global, count: u32, sorted: &[Extent]) -> Result<Vec<E
 // Adds the run from a sector up to another, if there is a sector between them.
 fn push_gap(runs: &mut Vec<Extent>, from: u32, to: u32) -> Result<(), Fault>
     ensures ok { OnOk result (runs.new.items ≡ runs.old.items ++ gap from to) }
-    ensures memory { IfErr result (λ fault. fault ≡ Fault.Memory) }
+    ensures memory { IsOkUnless result Fault.Memory }
 {
     if from < to {
         let run = Extent {

@@ -1,4 +1,4 @@
-ghost use Rattle.std.specs.Prelude.{◌≡◌, ℕ, ◌+◌, ◌<◌, ◌≤◌, length, vec_len, slice_index_or, IfErr, OnOk, OnErr};
+ghost use Rattle.std.specs.Prelude.{◌≡◌, ℕ, ◌+◌, ◌<◌, ◌≤◌, length, vec_len, slice_index_or, OnOk, OnErr, IsOkUnless};
 ghost use Rattle.std.specs.List.Sorted.{IsNonDecreasingBy};
 ghost use Rattle.cube_model.specs.declared.fault.Fault.{Fault};
 ghost use Rattle.extents.specs.declared.extent.Extent.{Extent};
@@ -34,7 +34,7 @@ pub(crate) fn put(runs: &mut Vec<Extent>, join: Join) -> Result<(), Fault>
     requires within { join.after ≤ vec_len runs.old }
     ensures ok { OnOk result (runs.new.items ≡ joined_runs runs.old.items join) }
     ensures err { OnErr result (runs.new.items ≡ runs.old.items) }
-    ensures memory { IfErr result (λ fault. fault ≡ Fault.Memory) }
+    ensures memory { IsOkUnless result Fault.Memory }
 {
     if join.place == join.after {
         runs.insert(join.place, join.joined)?;

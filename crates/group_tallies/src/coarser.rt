@@ -1,12 +1,12 @@
 //! Coarser groupings, made from finer ones: column by column, from the last to the first, each group is merged into the
 //! one that has ALL in that column.
-ghost use Rattle.std.specs.Prelude.{◌≡◌, ◌⊎◌, ℕ, ◌+◌, ◌≤◌, ◌<◌, List, length, Some, Err, OnErr, OnOk, IfErr, IfOk};
+ghost use Rattle.std.specs.Prelude.{◌≡◌, ℕ, ◌+◌, ◌≤◌, ◌<◌, List, length, Some, Err, OnErr, OnOk, IfErr, IfOk};
 ghost use Rattle.std.specs.List.{All};
+ghost use Rattle.group_tallies.specs.Limits.{AreFoldable, EndsFolding};
 ghost use Rattle.cube_model.specs.declared.rows.LineOrder.{LineOrder};
 ghost use Rattle.group_tallies.specs.Coarser.{leads, sources_of, AreTalliedFrom, AreTargets, CanCoarsen, FitMerged};
 ghost use Rattle.group_tallies.specs.Coarser.{IsTarget, MayMerge, MergesIn};
 ghost use Rattle.group_tallies.specs.Columns.{tallies_at};
-ghost use Rattle.group_tallies.specs.Limits.{AreFoldable};
 ghost use Rattle.group_tallies.specs.Slots.{entries_of, slot_of, AreSlots, Cover, Grow};
 ghost use Rattle.group_numbers.specs.Numbers.{group_count, group_key_at};
 
@@ -174,7 +174,7 @@ fn coarsen(
         → AreTalliedFrom grouping.now.dimensions grouping.now.query (column + 1) (entries_of slots.old)
         columns.old.items rows
         → AreFoldable grouping.now.dimensions rows → ⊥ }
-    ensures only { IfErr result (λ fault. (fault ≡ Fault.Memory) ⊎ (fault ≡ Fault.BadLayout)) }
+    ensures only { IfErr result EndsFolding }
 {
     let sources = sources_among(alloc, grouping, kind, column, columns.as_slice(), slots)?;
     let targets = targets_of(alloc, grouping, column, slots, sources.as_slice())?;
@@ -202,7 +202,7 @@ pub fn coarsen_all(
     ensures refused { result ≡ Err Fault.BadLayout → (rows : List LineOrder)
         → AreTalliedFrom grouping.now.dimensions grouping.now.query count (entries_of slots.old) columns.old.items rows
         → AreFoldable grouping.now.dimensions rows → ⊥ }
-    ensures only { IfErr result (λ fault. (fault ≡ Fault.Memory) ⊎ (fault ≡ Fault.BadLayout)) }
+    ensures only { IfErr result EndsFolding }
 {
     if count == 0 {
         return Ok(());

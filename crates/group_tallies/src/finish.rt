@@ -1,5 +1,6 @@
 //! The lines of an answer, made of the groups by all columns.
-ghost use Rattle.std.specs.Prelude.{◌≡◌, ◌⊎◌, List, length, Err, IfErr, IfOk, OnOk};
+ghost use Rattle.std.specs.Prelude.{◌≡◌, List, length, Err, IfErr, IfOk, OnOk, IsOkUnless};
+ghost use Rattle.group_tallies.specs.Limits.{AreFoldable, EndsFolding};
 ghost use Rattle.cube_model.specs.Answers.{answer};
 ghost use Rattle.cube_model.specs.declared.rows.LineOrder.{LineOrder};
 ghost use Rattle.cube_model.specs.Proper.{IsProper};
@@ -7,7 +8,6 @@ ghost use Rattle.group_tallies.specs.Coarser.{AreTalliedFrom, CanCoarsen};
 ghost use Rattle.group_tallies.specs.Columns.{seen_groups, tallies_at};
 ghost use Rattle.group_tallies.specs.GroupLines.{HaveLines, lines_by};
 ghost use Rattle.group_tallies.specs.Groups.{finest, groups_of};
-ghost use Rattle.group_tallies.specs.Limits.{AreFoldable};
 ghost use Rattle.group_tallies.specs.Slots.{entries_of, AreSlots};
 ghost use Rattle.group_numbers.specs.Numbers.{group_count, group_key_at};
 ghost use Rattle.group_tallies.specs.FoldInvariant.{AreTallied, IsFold};
@@ -37,7 +37,7 @@ fn coarser_lines(
     ensures refused { result ≡ Err Fault.BadLayout → (rows : List LineOrder)
         → AreTallied grouping.now.dimensions (finest grouping.now.query) (entries_of slots.now) columns.now rows
         → AreFoldable grouping.now.dimensions rows → ⊥ }
-    ensures only { IfErr result (λ fault. (fault ≡ Fault.Memory) ⊎ (fault ≡ Fault.BadLayout)) }
+    ensures only { IfErr result EndsFolding }
 {
     let mut slots = slots.copy()?;
     let mut columns = copy_columns(alloc, columns)?;
@@ -64,7 +64,7 @@ fn all_lines(
         (entries_of slots.old)
         columns.old.items rows
         → AreFoldable grouping.now.dimensions rows → ⊥ }
-    ensures only { IfErr result (λ fault. (fault ≡ Fault.Memory) ⊎ (fault ≡ Fault.BadLayout)) }
+    ensures only { IfErr result EndsFolding }
 {
     let groups = all_groups(alloc, grouping, query, slots, columns)?;
     let lines = lines_among(
@@ -101,7 +101,7 @@ fn all_groups(
         (entries_of slots.old)
         columns.old.items rows
         → AreFoldable grouping.now.dimensions rows → ⊥ }
-    ensures only { IfErr result (λ fault. (fault ≡ Fault.Memory) ⊎ (fault ≡ Fault.BadLayout)) }
+    ensures only { IfErr result EndsFolding }
 {
     let count = query.columns.len();
     coarsen_all(alloc, grouping, query.kind, count, slots, columns)?;
@@ -127,7 +127,7 @@ fn finest_lines(
         (entries_of slots.now)
         ≡ groups_of grouping.now.dimensions grouping.now.query rows
         → lines ≡ (answer grouping.now.query grouping.now.dimensions rows).lines) }
-    ensures only { IfErr result (λ fault. fault ≡ Fault.Memory) }
+    ensures only { IsOkUnless result Fault.Memory }
 {
     let groups = ordered_groups(alloc, grouping, query, columns, slots)?;
     let lines = lines_among(alloc, grouping, query, columns, groups.as_slice())?;
@@ -154,7 +154,7 @@ pub fn groups_of_kind(
     ensures refused { result ≡ Err Fault.BadLayout → (rows : List LineOrder)
         → AreTallied grouping.now.dimensions (finest grouping.now.query) (entries_of slots.old) columns.old.items rows
         → AreFoldable grouping.now.dimensions rows → ⊥ }
-    ensures only { IfErr result (λ fault. (fault ≡ Fault.Memory) ⊎ (fault ≡ Fault.BadLayout)) }
+    ensures only { IfErr result EndsFolding }
 {
     match query.kind {
         Kind::Plain => {
@@ -184,7 +184,7 @@ pub fn answer_lines(
     ensures refused { result ≡ Err Fault.BadLayout → (rows : List LineOrder)
         → AreTallied grouping.now.dimensions (finest grouping.now.query) (entries_of slots.now) columns.now rows
         → AreFoldable grouping.now.dimensions rows → ⊥ }
-    ensures only { IfErr result (λ fault. (fault ≡ Fault.Memory) ⊎ (fault ≡ Fault.BadLayout)) }
+    ensures only { IfErr result EndsFolding }
 {
     match query.kind {
         Kind::Plain => finest_lines(alloc, grouping, query, columns, slots),

@@ -1,12 +1,12 @@
 //! The groups of a fold that is done, and their lines, of which none is made.
-ghost use Rattle.std.specs.Prelude.{◌≡◌, ◌⊎◌, ◌<◌, pos, Err, List, length, slice_index_or, IfErr, IfNone, IfOk, IfSome};
+ghost use Rattle.std.specs.Prelude.{◌≡◌, ◌<◌, pos, Err, List, length, slice_index_or, IfErr, IfNone, IfOk, IfSome};
+ghost use Rattle.group_tallies.specs.Limits.{AreFoldable, EndsFolding};
 ghost use Rattle.cube_model.specs.Answers.{answer};
 ghost use Rattle.cube_model.specs.declared.answer.Member.TheVariants.{All, Text};
 ghost use Rattle.cube_model.specs.declared.answer.Value.TheVariants.{Whole};
 ghost use Rattle.cube_model.specs.declared.rows.LineOrder.{LineOrder};
 ghost use Rattle.group_tallies.specs.FoldInvariant.{AreTallied, IsFold};
 ghost use Rattle.group_tallies.specs.Groups.{finest};
-ghost use Rattle.group_tallies.specs.Limits.{AreFoldable};
 ghost use Rattle.group_tallies.specs.Slots.{entries_of};
 ghost use Rattle.group_numbers.specs.GroupNumbers.{IsGroupNumbersOver, query_of};
 
@@ -63,7 +63,7 @@ impl Groups {
         ensures refused { result ≡ Err Fault.BadLayout → (rows : List LineOrder)
             → AreTallied dims.now (finest (query_of grouping)) (entries_of slots) columns.items rows
             → AreFoldable dims.now rows → ⊥ }
-        ensures only { IfErr result (λ fault. (fault ≡ Fault.Memory) ⊎ (fault ≡ Fault.BadLayout)) }
+        ensures only { IfErr result EndsFolding }
     {
         let mut slots = slots;
         let mut columns = columns;

@@ -1,5 +1,5 @@
 //! The links from the members of a level to those of the level above.
-ghost use Rattle.std.specs.Prelude.{◌≡◌, [], length, slice_get, IfOk, IfErr, OnErr};
+ghost use Rattle.std.specs.Prelude.{◌≡◌, [], length, slice_get, IfOk, OnErr, IsOkUnless};
 ghost use Rattle.hierarchy.specs.Hierarchy.{PutsUpper};
 
 use cube_model::Fault;
@@ -60,7 +60,7 @@ impl Hierarchy {
     pub fn link(&mut self, code: usize, upper: u16) -> Result<bool, Fault>
         ensures ok { IfOk result (λ linked. PutsUpper self.old code upper linked self.new) }
         ensures err { OnErr result (self.new ≡ self.old) }
-        ensures memory { IfErr result (λ fault. fault ≡ Fault.Memory) }
+        ensures memory { IsOkUnless result Fault.Memory }
     {
         if let Some(other) = self.uppers.get(code) {
             return Ok(*other == upper);

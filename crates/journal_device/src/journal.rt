@@ -1,5 +1,5 @@
 //! The bytes of a journal.
-ghost use Rattle.std.specs.Prelude.{◌≡◌, ◌++◌, IfOk, IfErr, OnOk, IsOkUnless};
+ghost use Rattle.std.specs.Prelude.{◌≡◌, ◌++◌, IfOk, OnOk, IsOkUnless};
 ghost use Rattle.journal_device.specs.Calls.{journal_of, spelled_call};
 
 use crate::call::Call;
@@ -14,7 +14,7 @@ const SYNC: u32 = u32::MAX;
 /// the 512 bytes; and for a sync the number 0xFFFFFFFF. `Memory` when out of memory.
 pub fn journal_of(alloc: Global, calls: &[Call]) -> Result<Vec<u8>, Fault>
     ensures ok { IfOk result (λ journal. journal.items ≡ journal_of calls.now) }
-    ensures err { IfErr result (λ fault. fault ≡ Fault.Memory) }
+    ensures err { IsOkUnless result Fault.Memory }
 {
     let mut journal = Vec::new(alloc);
     for call in calls {

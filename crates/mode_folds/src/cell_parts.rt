@@ -1,9 +1,9 @@
 //! The cells of a view in the folds of ship modes.
-ghost use Rattle.std.specs.Prelude.{◌≡◌, ◌⊎◌, ◌++◌, true, Err, List, IfErr, OnOk};
+ghost use Rattle.std.specs.Prelude.{◌≡◌, ◌++◌, true, Err, List, IfErr, OnOk};
 ghost use Rattle.std.specs.List.{AllByRecursion};
+ghost use Rattle.group_tallies.specs.Limits.{AreFoldable, EndsFolding};
 ghost use Rattle.cube_model.specs.declared.rows.LineOrder.{LineOrder};
 ghost use Rattle.cube_query.specs.Groups.{IsOver};
-ghost use Rattle.group_tallies.specs.Limits.{AreFoldable};
 ghost use Rattle.cuboid_upkeep.specs.Grouping.{RepresentRows};
 ghost use Rattle.lattice.specs.Determined.{Serves};
 ghost use Rattle.mode_folds.specs.Parts.{AreOfMode, HaveQuery, RepresentByMode, TakeByMode};
@@ -43,7 +43,7 @@ pub(crate) fn add_cells_by_mode(
         → RepresentRows dims.now modes.now.texts rows cells.now
         → RepresentByMode dims.now query.now so_far own.old.texts folds.old.items
         → AreFoldable dims.now (so_far ++ rows) → ⊥ }
-    ensures only { IfErr result (λ fault. (fault ≡ Fault.Memory) ⊎ (fault ≡ Fault.BadLayout)) }
+    ensures only { IfErr result EndsFolding }
 {
     let view = cells.view();
     let mut code = 0;
@@ -82,7 +82,7 @@ fn add_cells_of_mode(
         → RepresentRows dims.now modes.now.texts rows cells.now → AreOfMode mode.now rows
         → RepresentByMode dims.now query.now so_far own.old.texts folds.old.items
         → AreFoldable dims.now (of_mode mode.now so_far ++ rows) → ⊥ }
-    ensures only { IfErr result (λ fault. (fault ≡ Fault.Memory) ⊎ (fault ≡ Fault.BadLayout)) }
+    ensures only { IfErr result EndsFolding }
 {
     if cells.as_slice().is_empty() {
         return Ok(());

@@ -1,5 +1,5 @@
 //! Fact rows by their ship modes.
-ghost use Rattle.std.specs.Prelude.{◌≡◌, ℕ, List, [], ◌∷◌, ◌++◌, length, map, IfErr, IfOk, OnOk};
+ghost use Rattle.std.specs.Prelude.{◌≡◌, ℕ, List, [], ◌∷◌, ◌++◌, length, map, IfOk, OnOk, IsOkUnless};
 ghost use Rattle.std.proofs.Math.ListN.{replicate};
 ghost use Rattle.cube_model.specs.declared.rows.LineOrder.{LineOrder};
 ghost use Rattle.dictionary.specs.Dictionary.{EachOnce};
@@ -29,7 +29,7 @@ pub(crate) fn divided(
 ) -> Result<Vec<Vec<LineOrder>>, Fault>
     ensures ok { IfOk result (λ parts. EachOnce modes.old.texts
         → AreDivided modes.old.texts modes.new.texts rows.items parts.items) }
-    ensures memory { IfErr result (λ fault. fault ≡ Fault.Memory) }
+    ensures memory { IsOkUnless result Fault.Memory }
 {
     let mut parts = empty_parts(alloc, modes.len())?;
     for row in rows {
@@ -61,7 +61,7 @@ fn put_row(
         → AreDivided known modes.old.texts rows parts.old.items
         → AreDivided known modes.new.texts (rows ++ row ∷ []) parts.new.items) }
     ensures counted { OnOk result (length parts.new.items ≡ length modes.new.texts) }
-    ensures memory { IfErr result (λ fault. fault ≡ Fault.Memory) }
+    ensures memory { IsOkUnless result Fault.Memory }
 {
     let Some(code) = modes.add(alloc, row.shipmode.as_slice())? else {
         return Err(Fault::Memory); // more ship modes than numbers of 32 bits

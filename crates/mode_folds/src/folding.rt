@@ -1,5 +1,6 @@
 //! A fold of a query that may look at ship modes, over fact rows that come in any number of calls.
-ghost use Rattle.std.specs.Prelude.{◌≡◌, ◌⊎◌, Err, List, IfErr, IfOk, OnOk, true};
+ghost use Rattle.std.specs.Prelude.{◌≡◌, Err, List, IfErr, IfOk, OnOk, true};
+ghost use Rattle.group_tallies.specs.Limits.{EndsFolding};
 ghost use Rattle.cube_model.specs.declared.rows.LineOrder.{LineOrder};
 ghost use Rattle.cuboid_upkeep.specs.Grouping.{RepresentRows};
 ghost use Rattle.lattice.specs.Determined.{Serves};
@@ -104,7 +105,7 @@ impl<'a> ModeFold<'a> {
         ensures over { IsOverByModes dims.now self.new }
         ensures ok { OnOk result (TakesByModes dims.now self.old rows.items self.new) }
         ensures refused { result ≡ Err Fault.BadLayout → CanTakeByModes dims.now self.old rows.items → ⊥ }
-        ensures only { IfErr result (λ fault. (fault ≡ Fault.Memory) ⊎ (fault ≡ Fault.BadLayout)) }
+        ensures only { IfErr result EndsFolding }
     {
         let rows = passing(self.asked.conditions(), rows);
         add_together(dims, &self.asked, &mut self.together, rows.as_slice())?;
@@ -139,7 +140,7 @@ impl<'a> ModeFold<'a> {
         ensures refused { result ≡ Err Fault.BadLayout → (rows : List LineOrder)
             → RepresentRows dims.now modes.now.texts rows cells.now
             → CanTakeByModes dims.now self.old rows → ⊥ }
-        ensures only { IfErr result (λ fault. (fault ≡ Fault.Memory) ⊎ (fault ≡ Fault.BadLayout)) }
+        ensures only { IfErr result EndsFolding }
     {
         let cells = passing_cells(self.alloc, self.asked.conditions(), cells, modes)?;
         add_cells_together(dims, &self.asked, &mut self.together, &cells, modes)?;
@@ -164,7 +165,7 @@ impl<'a> ModeFold<'a> {
         ensures answer { IfOk result (λ found. (rows : List LineOrder) → RepresentsModeRows dims.now self.entry rows
             → answered_over dims.now found ≡ moded_answer self.entry.asked dims.now rows) }
         ensures refused { result ≡ Err Fault.BadLayout → IsFoldableByModes dims.now self.entry → ⊥ }
-        ensures only { IfErr result (λ fault. (fault ≡ Fault.Memory) ⊎ (fault ≡ Fault.BadLayout)) }
+        ensures only { IfErr result EndsFolding }
     {
         let ModeFold {
             alloc,

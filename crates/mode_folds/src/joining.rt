@@ -1,15 +1,15 @@
 //! The answer to a query with a column of ship modes, made of the answers of folds of the query without it.
-ghost use Rattle.std.specs.Prelude.{◌≡◌, ◌⊎◌, ◌++◌, Err, List, Some, not, IfErr, IfOk, OnOk};
+ghost use Rattle.std.specs.Prelude.{◌≡◌, ◌++◌, Err, List, Some, not, IfErr, IfOk, OnOk, IsOkUnless};
 ghost use Rattle.std.specs.List.{AllByRecursion, insert, list_all};
 ghost use Rattle.std.specs.BTreeMap.{IsOrdered};
 ghost use Rattle.std.specs.Option.{option_map};
+ghost use Rattle.group_tallies.specs.Limits.{AreFoldable, EndsFolding};
 ghost use Rattle.cube_model.specs.declared.answer.Member.{Member};
 ghost use Rattle.cube_model.specs.declared.answer.Value.{Value};
 ghost use Rattle.cube_model.specs.declared.query.Query.{Query};
 ghost use Rattle.cube_model.specs.declared.rows.LineOrder.{LineOrder};
 ghost use Rattle.cube_model.specs.Keys.{key_cmp};
 ghost use Rattle.cube_query.specs.Groups.{IsOver};
-ghost use Rattle.group_tallies.specs.Limits.{AreFoldable};
 ghost use Rattle.mode_folds.specs.Joining.{FoldParts, HasValues, lines_of_entries};
 ghost use Rattle.mode_folds.specs.Parts.{HaveQuery};
 ghost use Rattle.mode_folds.specs.States.{IsFoldableByModes, RepresentsModeRows, fold_of};
@@ -52,7 +52,7 @@ pub(crate) fn joined(
         → found ≡ moded_answer (asked_by asked.now) dims.now rows) }
     ensures refused { result ≡ Err Fault.BadLayout
         → IsFoldableByModes dims.now (fold_of (asked_by asked.now) together.now modes.now.texts folds.now) → ⊥ }
-    ensures only { IfErr result (λ fault. (fault ≡ Fault.Memory) ⊎ (fault ≡ Fault.BadLayout)) }
+    ensures only { IfErr result EndsFolding }
 {
     let kind = asked.query().kind;
     let mut lines = BTreeMap::new(alloc);
@@ -93,7 +93,7 @@ fn join_modes(
         → HasValues value (keys ++ keys_by_mode dims.now query place rows modes.now.texts) lines.new) }
     ensures refused { result ≡ Err Fault.BadLayout → (query : Query) (rows : List LineOrder)
         → FoldParts dims.now query rows modes.now.texts folds.now → AreFoldable dims.now rows → ⊥ }
-    ensures only { IfErr result (λ fault. (fault ≡ Fault.Memory) ⊎ (fault ≡ Fault.BadLayout)) }
+    ensures only { IfErr result EndsFolding }
 {
     for code in 0..modes.len() {
         let Some(mode) = modes.text(code as u32) else {
@@ -122,7 +122,7 @@ fn join(
         → HasValues value keys lines.old
         → HasValues value (keys ++ joined_keys kind place (option_map (λ mode. mode.now) mode.entry) found.lines)
         lines.new) }
-    ensures only { IfErr result (λ fault. fault ≡ Fault.Memory) }
+    ensures only { IsOkUnless result Fault.Memory }
 {
     for line in found.lines.into_vec() {
         if is_kept(kind, place, mode.is_some(), line.key.as_slice()) {

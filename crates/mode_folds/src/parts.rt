@@ -1,12 +1,12 @@
 //! The folds of the parts of fact rows, one for each ship mode.
-ghost use Rattle.std.specs.Prelude.{◌≡◌, ◌⊎◌, ◌≤◌, ◌++◌, Err, List, length, IfErr, OnOk};
+ghost use Rattle.std.specs.Prelude.{◌≡◌, ◌≤◌, ◌++◌, Err, List, length, IfErr, OnOk, IsOkUnless};
 ghost use Rattle.std.specs.List.{AllByRecursion};
 ghost use Rattle.std.specs.declared.alloc.Global.{Global};
 ghost use Rattle.std.specs.declared.vec.Vec.{Vec};
+ghost use Rattle.group_tallies.specs.Limits.{AreFoldable, EndsFolding};
 ghost use Rattle.cube_model.specs.declared.query.Query.{Query};
 ghost use Rattle.cube_model.specs.declared.rows.LineOrder.{LineOrder};
 ghost use Rattle.cube_query.specs.Groups.{IsOver};
-ghost use Rattle.group_tallies.specs.Limits.{AreFoldable};
 ghost use Rattle.mode_folds.specs.Parts.{AreGrown, CanTakeEach, HaveQuery, RepresentByMode, TakeByMode, TakeEach};
 
 use crate::dividing::divided;
@@ -35,7 +35,7 @@ pub(crate) fn add_by_mode(
     ensures refused { result ≡ Err Fault.BadLayout → (so_far : List LineOrder)
         → RepresentByMode dims.now query.now so_far modes.old.texts folds.old.items
         → AreFoldable dims.now (so_far ++ rows.items) → ⊥ }
-    ensures only { IfErr result (λ fault. (fault ≡ Fault.Memory) ⊎ (fault ≡ Fault.BadLayout)) }
+    ensures only { IfErr result EndsFolding }
 {
     let parts = divided(alloc, modes, rows)?;
     grow(alloc, dims, query, folds, parts.len())?;
@@ -56,7 +56,7 @@ pub(crate) fn grow(
     ensures many { OnOk result (count ≤ length folds.new.items) }
     ensures over { AllByRecursion (IsOver dims.now) folds.new.items }
     ensures queries { HaveQuery query.now folds.new.items }
-    ensures memory { IfErr result (λ fault. fault ≡ Fault.Memory) }
+    ensures memory { IsOkUnless result Fault.Memory }
 {
     for _ in folds.len()..count {
         folds.push(Fold::new(alloc, dims, query)?)?;
@@ -73,7 +73,7 @@ fn add_parts(dims: &Dims, folds: &mut [Fold], parts: &[Vec<LineOrder>]) -> Resul
     ensures over { AllByRecursion (IsOver dims.now) folds.new }
     ensures queries { (query : Query) → HaveQuery query folds.old → HaveQuery query folds.new }
     ensures refused { result ≡ Err Fault.BadLayout → CanTakeEach dims.now folds.old parts.now → ⊥ }
-    ensures only { IfErr result (λ fault. (fault ≡ Fault.Memory) ⊎ (fault ≡ Fault.BadLayout)) }
+    ensures only { IfErr result EndsFolding }
 {
     for i in 0..parts.len() {
         folds[i].add_rows(dims, parts[i].as_slice())?;

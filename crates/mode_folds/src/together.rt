@@ -1,8 +1,8 @@
 //! The fold of fact rows together, whatever their ship modes.
-ghost use Rattle.std.specs.Prelude.{◌≡◌, ◌⊎◌, ◌++◌, Err, List, IfErr, OnOk};
+ghost use Rattle.std.specs.Prelude.{◌≡◌, ◌++◌, Err, List, IfErr, OnOk};
+ghost use Rattle.group_tallies.specs.Limits.{AreFoldable, EndsFolding};
 ghost use Rattle.cube_model.specs.declared.rows.LineOrder.{LineOrder};
 ghost use Rattle.cube_query.specs.Groups.{IsOver, RepresentsRows};
-ghost use Rattle.group_tallies.specs.Limits.{AreFoldable};
 ghost use Rattle.cuboid_upkeep.specs.Grouping.{RepresentRows};
 ghost use Rattle.lattice.specs.Determined.{Serves};
 ghost use Rattle.mode_folds.specs.States.{TakesTogether, folds_together, rows_together};
@@ -34,7 +34,7 @@ pub(crate) fn add_together(
         → rows.now ≡ passing (asked_by asked.now).conditions all
         → RepresentsRows dims.now together.old (rows_together (asked_by asked.now) so_far)
         → AreFoldable dims.now (so_far ++ all) → ⊥ }
-    ensures only { IfErr result (λ fault. (fault ≡ Fault.Memory) ⊎ (fault ≡ Fault.BadLayout)) }
+    ensures only { IfErr result EndsFolding }
 {
     if folds_together(asked) {
         return together.add_rows(dims, rows);
@@ -62,7 +62,7 @@ pub(crate) fn add_cells_together(
         → RepresentRows dims.now modes.now.texts (passing (asked_by asked.now).conditions all) cells.now
         → RepresentsRows dims.now together.old (rows_together (asked_by asked.now) so_far)
         → AreFoldable dims.now (so_far ++ all) → ⊥ }
-    ensures only { IfErr result (λ fault. (fault ≡ Fault.Memory) ⊎ (fault ≡ Fault.BadLayout)) }
+    ensures only { IfErr result EndsFolding }
 {
     if folds_together(asked) {
         return together.add_cells(dims, cells, Some(modes));

@@ -1,5 +1,6 @@
 // The entries of a catalogue, by ascending id. Each is found by halving.
 ghost use Rattle.std.specs.Prelude.{◌≡◌, ◌≤◌, ◌<◌, ℕ, length, slice_index_or, IfErr, IfOk, OnOk, MatchResult};
+ghost use Rattle.std.specs.Prelude.{IsOkUnless};
 ghost use Rattle.cube_model.specs.declared.fault.Fault.{Fault};
 ghost use Rattle.object_store.specs.declared.catalogue.entry.Entry.{Entry};
 ghost use Rattle.object_store.specs.Catalogue.{IdsAscend};
@@ -25,7 +26,7 @@ pub(crate) fn find(entries: &[Entry], id: u32) -> Option<Entry>
 pub(crate) fn without(alloc: Global, entries: &[Entry], drops: &[u32]) -> Result<Vec<Entry>, Fault>
     requires { IdsAscend entries.now }
     ensures ok { IfOk result (λ kept. kept.items ≡ drop_each (λ e. e.id) drops.now entries.now) }
-    ensures memory { IfErr result (λ fault. fault ≡ Fault.Memory) }
+    ensures memory { IsOkUnless result Fault.Memory }
 {
     let mut kept = Vec::from_slice(alloc, entries)?;
     for k in 0..drops.len() {
@@ -38,7 +39,7 @@ pub(crate) fn without(alloc: Global, entries: &[Entry], drops: &[u32]) -> Result
 pub(crate) fn put_entries(entries: &mut Vec<Entry>, placed: &[Entry]) -> Result<(), Fault>
     requires { IdsAscend entries.old.items }
     ensures ok { OnOk result (entries.new.items ≡ put_each (λ e. e.id) placed.now entries.old.items) }
-    ensures memory { IfErr result (λ fault. fault ≡ Fault.Memory) }
+    ensures memory { IsOkUnless result Fault.Memory }
 {
     for k in 0..placed.len() {
         put_entry(entries, placed[k])?;
@@ -49,7 +50,7 @@ pub(crate) fn put_entries(entries: &mut Vec<Entry>, placed: &[Entry]) -> Result<
 fn put_entry(entries: &mut Vec<Entry>, entry: Entry) -> Result<(), Fault>
     requires { IdsAscend entries.old.items }
     ensures ok { OnOk result (entries.new.items ≡ put_by (λ e. e.id) entry entries.old.items) }
-    ensures memory { IfErr result (λ fault. fault ≡ Fault.Memory) }
+    ensures memory { IsOkUnless result Fault.Memory }
 {
     match search(entries, entry.id) {
         Ok(place) => {

@@ -1,5 +1,5 @@
 // Whether the extents of a catalogue keep the rules of the layout.
-ghost use Rattle.std.specs.Prelude.{◌≡◌, ◌⊎◌, ◌≤◌, All, IfErr, IfOk, OnOk};
+ghost use Rattle.std.specs.Prelude.{◌≡◌, ◌⊎◌, ◌≤◌, All, IfErr, IfOk, OnOk, IsOkUnless};
 ghost use Rattle.cube_model.specs.declared.fault.Fault.{Fault};
 ghost use Rattle.extents.specs.Extents.{AreLaidOut};
 ghost use Rattle.superblock.specs.Superblock.{IsProperSuperblock};
@@ -21,7 +21,7 @@ pub(crate) fn used_extents(
     requires proper { IsProperSuperblock superblock.now }
     requires entries { All IsProperEntry entries.now }
     ensures ok { IfOk result (λ used. used.items ≡ used_by superblock.now entries.now) }
-    ensures memory { IfErr result (λ fault. fault ≡ Fault.Memory) }
+    ensures memory { IsOkUnless result Fault.Memory }
 {
     let mut used = Vec::with_capacity(alloc, entries.len() + 1)?;
     used.push(extent(superblock.catalogue, u64::from(superblock.bytes)))?;

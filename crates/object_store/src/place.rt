@@ -1,5 +1,5 @@
 // Places for the puts of a commit.
-ghost use Rattle.std.specs.Prelude.{◌≡◌, ◌^◌, ◌<◌, length, IfErr, IfOk};
+ghost use Rattle.std.specs.Prelude.{◌≡◌, ◌^◌, ◌<◌, length, IfErr, IfOk, IsOkUnless};
 ghost use Rattle.cube_model.specs.declared.fault.Fault.{Fault};
 ghost use Rattle.extents.specs.declared.extent.Extent.{Extent};
 ghost use Rattle.extents.specs.Extents.{AreLaidOut};
@@ -35,7 +35,7 @@ pub(crate) fn place_outside(
 fn free_outside(alloc: Global, sectors: u32, used: &[Extent]) -> Result<Free, Fault>
     requires { AreLaidOut sectors used.now }
     ensures ok { IfOk result (IsFreeOutside sectors used.now) }
-    ensures memory { IfErr result (λ fault. fault ≡ Fault.Memory) }
+    ensures memory { IsOkUnless result Fault.Memory }
 {
     Free::from_used(alloc, sectors, used)
 }

@@ -1,5 +1,5 @@
 // What a commit is to write, worked out in memory. No device is called.
-ghost use Rattle.std.specs.Prelude.{◌≡◌, ◌+◌, ◌≤◌, ◌<◌, ◌^◌, ℕ, [], length, map, All, IfErr, IfOk};
+ghost use Rattle.std.specs.Prelude.{◌≡◌, ◌+◌, ◌≤◌, ◌<◌, ◌^◌, ℕ, [], length, map, All, IfErr, IfOk, IsOkUnless};
 ghost use Rattle.cube_model.specs.declared.fault.Fault.{Fault};
 ghost use Rattle.extents.specs.Extents.{SomeHolds, AreLaidOut};
 ghost use Rattle.superblock.specs.Superblock as superblocks;
@@ -102,7 +102,7 @@ fn catalogued(
     ensures entries { IfOk result (λ made. made.0.items ≡ put_each (λ e. e.id) placed.now kept.items) }
     ensures catalogue { IfOk result (λ made. made.1.items ≡ catalogue_of made.0.items root.now) }
     ensures root { IfOk result (λ made. made.2.items ≡ root.now) }
-    ensures memory { IfErr result (λ fault. fault ≡ Fault.Memory) }
+    ensures memory { IsOkUnless result Fault.Memory }
 {
     let mut entries = kept;
     put_entries(&mut entries, placed)?;

@@ -1,5 +1,5 @@
 //! The partial report that is asked for.
-ghost use Rattle.std.specs.Prelude.{◌≡◌, IfErr, IfOk};
+ghost use Rattle.std.specs.Prelude.{◌≡◌, IfOk, IsOkUnless};
 ghost use Rattle.partial_reports.specs.Partial.{part_asked};
 
 use crate::head::Head;
@@ -26,7 +26,7 @@ impl PartAsked {
     /// memory.
     pub fn new(alloc: Global, head: Head, query: Query) -> Result<PartAsked, Fault>
         ensures ok { IfOk result (λ asked. asked ≡ part_asked head query) }
-        ensures only { IfErr result (λ fault. fault ≡ Fault.Memory) }
+        ensures only { IsOkUnless result Fault.Memory }
     {
         let query = partial_query(alloc, query)?;
         Ok(PartAsked { head, query })

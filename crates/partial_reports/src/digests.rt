@@ -1,5 +1,5 @@
 //! The digest of dimension rows.
-ghost use Rattle.std.specs.Prelude.{◌≡◌, ◌++◌, ℕ, List, IfErr, IfOk, OnOk};
+ghost use Rattle.std.specs.Prelude.{◌≡◌, ◌++◌, ℕ, List, IfOk, OnOk, IsOkUnless};
 ghost use Rattle.sha2.specs.Hashers.{Holds256};
 ghost use Rattle.partial_reports.specs.Dimensions.{digest_of, dimension_object};
 
@@ -13,7 +13,7 @@ use std::alloc::Global;
 /// have the same digest wherever they are. It can only fail when out of memory.
 pub fn digest_of(alloc: Global, dims: &Dims) -> Result<[u8; 32], Fault>
     ensures ok { IfOk result (λ digest. digest ≡ digest_of dims.now) }
-    ensures only { IfErr result (λ fault. fault ≡ Fault.Memory) }
+    ensures only { IsOkUnless result Fault.Memory }
 {
     let mut hasher = Sha256::new();
     add_object(alloc, &mut hasher, dims, Axis::Customer)?;
@@ -27,7 +27,7 @@ pub fn digest_of(alloc: Global, dims: &Dims) -> Result<[u8; 32], Fault>
 fn add_object(alloc: Global, hasher: &mut Sha256, dims: &Dims, axis: Axis) -> Result<(), Fault>
     ensures ok { OnOk result ((bytes : List ℕ) → Holds256 hasher.old bytes
         → Holds256 hasher.new (bytes ++ dimension_object dims.now axis)) }
-    ensures only { IfErr result (λ fault. fault ≡ Fault.Memory) }
+    ensures only { IsOkUnless result Fault.Memory }
 {
     let bytes = encode(alloc, dims, axis)?;
     hasher.update(bytes.as_slice());

@@ -1,5 +1,5 @@
 //! The head of a partial report.
-ghost use Rattle.std.specs.Prelude.{◌≡◌, ◌⊎◌, ◌++◌, ◌+◌, true, false, map, IfErr, IfOk, OnOk};
+ghost use Rattle.std.specs.Prelude.{◌≡◌, ◌⊎◌, ◌++◌, ◌+◌, true, false, map, IfErr, IfOk, OnOk, IsOkUnless};
 ghost use Rattle.std.specs.List.{list_all};
 ghost use Rattle.std.specs.Option.{option_map};
 ghost use Rattle.partial_reports.specs.declared.words.WordKind.TheVariants.{If};
@@ -117,7 +117,7 @@ fn words_given(
         (λ words. words ≡ words_given (option_map (λ word. word.now) q.entry) (option_map (λ word. word.now) set.entry)
         (option_map (λ word. word.now) by.entry) (option_map (λ word. word.now) agg.entry)
         (map (λ word. word.now) conditions.now)) }
-    ensures only { IfErr result (λ fault. fault ≡ Fault.Memory) }
+    ensures only { IsOkUnless result Fault.Memory }
 {
     let mut words = Items::new(alloc);
     push_if_any(alloc, &mut words, WordKind::Q, q)?;
@@ -133,7 +133,7 @@ fn push_conditions(alloc: Global, words: &mut Items<Word>, conditions: &[&str]) 
     ensures ok { OnOk result
         (words.new ≡ words.old ++ map (λ text. record { kind = If; text = text })
         (map (λ word. word.now) conditions.now)) }
-    ensures only { IfErr result (λ fault. fault ≡ Fault.Memory) }
+    ensures only { IsOkUnless result Fault.Memory }
 {
     for condition in conditions {
         push_word(alloc, words, WordKind::If, condition)?;

@@ -1,5 +1,5 @@
 //! The query whose answers are a query's partial answers.
-ghost use Rattle.std.specs.Prelude.{◌≡◌, ◌∷◌, map, IfOk, IfErr};
+ghost use Rattle.std.specs.Prelude.{◌≡◌, ◌∷◌, map, IfOk, IsOkUnless};
 ghost use Rattle.partial_reports.specs.Parts.{partial_agg, partial_query};
 ghost use Rattle.cube_model.specs.declared.measure.Agg.TheVariants.{Count};
 
@@ -20,7 +20,7 @@ pub fn partial_agg(agg: Agg) -> Agg
 
 fn aggregates_of(alloc: Global, aggregates: &[Agg]) -> Result<Items<Agg>, Fault>
     ensures ok { IfOk result (λ kept. kept ≡ Count ∷ map partial_agg aggregates.now) }
-    ensures only { IfErr result (λ fault. fault ≡ Fault.Memory) }
+    ensures only { IsOkUnless result Fault.Memory }
 {
     let mut kept = Items::new(alloc);
     kept.push(Agg::Count)?;
@@ -33,7 +33,7 @@ fn aggregates_of(alloc: Global, aggregates: &[Agg]) -> Result<Items<Agg>, Fault>
 /// The count first, then what is kept of each aggregate, in the order of the keys.
 pub fn partial_query(alloc: Global, mut query: Query) -> Result<Query, Fault>
     ensures ok { IfOk result (λ partial. partial ≡ partial_query query) }
-    ensures only { IfErr result (λ fault. fault ≡ Fault.Memory) }
+    ensures only { IsOkUnless result Fault.Memory }
 {
     query.aggregates = aggregates_of(alloc, query.aggregates.as_slice())?;
     query.order = None;

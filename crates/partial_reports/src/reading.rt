@@ -1,6 +1,6 @@
 //! Reading the lines of a partial report.
-ghost use Rattle.std.specs.Prelude.{◌≡◌, [], ◌∷◌, ◌++◌, ◌<◌, ◌^◌, ℕ, List, None, length, IfErr, IfOk, IfSome, IfNone};
-ghost use Rattle.std.specs.Prelude.{IsSomeAnd, OnOk};
+ghost use Rattle.std.specs.Prelude.{◌≡◌, [], ◌∷◌, ◌++◌, ◌<◌, ◌^◌, ℕ, List, None, length, IfOk, IfSome, IfNone};
+ghost use Rattle.std.specs.Prelude.{IsSomeAnd, OnOk, IsOkUnless};
 ghost use Rattle.cube_model.specs.declared.answer.Answer.{Answer};
 ghost use Rattle.cube_model.specs.declared.answer.Line.{Line};
 ghost use Rattle.cube_model.specs.Ascending.{IsAscending};
@@ -118,7 +118,7 @@ fn read_line<'a>(
 fn check_count(line: u64, count: usize, row: &mut Vec<u8>, text: &[u8]) -> Result<(), Refused>
     ensures text { OnOk result (text.now ≡ count_text count) }
     ensures few { OnOk result (count < 2 ^ 63) }
-    ensures complete { count < 2 ^ 63 → text.now ≡ count_text count → IfErr result (λ refused. refused ≡ Memory) }
+    ensures complete { count < 2 ^ 63 → text.now ≡ count_text count → IsOkUnless result Memory }
 {
     spell_count(row, count)?;
     if text == row.as_slice() && count < 1 << 63 {

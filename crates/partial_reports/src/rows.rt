@@ -1,5 +1,5 @@
 //! The rows of a report, as they are spelled.
-ghost use Rattle.std.specs.Prelude.{◌≡◌, ◌++◌, ◌↔◌, ℕ, List, IfErr, IfSome, IsOk, IsSomeAnd, OnOk};
+ghost use Rattle.std.specs.Prelude.{◌≡◌, ◌++◌, ◌↔◌, ℕ, List, IfSome, IsOk, IsSomeAnd, OnOk, IsOkUnless};
 ghost use Rattle.ssb_reports.specs.Report.{count_text, row_text};
 
 use cube_model::Fault;
@@ -13,7 +13,7 @@ pub(crate) fn spell_row<F: Fields, G: Fields>(
     others: &G,
 ) -> Result<(), Fault>
     ensures ok { OnOk result (row.new.items ≡ row_text (F.texts fields.now ++ G.texts others.now)) }
-    ensures only { IfErr result (λ fault. fault ≡ Fault.Memory) }
+    ensures only { IsOkUnless result Fault.Memory }
 {
     row.clear();
     in_memory(write_joined(row, b'|', fields, others))?;
@@ -23,7 +23,7 @@ pub(crate) fn spell_row<F: Fields, G: Fields>(
 /// Makes a buffer the line of how many lines there are.
 pub(crate) fn spell_count(row: &mut Vec<u8>, count: usize) -> Result<(), Fault>
     ensures ok { OnOk result (row.new.items ≡ count_text count) }
-    ensures only { IfErr result (λ fault. fault ≡ Fault.Memory) }
+    ensures only { IsOkUnless result Fault.Memory }
 {
     row.clear();
     in_memory(write_count(row, count))
@@ -32,7 +32,7 @@ pub(crate) fn spell_count(row: &mut Vec<u8>, count: usize) -> Result<(), Fault>
 // What became of bytes that were written to a vector, which takes all of them unless memory runs out.
 fn in_memory(written: Result<(), Fault>) -> Result<(), Fault>
     ensures ok { IsOk result ↔ IsOk written }
-    ensures only { IfErr result (λ fault. fault ≡ Fault.Memory) }
+    ensures only { IsOkUnless result Fault.Memory }
 {
     written.map_err(|_| Fault::Memory)
 }

@@ -1,5 +1,5 @@
 //! The text of a head.
-ghost use Rattle.std.specs.Prelude.{◌≡◌, ◌++◌, IfErr, IfOk, OnOk};
+ghost use Rattle.std.specs.Prelude.{◌≡◌, ◌++◌, IfOk, OnOk, IsOkUnless};
 ghost use Rattle.std.specs.Fmt.{decimal};
 ghost use Rattle.std.specs.List.{flat_map};
 ghost use Rattle.partial_reports.specs.Head.{after_comma, dimensions_text, head_text, numbers_text, part_text};
@@ -17,7 +17,7 @@ use wire::push_bytes;
 pub fn head_text(alloc: Global, head: &Head, digest: &[u8; 32]) -> Result<Vec<u8>, Fault>
     ensures ok { IfOk result (λ text. text.items ≡ head_text head.now digest.now) }
     ensures digest { OnOk result (IsDigest digest.now) }
-    ensures only { IfErr result (λ fault. fault ≡ Fault.Memory) }
+    ensures only { IsOkUnless result Fault.Memory }
 {
     let mut out = Vec::new(alloc);
     push_bytes(&mut out, b"ssbcube partial report 1\n")?;
@@ -31,7 +31,7 @@ pub fn head_text(alloc: Global, head: &Head, digest: &[u8; 32]) -> Result<Vec<u8
 // Adds the line of the parts.
 fn push_part(out: &mut Vec<u8>, head: &Head) -> Result<(), Fault>
     ensures ok { OnOk result (out.new.items ≡ out.old.items ++ part_text head.now) }
-    ensures only { IfErr result (λ fault. fault ≡ Fault.Memory) }
+    ensures only { IsOkUnless result Fault.Memory }
 {
     push_bytes(out, b"part ")?;
     push_numbers(out, head.numbers.as_slice())?;
@@ -43,7 +43,7 @@ fn push_part(out: &mut Vec<u8>, head: &Head) -> Result<(), Fault>
 // Adds numbers with commas between.
 fn push_numbers(out: &mut Vec<u8>, numbers: &[u32]) -> Result<(), Fault>
     ensures ok { OnOk result (out.new.items ≡ out.old.items ++ numbers_text numbers.now) }
-    ensures only { IfErr result (λ fault. fault ≡ Fault.Memory) }
+    ensures only { IsOkUnless result Fault.Memory }
 {
     let Some((first, others)) = numbers.split_first() else {
         return Ok(());
@@ -55,7 +55,7 @@ fn push_numbers(out: &mut Vec<u8>, numbers: &[u32]) -> Result<(), Fault>
 // Adds numbers, each after a comma.
 fn push_after_commas(out: &mut Vec<u8>, numbers: &[u32]) -> Result<(), Fault>
     ensures ok { OnOk result (out.new.items ≡ out.old.items ++ flat_map after_comma numbers.now) }
-    ensures only { IfErr result (λ fault. fault ≡ Fault.Memory) }
+    ensures only { IsOkUnless result Fault.Memory }
 {
     for number in numbers {
         push_after_comma(out, *number)?;
@@ -65,7 +65,7 @@ fn push_after_commas(out: &mut Vec<u8>, numbers: &[u32]) -> Result<(), Fault>
 
 fn push_after_comma(out: &mut Vec<u8>, number: u32) -> Result<(), Fault>
     ensures ok { OnOk result (out.new.items ≡ out.old.items ++ after_comma number) }
-    ensures only { IfErr result (λ fault. fault ≡ Fault.Memory) }
+    ensures only { IsOkUnless result Fault.Memory }
 {
     push_bytes(out, b",")?;
     push_number(out, number)
@@ -74,7 +74,7 @@ fn push_after_comma(out: &mut Vec<u8>, number: u32) -> Result<(), Fault>
 // Adds a number in decimal.
 fn push_number(out: &mut Vec<u8>, number: u32) -> Result<(), Fault>
     ensures ok { OnOk result (out.new.items ≡ out.old.items ++ decimal number) }
-    ensures only { IfErr result (λ fault. fault ≡ Fault.Memory) }
+    ensures only { IsOkUnless result Fault.Memory }
 {
     let mut buffer = Buffer::new();
     push_bytes(out, buffer.format(number).as_bytes())
@@ -84,7 +84,7 @@ fn push_number(out: &mut Vec<u8>, number: u32) -> Result<(), Fault>
 fn push_dimensions(alloc: Global, out: &mut Vec<u8>, digest: &[u8; 32]) -> Result<(), Fault>
     ensures ok { OnOk result (out.new.items ≡ out.old.items ++ dimensions_text digest.now) }
     ensures digest { IsDigest digest.now }
-    ensures only { IfErr result (λ fault. fault ≡ Fault.Memory) }
+    ensures only { IsOkUnless result Fault.Memory }
 {
     let text = hex::encode(alloc, digest.as_slice())?;
     push_bytes(out, b"dimensions ")?;
@@ -95,7 +95,7 @@ fn push_dimensions(alloc: Global, out: &mut Vec<u8>, digest: &[u8; 32]) -> Resul
 // Adds the lines of words.
 fn push_words(out: &mut Vec<u8>, words: &[Word]) -> Result<(), Fault>
     ensures ok { OnOk result (out.new.items ≡ out.old.items ++ flat_map word_text words.now) }
-    ensures only { IfErr result (λ fault. fault ≡ Fault.Memory) }
+    ensures only { IsOkUnless result Fault.Memory }
 {
     for word in words {
         word.push_to(out)?;

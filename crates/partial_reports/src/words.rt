@@ -1,5 +1,5 @@
 //! The words of a query, as a partial report names them.
-ghost use Rattle.std.specs.Prelude.{◌≡◌, [], ◌∷◌, ◌++◌, true, false, if◌then◌else◌, IfErr, OnOk};
+ghost use Rattle.std.specs.Prelude.{◌≡◌, [], ◌∷◌, ◌++◌, true, false, if◌then◌else◌, OnOk, IsOkUnless};
 ghost use Rattle.std.specs.List.{list_all};
 ghost use Rattle.std.specs.Option.{option_map};
 ghost use Rattle.partial_reports.specs.Head.{is_line_feed, is_short_word, kind_by, kind_text, word_if_any, word_text};
@@ -39,7 +39,7 @@ impl Word {
     // Adds the line of a word.
     pub(crate) fn push_to(&self, out: &mut Vec<u8>) -> Result<(), Fault>
         ensures ok { OnOk result (out.new.items ≡ out.old.items ++ word_text self.now) }
-        ensures only { IfErr result (λ fault. fault ≡ Fault.Memory) }
+        ensures only { IsOkUnless result Fault.Memory }
     {
         push_bytes(out, self.kind.name())?;
         push_bytes(out, self.text.as_slice())?;
@@ -83,7 +83,7 @@ pub(crate) fn push_word(
     text: &str,
 ) -> Result<(), Fault>
     ensures ok { OnOk result (words.new ≡ words.old ++ record { kind = kind; text = text.now } ∷ []) }
-    ensures only { IfErr result (λ fault. fault ≡ Fault.Memory) }
+    ensures only { IsOkUnless result Fault.Memory }
 {
     let text = Vec::from_slice(alloc, text.as_bytes())?;
     words.push(Word {
@@ -101,7 +101,7 @@ pub(crate) fn push_if_any(
     text: Option<&str>,
 ) -> Result<(), Fault>
     ensures ok { OnOk result (words.new ≡ words.old ++ word_if_any kind (option_map (λ word. word.now) text.entry)) }
-    ensures only { IfErr result (λ fault. fault ≡ Fault.Memory) }
+    ensures only { IsOkUnless result Fault.Memory }
 {
     match text {
         Some(text) => push_word(alloc, words, kind, text),

@@ -1,5 +1,6 @@
 //! An answer that was found, of whose lines none is made.
-ghost use Rattle.std.specs.Prelude.{◌≡◌, ◌⊎◌, Err, List, IfErr, IfOk};
+ghost use Rattle.std.specs.Prelude.{◌≡◌, Err, List, IfErr, IfOk};
+ghost use Rattle.group_tallies.specs.Limits.{EndsFolding};
 ghost use Rattle.cube_model.specs.Answers.{answer};
 ghost use Rattle.cube_model.specs.declared.rows.LineOrder.{LineOrder};
 ghost use Rattle.cube_query.specs.Groups.{IsFoldable, IsOver, RepresentsRows};
@@ -44,7 +45,7 @@ impl Found {
         ensures answer { IfOk result (λ found. (rows : List LineOrder) → RepresentsRows dims.now.value fold rows
             → found ≡ answer fold.query dims.now.value rows) }
         ensures refused { result ≡ Err Fault.BadLayout → IsFoldable dims.now.value fold → ⊥ }
-        ensures only { IfErr result (λ fault. (fault ≡ Fault.Memory) ⊎ (fault ≡ Fault.BadLayout)) }
+        ensures only { IfErr result EndsFolding }
     {
         let groups = fold.into_groups(dims)?;
         let dims = dims.clone()?;

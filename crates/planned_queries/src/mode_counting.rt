@@ -1,5 +1,6 @@
 //! Counting a batch into the folds by ship mode, through its cells where a view serves the query.
-ghost use Rattle.std.specs.Prelude.{◌≡◌, ◌⊎◌, Err, IfErr, IfOk, IfSome, OnOk};
+ghost use Rattle.std.specs.Prelude.{◌≡◌, Err, IfErr, IfOk, IfSome, OnOk, IsOkUnless};
+ghost use Rattle.group_tallies.specs.Limits.{EndsFolding};
 ghost use Rattle.mode_folds.specs.States.{CanTakeByModes, IsOverByModes, TakesByModes};
 ghost use Rattle.planned_queries.specs.ModesCounted.{AreCellsOf, ServesWithModes};
 
@@ -28,7 +29,7 @@ pub(crate) fn count_batch(
     ensures over { IsOverByModes dims.now fold.new }
     ensures ok { OnOk result (TakesByModes dims.now fold.old segment.now.rows fold.new) }
     ensures refused { result ≡ Err Fault.BadLayout → CanTakeByModes dims.now fold.old segment.now.rows → ⊥ }
-    ensures only { IfErr result (λ fault. (fault ≡ Fault.Memory) ⊎ (fault ≡ Fault.BadLayout)) }
+    ensures only { IfErr result EndsFolding }
 {
     let (modes, _) = segment.coded(TextColumn::ShipMode);
     if let Some(view) = view {
@@ -52,7 +53,7 @@ fn cells_of(
 ) -> Result<Option<Cells>, Fault>
     ensures cells { IfOk result
         (λ found. IfSome found (AreCellsOf dims.now modes.now.texts view segment.now.rows)) }
-    ensures memory { IfErr result (λ fault. fault ≡ Fault.Memory) }
+    ensures memory { IsOkUnless result Fault.Memory }
 {
     let rows = RowsWithModes::of(segment);
     let mut cells = GrowingCells::new(alloc, dims, view)?;
@@ -66,7 +67,7 @@ fn cells_of(
 // All rows of a batch. It can only fail when out of memory.
 fn rows_of(alloc: Global, segment: &Segment) -> Result<Vec<LineOrder>, Fault>
     ensures rows { IfOk result (λ rows. rows.items ≡ segment.now.rows) }
-    ensures memory { IfErr result (λ fault. fault ≡ Fault.Memory) }
+    ensures memory { IsOkUnless result Fault.Memory }
 {
     let count = segment.len();
     let mut rows = Vec::with_capacity(alloc, count)?;

@@ -1,5 +1,5 @@
 //! The plan of a query that may look at ship modes.
-ghost use Rattle.std.specs.Prelude.{◌≡◌, ◌≤◌, length, IfErr, IfOk};
+ghost use Rattle.std.specs.Prelude.{◌≡◌, ◌≤◌, length, IfOk, IsOkUnless};
 ghost use Rattle.cube_model.specs.declared.fault.Fault.TheVariants.{Memory};
 ghost use Rattle.warehouse_objects.specs.Warehouse.{Warehouse};
 ghost use Rattle.warehouse_objects.specs.Represents.{root_of};
@@ -29,7 +29,7 @@ pub fn mode_plan_of(
     ensures plan { IfOk result (λ plan. (w : Warehouse) → root.now ≡ root_of w → IsPlanByModes w as_of asked.now plan) }
     ensures serves { IfOk result (ServesByModes asked.now) }
     ensures in_time { IfOk result (λ plan. mark_of plan ≤ as_of) }
-    ensures memory { IfErr result (λ fault. fault ≡ Memory) }
+    ensures memory { IsOkUnless result Memory }
 {
     let stored = stored_for(asked, stored_in(alloc, root)?);
     Ok(plan(&asked.query, stored.as_slice(), root.batches(), as_of))
@@ -48,7 +48,7 @@ pub fn mode_plans_of(
     requires { as_of ≤ length root.now.batches }
     ensures plans { IfOk result (λ plans. (w : Warehouse) → root.now ≡ root_of w
         → ArePlansByModes w as_of asked.now plans.items) }
-    ensures memory { IfErr result (λ fault. fault ≡ Memory) }
+    ensures memory { IsOkUnless result Memory }
 {
     let stored = stored_for(asked, stored_in(alloc, root)?);
     let batches = root.batches();

@@ -1,5 +1,5 @@
 //! The plan of a query.
-ghost use Rattle.std.specs.Prelude.{◌≡◌, ◌≤◌, Some, length, IfErr, IfOk};
+ghost use Rattle.std.specs.Prelude.{◌≡◌, ◌≤◌, Some, length, IfOk, IsOkUnless};
 ghost use Rattle.cube_model.specs.declared.fault.Fault.TheVariants.{Memory};
 ghost use Rattle.warehouse_objects.specs.Warehouse.{Cuboid, Warehouse};
 ghost use Rattle.warehouse_objects.specs.Represents.{root_of, said_of};
@@ -20,7 +20,7 @@ pub fn plan_of(alloc: Global, root: &Root, as_of: u32, query: &Query) -> Result<
     ensures plan { IfOk result (λ plan. (w : Warehouse) → root.now ≡ root_of w → IsPlanOf w as_of query.now plan) }
     ensures serves { IfOk result (ServesBy query.now) }
     ensures in_time { IfOk result (λ plan. mark_of plan ≤ as_of) }
-    ensures memory { IfErr result (λ fault. fault ≡ Memory) }
+    ensures memory { IsOkUnless result Memory }
 {
     let stored = stored_in(alloc, root)?;
     Ok(plan(query, stored.as_slice(), root.batches(), as_of))
@@ -34,7 +34,7 @@ pub fn plans_of(alloc: Global, root: &Root, as_of: u32, query: &Query) -> Result
     requires { as_of ≤ length root.now.batches }
     ensures plans { IfOk result (λ plans. (w : Warehouse) → root.now ≡ root_of w
         → ArePlansOf w as_of query.now plans.items) }
-    ensures memory { IfErr result (λ fault. fault ≡ Memory) }
+    ensures memory { IsOkUnless result Memory }
 {
     let stored = stored_in(alloc, root)?;
     let batches = root.batches();

@@ -1,5 +1,5 @@
 //! Lines in the order that is asked for.
-ghost use Rattle.std.specs.Prelude.{◌≡◌, ◌<◌, ◌≤◌, length, None, IfErr, IfOk, IsOk};
+ghost use Rattle.std.specs.Prelude.{◌≡◌, ◌<◌, ◌≤◌, length, None, IfOk, IsOk, IsOkUnless};
 ghost use Rattle.std.specs.List.{All, range_with_len};
 ghost use Rattle.std.specs.Option.{ForSome, option_map};
 ghost use Rattle.group_tallies.specs.GroupLines.{line_at};
@@ -43,7 +43,7 @@ impl<'a, L: Lines> Arranged<'a, L> {
         arrangement: Arrangement,
     ) -> Result<Arranged<'a, L>, Fault>
         ensures ok { IfOk result (λ found. shown L.Lines found ≡ arranged arrangement (L.lines lines.now)) }
-        ensures only { IfErr result (λ fault. fault ≡ Fault.Memory) }
+        ensures only { IsOkUnless result Fault.Memory }
         ensures free { arrangement.sorting ≡ None → IsOk result }
     {
         let places = places_for(alloc, lines, arrangement.sorting)?;

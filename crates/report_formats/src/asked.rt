@@ -1,5 +1,5 @@
 //! The report that is asked for.
-ghost use Rattle.std.specs.Prelude.{◌≡◌, slice_index_or, None, IfErr, IfOk, IsOk};
+ghost use Rattle.std.specs.Prelude.{◌≡◌, slice_index_or, None, IfOk, IsOk, IsOkUnless};
 ghost use Rattle.std.specs.List.{list_any};
 ghost use Rattle.cube_model.specs.Proper.{is_average};
 ghost use Rattle.cube_model.specs.declared.measure.Agg.TheVariants.{Count};
@@ -49,7 +49,7 @@ impl Asked {
     /// It can only fail when out of memory.
     pub fn new(alloc: Global, layout: Layout, query: ModeQuery) -> Result<Asked, Fault>
         ensures ok { IfOk result (λ asked. asked ≡ asked_for layout query) }
-        ensures only { IfErr result (λ fault. fault ≡ Fault.Memory) }
+        ensures only { IsOkUnless result Fault.Memory }
     {
         let aggregates = Vec::from_slice(alloc, query.query.aggregates.as_slice())?;
         let query = moded_query_for(alloc, layout, query)?;
@@ -89,7 +89,7 @@ impl Asked {
     ) -> Result<Arranged<'a, L>, Fault>
         ensures ok { IfOk result
             (λ found. shown L.Lines found ≡ arranged (arrangement_in self.now) (L.lines lines.now)) }
-        ensures only { IfErr result (λ fault. fault ≡ Fault.Memory) }
+        ensures only { IsOkUnless result Fault.Memory }
         ensures free { self.now.arrangement.sorting ≡ None → IsOk result }
     {
         Arranged::new(alloc, lines, self.arrangement_in())
@@ -146,7 +146,7 @@ impl Asked {
 
 fn moded_query_for(alloc: Global, layout: Layout, asked: ModeQuery) -> Result<ModeQuery, Fault>
     ensures ok { IfOk result (λ found. found ≡ moded_query_for layout asked) }
-    ensures only { IfErr result (λ fault. fault ≡ Fault.Memory) }
+    ensures only { IsOkUnless result Fault.Memory }
 {
     let ModeQuery {
         query,
@@ -163,7 +163,7 @@ fn moded_query_for(alloc: Global, layout: Layout, asked: ModeQuery) -> Result<Mo
 
 fn query_for(alloc: Global, layout: Layout, mut query: Query) -> Result<Query, Fault>
     ensures ok { IfOk result (λ found. found ≡ query_for layout query) }
-    ensures only { IfErr result (λ fault. fault ≡ Fault.Memory) }
+    ensures only { IsOkUnless result Fault.Memory }
 {
     if !layout.counts_averages() || !has_average(query.aggregates.as_slice()) {
         return Ok(query);
@@ -181,7 +181,7 @@ fn has_average(aggregates: &[Agg]) -> bool
 // Sums in place of averages, and the count of rows after all.
 fn with_count(alloc: Global, aggregates: &[Agg]) -> Result<Items<Agg>, Fault>
     ensures ok { IfOk result (λ list. list ≡ with_count aggregates.now) }
-    ensures only { IfErr result (λ fault. fault ≡ Fault.Memory) }
+    ensures only { IsOkUnless result Fault.Memory }
 {
     let mut list = Items::new(alloc);
     for agg in aggregates {

@@ -1,5 +1,5 @@
 //! The answer that is made of merged lines.
-ghost use Rattle.std.specs.Prelude.{◌≡◌, if◌then◌else◌, [], ◌∷◌, map, IfErr, IfOk, MatchOption};
+ghost use Rattle.std.specs.Prelude.{◌≡◌, if◌then◌else◌, [], ◌∷◌, map, IfErr, IfOk, MatchOption, IsOkUnless};
 ghost use Rattle.std.specs.List.{list_any};
 ghost use Rattle.cube_model.specs.declared.answer.Value.TheVariants.{Whole};
 ghost use Rattle.cube_model.specs.Proper.{is_average};
@@ -48,7 +48,7 @@ pub(crate) fn counted_lines(
         (λ found. narrow_lines found.items
         ≡ (if counts then map recounted_line (narrow_lines lines.items) else narrow_lines lines.items)) }
     ensures rise { IfOk result (λ found. Rise found.items) }
-    ensures only { IfErr result (λ fault. fault ≡ Fault.Memory) }
+    ensures only { IsOkUnless result Fault.Memory }
 {
     if counts {
         recounted(alloc, lines)
@@ -60,7 +60,7 @@ pub(crate) fn counted_lines(
 // The lines with the count of each once more after all numbers.
 fn recounted(alloc: Global, lines: Vec<WideLine>) -> Result<Vec<WideLine>, Fault>
     ensures ok { IfOk result (λ found. narrow_lines found.items ≡ map recounted_line (narrow_lines lines.items)) }
-    ensures only { IfErr result (λ fault. fault ≡ Fault.Memory) }
+    ensures only { IsOkUnless result Fault.Memory }
 {
     let mut found = Vec::new(alloc);
     for line in lines {
@@ -71,7 +71,7 @@ fn recounted(alloc: Global, lines: Vec<WideLine>) -> Result<Vec<WideLine>, Fault
 
 fn recounted_line(line: WideLine) -> Result<WideLine, Fault>
     ensures ok { IfOk result (λ found. narrow_line found ≡ recounted_line (narrow_line line)) }
-    ensures only { IfErr result (λ fault. fault ≡ Fault.Memory) }
+    ensures only { IsOkUnless result Fault.Memory }
 {
     let WideLine { key, mut numbers } = line;
     if let Some(count) = count_in(numbers.as_slice()) {

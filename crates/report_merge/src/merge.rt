@@ -1,5 +1,5 @@
 //! Partial reports merged.
-ghost use Rattle.std.specs.Prelude.{◌≡◌, ◌++◌, IfErr, IfNone, IfOk, IfSome, OnOk};
+ghost use Rattle.std.specs.Prelude.{◌≡◌, ◌++◌, IfErr, IfNone, IfOk, IfSome, OnOk, IsOkUnless};
 ghost use Rattle.partial_reports.specs.Finishing.{CanBeFinished, FinishRefuses};
 ghost use Rattle.partial_reports.specs.Parts.{partial_query};
 ghost use Rattle.partial_reports.specs.Wide.{narrow_lines};
@@ -164,7 +164,7 @@ impl Merge {
     pub fn finish(self, alloc: Global, layout: Layout) -> Result<(Asked, Answer), Fault>
         ensures asked { IfOk result (λ done. done.0 ≡ asked_for layout (without_modes self.query)) }
         ensures answer { IfOk result (λ done. done.1 ≡ finished_for layout self.query self.answer) }
-        ensures complete { CanBeFinished self.answer → IfErr result (λ fault. fault ≡ Fault.Memory) }
+        ensures complete { CanBeFinished self.answer → IsOkUnless result Fault.Memory }
         ensures refused { IfErr result
             (FinishRefuses (query_for layout self.query).aggregates (partial_for layout self.query self.answer).lines) }
     {

@@ -1,7 +1,7 @@
 // A disk in memory. It keeps what each write and sync took away, so that each earlier moment is known.
 ghost use Rattle.std.specs.Prelude.{◌≡◌, ◌+◌, ◌-◌, ◌^◌, ◌<◌, ℕ, [], ◌∷◌, length, drop, min, replicate, reverse, IsOk};
-ghost use Rattle.std.specs.Prelude.{IfOk};
-ghost use Rattle.std.specs.Prelude.{IfErr, OnOk, OnErr};
+ghost use Rattle.std.specs.Prelude.{IfOk, IsOkUnless};
+ghost use Rattle.std.specs.Prelude.{OnOk, OnErr};
 ghost use Rattle.sector_device.specs.Device.{IsImage, IsSettled, CandidatesStay, WritesSector, Syncs, CountsFailure};
 ghost use Rattle.sector_device.specs.Memory.{AreWhole};
 ghost use Rattle.sector_device.specs.Picks.{named};
@@ -49,7 +49,7 @@ impl MemDisk {
         ensures zeros { IfOk result (λ m. (i : ℕ) → i < count → (state_of m).reads i ≡ replicate 512 0) }
         ensures settled { IfOk result (λ m. IsSettled (state_of m)) }
         ensures fresh { IfOk result (λ m. (reads_of m ≡ 0) × (failures_of m ≡ 0)) }
-        ensures memory { IfErr result (λ e. e ≡ Fault.Memory) }
+        ensures memory { IsOkUnless result Fault.Memory }
     {
         let sectors = zeros(alloc, count)?;
         let room = Vec::from_elem(alloc, 0, count as usize)?;

@@ -1,5 +1,6 @@
 //! The groups over the text of the fact table.
-ghost use Rattle.std.specs.Prelude.{◌≡◌, ◌+◌, ◌≤◌, ◌++◌, ◌∷◌, [], ℕ, List, None, IfOk, IfErr, IfSome, OnOk, length};
+ghost use Rattle.std.specs.Prelude.{◌≡◌, ◌+◌, ◌≤◌, ◌++◌, ◌∷◌, [], ℕ, List, None, IfOk, IfSome, OnOk, length};
+ghost use Rattle.std.specs.Prelude.{IsOkUnless};
 ghost use Rattle.std.specs.Result.{result_err};
 ghost use Rattle.batch_admission.specs.Accepted.{HasAccepted};
 ghost use Rattle.batch_admission.specs.Found.{cause_of, found_in};
@@ -197,7 +198,7 @@ fn look_at_modes(
     ensures ok { OnOk result ((others earlier : List LineOrder) → before ≡ length earlier
         → HasMetRows found.now modes.old others earlier
         → HasMetRows found.now modes.new others (earlier ++ rows.now)) }
-    ensures memory { IfErr result (λ fault. fault ≡ Fault.Memory) }
+    ensures memory { IsOkUnless result Fault.Memory }
 {
     if found.early_cause().is_some() {
         return Ok(());
@@ -216,7 +217,7 @@ fn fold_piece(
     requires can { cause_of found.now ≡ None → CanTakeByModes dims.now fold.old rows }
     ensures ok { OnOk result (cause_of found.now ≡ None → TakesByModes dims.now fold.old rows fold.new) }
     ensures query { OnOk result (fold.new.asked ≡ fold.old.asked) }
-    ensures only { IfErr result (λ fault. fault ≡ Fault.Memory) }
+    ensures only { IsOkUnless result Fault.Memory }
 {
     if found.cause().is_some() {
         return Ok(rows);

@@ -1,5 +1,5 @@
 //! The ship modes of the fact rows, and the rows of a batch for which it is refused.
-ghost use Rattle.std.specs.Prelude.{◌≡◌, ◌+◌, ◌≤◌, ◌++◌, ◌∷◌, [], ℕ, List, length, IfErr, OnOk};
+ghost use Rattle.std.specs.Prelude.{◌≡◌, ◌+◌, ◌≤◌, ◌++◌, ◌∷◌, [], ℕ, List, length, OnOk, IsOkUnless};
 ghost use Rattle.cube_model.specs.Limits.{most_batch_rows};
 ghost use Rattle.cube_model.specs.ShipModes.{modes_in, reserved_place};
 ghost use Rattle.batch_admission.specs.ShipModes.{row_number_at};
@@ -60,7 +60,7 @@ impl ShipModes {
         requires few { before + length rows.now ≤ most_batch_rows }
         ensures ok { OnOk result ((earlier modes : List (List ℕ)) → before ≡ length modes
             → HasMet self.old earlier modes → HasMet self.new earlier (modes ++ modes_in rows.now)) }
-        ensures memory { IfErr result (λ fault. fault ≡ Fault.Memory) }
+        ensures memory { IsOkUnless result Fault.Memory }
     {
         for (place, row) in rows.iter().enumerate() {
             self.add(alloc, before + place as u32 + 1, row.shipmode.as_slice())?;
@@ -72,7 +72,7 @@ impl ShipModes {
     fn add(&mut self, alloc: Global, row: u32, mode: &[u8]) -> Result<(), Fault>
         ensures ok { OnOk result ((earlier modes : List (List ℕ)) → row ≡ length modes + 1
             → HasMet self.old earlier modes → HasMet self.new earlier (modes ++ mode.now ∷ [])) }
-        ensures memory { IfErr result (λ fault. fault ≡ Fault.Memory) }
+        ensures memory { IsOkUnless result Fault.Memory }
     {
         self.reserved = first_reserved(self.reserved, row, mode);
         if self.crowded.is_some() {

@@ -1,5 +1,5 @@
 //! The five tables while a query is answered over them. After a refusal they have what was refused.
-ghost use Rattle.std.specs.Prelude.{◌≡◌, None, Some, IfErr, IfNone, IfOk, IfSome, OnOk};
+ghost use Rattle.std.specs.Prelude.{◌≡◌, None, Some, IfErr, IfNone, IfOk, IfSome, OnOk, IsOkUnless};
 ghost use Rattle.dimension_tables.specs.Tables.{AreFresh, AreUnread, IsRefusedFor, KeepLines};
 ghost use Rattle.dimension_tables.specs.Texts.{GivesUnlessFailed, TableTexts, dimensions_of};
 ghost use Rattle.mode_folds.specs.Answered.{IsAnsweredOver};
@@ -81,7 +81,7 @@ impl<C: Read + Drop, S: Read + Drop, P: Read + Drop, D: Read + Drop, L: Read + D
             (L.remaining lineorder) texts
             → IsUnreadStar tables texts) }
         ensures fresh { IfOk result IsFresh }
-        ensures err { IfErr result (λ fault. fault ≡ Fault.Memory) }
+        ensures err { IsOkUnless result Fault.Memory }
     {
         Ok(Tables {
             dimensions: DimensionTables::new(alloc, customer, supplier, part, date)?,

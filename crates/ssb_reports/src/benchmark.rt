@@ -1,5 +1,5 @@
 //! The queries of the benchmark.
-ghost use Rattle.std.specs.Prelude.{◌≡◌, [], ◌∷◌, map, IfOk, IfErr};
+ghost use Rattle.std.specs.Prelude.{◌≡◌, [], ◌∷◌, map, IfOk, IsOkUnless};
 ghost use Rattle.ssb_reports.specs.Benchmark.{benchmark_query};
 ghost use Rattle.ssb_reports.specs.Filters.{condition_of};
 
@@ -11,7 +11,7 @@ use std::alloc::Global;
 /// The query of a number. It can only fail when out of memory.
 pub fn query_of(alloc: Global, number: QNumber) -> Result<Query, Fault>
     ensures ok { IfOk result (λ query. query ≡ benchmark_query number) }
-    ensures only { IfErr result (λ fault. fault ≡ Fault.Memory) }
+    ensures only { IsOkUnless result Fault.Memory }
 {
     let columns = Vec::from_slice(alloc, columns_of(number))?;
     let conditions = conditions_of(alloc, filters_of(number))?;
@@ -86,7 +86,7 @@ fn filters_of(number: QNumber) -> &'static [Filter]
 
 fn conditions_of(alloc: Global, filters: &[Filter]) -> Result<Items<Cond>, Fault>
     ensures ok { IfOk result (λ conditions. conditions ≡ map condition_of filters.now) }
-    ensures only { IfErr result (λ fault. fault ≡ Fault.Memory) }
+    ensures only { IsOkUnless result Fault.Memory }
 {
     let mut conditions = Items::new(alloc);
     for filter in filters {
@@ -97,7 +97,7 @@ fn conditions_of(alloc: Global, filters: &[Filter]) -> Result<Items<Cond>, Fault
 
 fn condition_of(alloc: Global, filter: Filter) -> Result<Cond, Fault>
     ensures ok { IfOk result (λ condition. condition ≡ condition_of filter) }
-    ensures only { IfErr result (λ fault. fault ≡ Fault.Memory) }
+    ensures only { IsOkUnless result Fault.Memory }
 {
     match filter {
         Filter::Is(attr, text) => one_of(alloc, attr, &[text]),
@@ -112,7 +112,7 @@ fn condition_of(alloc: Global, filter: Filter) -> Result<Cond, Fault>
 
 fn one_of(alloc: Global, attr: Attr, texts: &[&str]) -> Result<Cond, Fault>
     ensures ok { IfOk result (λ condition. condition ≡ Cond.OneOf attr (map (λ text. text.now) texts.now)) }
-    ensures only { IfErr result (λ fault. fault ≡ Fault.Memory) }
+    ensures only { IsOkUnless result Fault.Memory }
 {
     let mut list = Items::new(alloc);
     for text in texts {
@@ -123,7 +123,7 @@ fn one_of(alloc: Global, attr: Attr, texts: &[&str]) -> Result<Cond, Fault>
 
 fn text_of(alloc: Global, text: &str) -> Result<Text, Fault>
     ensures ok { IfOk result (λ copy. copy ≡ text.now) }
-    ensures only { IfErr result (λ fault. fault ≡ Fault.Memory) }
+    ensures only { IsOkUnless result Fault.Memory }
 {
     Ok(Items::from_vec(Vec::from_slice(alloc, text.as_bytes())?))
 }

@@ -15,6 +15,7 @@ use Rattle.cuboid_upkeep.specs.Lawful.{CellsAreTheOne}
 use Rattle.cuboid_upkeep.specs.Steps.{HaveTooMany}
 use Rattle.warehouse_root.specs.declared.cuboid.StoredCuboid.{StoredCuboid}
 use Rattle.warehouse_root.specs.Layouts.{view_count}
+use Rattle.stored_cuboids.specs.Grouped.{EndsGrouping}
 use Rattle.warehouse_objects.proofs.CallerLemmas.{own_view, view_within}
 use Rattle.warehouse_objects.specs.Represents.{IsLaidOut, said_of}
 use Rattle.warehouse_objects.specs.Warehouse.{Cuboid, Warehouse, cuboid_at, ship_modes_of}
@@ -98,11 +99,11 @@ ok_so P Q (Ok x) so is = so x is
 ok_so P Q (Err fault) so is = tt
 
 pub which_large : {X : Type 0} (result : Result X Fault) (n m : ℕ) → result ≡ Err (TooManyCells n)
-    → IfErr result (λ f. (f ≡ Memory) ⊎ ((f ≡ Device) ⊎ ((f ≡ BadLayout) ⊎ (f ≡ TooManyCells m))))
+    → IfErr result (EndsGrouping m)
     → result ≡ Err (TooManyCells m)
 which_large {X} result n m is causes =
     by (subst (λ (r : Result X Fault). IfErr r
-    (λ f. (f ≡ Memory) ⊎ ((f ≡ Device) ⊎ ((f ≡ BadLayout) ⊎ (f ≡ TooManyCells m))))) is causes)
+    (EndsGrouping m)) is causes)
   where
     by : (TooManyCells n ≡ Memory)
         ⊎ ((TooManyCells n ≡ Device) ⊎ ((TooManyCells n ≡ BadLayout) ⊎ (TooManyCells n ≡ TooManyCells m)))

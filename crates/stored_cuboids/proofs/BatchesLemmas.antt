@@ -15,7 +15,7 @@ use Rattle.lattice.specs.declared.view.View.{View}
 use Rattle.lattice.specs.Views.{index_of, mode_number}
 use Rattle.cuboid_cells.specs.Cells.{PlainCells}
 use Rattle.cuboid_upkeep.specs.Steps.{AreUnfit, HaveTooMany, IsAddFault}
-use Rattle.stored_cuboids.specs.Grouped.{IsAddFaultOf, RepresentSomeRows}
+use Rattle.stored_cuboids.specs.Grouped.{EndsGrouping, IsAddFaultOf, RepresentSomeRows}
 use Rattle.std.specs.List.{list_any}
 use Rattle.std.specs.Str.{bytes_eq}
 use Rattle.std.proofs.lemmas.List.Elements.{All-cons, All-head, All-nil, All-tail}
@@ -112,7 +112,7 @@ module _ (dimensions : DimRows) (modes : List (List ℕ)) (cells : PlainCells) (
 
   pub add_causes : (fault : Fault) → RepresentSomeRows dimensions modes cells
       → IsAddFaultOf dimensions modes cells rows fault
-      → (fault ≡ Memory) ⊎ ((fault ≡ Device) ⊎ ((fault ≡ BadLayout) ⊎ (fault ≡ TooManyCells (index_of cells.view))))
+      → EndsGrouping (index_of cells.view) fault
   add_causes fault some why =
       ⊎_elim (λ (memory : fault ≡ Memory). inl memory)
       (⊎_elim (λ bad. inr (inr (inl bad.0))) (λ many. inr (inr (inr many.0))))

@@ -10,6 +10,7 @@ use Rattle.lattice.proofs.Places.{one_view}
 use Rattle.object_store.specs.Content.{Content}
 use Rattle.warehouse_root.specs.declared.cuboid.StoredCuboid.{StoredCuboid}
 use Rattle.warehouse_root.specs.Root.{PlainRoot, with_cuboid}
+use Rattle.stored_cuboids.specs.Grouped.{EndsGrouping}
 use Rattle.warehouse_objects.specs.Warehouse.{Cuboid, Warehouse}
 use Rattle.warehouse_objects.specs.Represents.{Represents, root_of, said_of, AreItsMembers}
 use Rattle.stored_cuboids.specs.Nexts.{HasStored, IsBroughtBy, IsNextStep, EndsBringing, RefusesToBringOn}
@@ -102,15 +103,11 @@ bad_not_device fault bad is = let none : BadLayout ≡ Device = sym bad ∙ err_
 
 pub none_left : (fault : Fault) (number : ℕ) → (fault ≡ Memory → ⊥) → (fault ≡ Device → ⊥) → (fault ≡ BadLayout → ⊥)
     → (fault ≡ TooManyCells number → ⊥)
-    → (fault ≡ Memory) ⊎ ((fault ≡ Device) ⊎ ((fault ≡ BadLayout) ⊎ (fault ≡ TooManyCells number))) → ⊥
+    → EndsGrouping number fault → ⊥
 none_left fault number memory device bad many cause =
     ⊎_elim {C = ⊥} memory (⊎_elim {C = ⊥} device (⊎_elim {C = ⊥} bad many)) cause
 
--- why there is no next run
-abbrev pub IsNoNext : ℕ → Fault → Type 0
-IsNoNext number fault = (fault ≡ Memory) ⊎ ((fault ≡ Device) ⊎ ((fault ≡ BadLayout) ⊎ (fault ≡ TooManyCells number)))
-
-pub many_by_number : (fault : Fault) (number : ℕ) → number_of fault ≡ 26 → IsNoNext number fault
+pub many_by_number : (fault : Fault) (number : ℕ) → number_of fault ≡ 26 → EndsGrouping number fault
     → fault ≡ TooManyCells number
 many_by_number fault number is cause =
     ⊎_elim {C = fault ≡ TooManyCells number}
@@ -121,7 +118,7 @@ many_by_number fault number is cause =
     (λ (bad : fault ≡ BadLayout). absurd (omega (arith, is, ap number_of bad)))
     (λ many. many))) cause
 
-pub never_failed : {X : Type 0} (fault : Fault) (number : ℕ) → IsNoNext number fault
+pub never_failed : {X : Type 0} (fault : Fault) (number : ℕ) → EndsGrouping number fault
     → IsErrOf {T = X} (Err fault) Failed → ⊥
 never_failed fault number cause is =
     let failed = ap number_of (err_fault fault Failed is) in
@@ -151,7 +148,7 @@ ends_refused c room puts drops root fault causes =
     (device_or fault)
 
 -- so does what was not read
-pub ends_unread : (fault : Fault) (number : ℕ) → (fault ≡ TooManyCells number → ⊥) → IsNoNext number fault
+pub ends_unread : (fault : Fault) (number : ℕ) → (fault ≡ TooManyCells number → ⊥) → EndsGrouping number fault
     → EndsBringing fault
 ends_unread fault number many =
     ⊎_elim {C = EndsBringing fault} (λ memory. inl memory)

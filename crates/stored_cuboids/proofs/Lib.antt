@@ -11,6 +11,7 @@ mod Replaced
 pub mod Represented
 pub mod AuditLemmas
 mod Spans
+mod StoreCalls
 mod KeepingLemmas
 pub mod StoredRuns
 mod NextsLemmas

@@ -1,6 +1,7 @@
 -- Grouping a batch of a store into cells. Our own.
-use Rattle.std.specs.Prelude.{◌≡◌, ℕ, List, ◌++◌, Some, slice_get}
+use Rattle.std.specs.Prelude.{◌≡◌, ◌⊎◌, ℕ, List, ◌++◌, Some, slice_get}
 use Rattle.cube_model.specs.declared.fault.Fault.{Fault}
+use Rattle.cube_model.specs.declared.fault.Fault.TheVariants.{BadLayout, Device, Memory, TooManyCells}
 use Rattle.cube_model.specs.declared.rows.DimRows.{DimRows}
 use Rattle.cube_model.specs.declared.rows.LineOrder.{LineOrder}
 use Rattle.object_store.specs.Content.{Content}
@@ -32,3 +33,8 @@ pub record GroupsBatch (dimensions : DimRows) (modes : List (List ℕ)) (old new
 abbrev pub IsAddFaultOf : DimRows → List (List ℕ) → PlainCells → List LineOrder → Fault → Type 0
 IsAddFaultOf dimensions modes old rows fault = (so_far : List LineOrder) → RepresentRows dimensions modes so_far old
     → IsAddFault dimensions modes old.view (so_far ++ rows) fault
+
+-- with which faults the grouping of batches by the view of a number is refused
+abbrev pub EndsGrouping : ℕ → Fault → Type 0
+EndsGrouping number fault =
+    (fault ≡ Memory) ⊎ ((fault ≡ Device) ⊎ ((fault ≡ BadLayout) ⊎ (fault ≡ TooManyCells number)))

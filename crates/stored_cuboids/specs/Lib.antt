@@ -1,3 +1,4 @@
+pub mod Calls
 pub mod Counted
 pub mod Grouped
 pub mod Keeping

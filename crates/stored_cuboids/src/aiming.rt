@@ -1,12 +1,13 @@
 //! The commit that sets the target of the stored cuboids.
 ghost use Rattle.std.specs.Prelude.{◌≡◌, ◌≢◌, ◌⊎◌, ◌+◌, [], false, IfErr, IsErrOf, OnErr, OnOk};
-ghost use Rattle.cube_model.specs.declared.fault.Fault.TheVariants.{Device, Failed};
+ghost use Rattle.cube_model.specs.declared.fault.Fault.TheVariants.{Device};
 ghost use Rattle.object_store.specs.Disk.{Leaves};
-ghost use Rattle.object_store.specs.Store.{Breaks, IsAsBefore, Refuses, content_of, device_of, disk_of, has_failed};
+ghost use Rattle.object_store.specs.Store.{IsAsBefore, Refuses, content_of, device_of, disk_of, has_failed};
 ghost use Rattle.object_store.specs.Store.{room_of};
 ghost use Rattle.warehouse_root.specs.Root as roots;
 ghost use Rattle.warehouse_objects.specs.Represents.{Represents, root_of};
 ghost use Rattle.warehouse_objects.specs.Warehouse.{aimed};
+ghost use Rattle.stored_cuboids.specs.Calls.{CallsStore};
 ghost use Rattle.stored_cuboids.specs.Keeping.{ForStored, StaysLoaded, StoreAt};
 
 use crate::replacing::replace_root;
@@ -33,8 +34,6 @@ pub fn aim<D: Sectors>(alloc: Global, store: &mut Store<D>, root: &mut Root) -> 
         (ForStored D.Sectors store.old root.old (λ w. StoreAt D.Sectors store.new root.new (aimed w))) }
     ensures once { OnOk result (D.keeps_word (device_of store.new)
         → (content_of D.Sectors store.new).generation ≡ (content_of D.Sectors store.old).generation + 1) }
-    ensures fine { OnOk result (has_failed store.new ≡ false) }
-    ensures failures { OnOk result ((disk_of D.Sectors store.new).failures ≡ (disk_of D.Sectors store.old).failures) }
 
     // What a refusal leaves, and when it comes.
     ensures refused { IfErr result
@@ -49,12 +48,10 @@ pub fn aim<D: Sectors>(alloc: Global, store: &mut Store<D>, root: &mut Root) -> 
         → ForStored D.Sectors store.old root.old (λ w. D.keeps_word (device_of store.new)
         → Refuses (content_of D.Sectors store.old) (room_of store.old) [] [] (roots.root_spelling (root_of (aimed w)))
         fault)) }
-    ensures failed { IsErrOf result Failed → ⊥ }
-    ensures device { IsErrOf result Device → Breaks D.Sectors store.old store.new }
+    ensures calls { CallsStore D.Sectors (IsErrOf result) store.old store.new }
 
     // Also after an error.
     ensures loaded { StaysLoaded D.Sectors store.old store.new root.old root.new }
-    ensures word { D.keeps_word (device_of store.new) → D.keeps_word (device_of store.old) }
 {
     let next = match root.with_target(alloc, root.batches().len() as u32) {
         Ok(next) => next,

@@ -1,7 +1,7 @@
 //! Grouping the batches of a store by a view.
-ghost use Rattle.std.specs.Prelude.{◌≡◌, ◌⊎◌, ◌<◌, ◌≤◌, List, Some, false, length, slice_get, IfErr, IfOk, IsErrOf};
+ghost use Rattle.std.specs.Prelude.{◌≡◌, ◌<◌, ◌≤◌, List, Some, false, length, slice_get, IfErr, IfOk, IsErrOf};
 ghost use Rattle.std.specs.Prelude.{OnOk};
-ghost use Rattle.cube_model.specs.declared.fault.Fault.TheVariants.{BadLayout, Device, Memory, TooManyCells};
+ghost use Rattle.cube_model.specs.declared.fault.Fault.TheVariants.{BadLayout, Device, TooManyCells};
 ghost use Rattle.cube_model.specs.declared.rows.LineOrder.{LineOrder};
 ghost use Rattle.cube_model.specs.Limits.{most_batch_rows, most_batches};
 ghost use Rattle.object_store.specs.Store.{content_of, device_of, has_failed};
@@ -13,7 +13,7 @@ ghost use Rattle.warehouse_objects.specs.Reads.{ForLaidWith, ReadsOnly};
 ghost use Rattle.warehouse_objects.specs.Represents.{AreItsMembers, IsLaidOut, rows_in};
 ghost use Rattle.warehouse_root.specs.Layouts.{view_count};
 ghost use Rattle.cuboid_upkeep.specs.Growing.{GrowOver, grown};
-ghost use Rattle.stored_cuboids.specs.Grouped.{GroupsBatch, GroupsMore, IsAddFaultOf, RepresentSomeRows};
+ghost use Rattle.stored_cuboids.specs.Grouped.{EndsGrouping, GroupsBatch, GroupsMore, IsAddFaultOf, RepresentSomeRows};
 
 use column_segment::Segment;
 use cube_model::Fault;
@@ -61,9 +61,7 @@ pub fn cells_of_batches<D: Sectors>(
 
     // The content stays, at each moment.
     ensures reads { ReadsOnly D.Sectors store.old store.new result }
-    ensures causes { IfErr result
-        (λ fault. (fault ≡ Memory)
-        ⊎ ((fault ≡ Device) ⊎ ((fault ≡ BadLayout) ⊎ (fault ≡ TooManyCells (index_of view))))) }
+    ensures causes { IfErr result (EndsGrouping (index_of view)) }
 {
     let batches = root.batches();
     let mut cells = GrowingCells::new(alloc, dims, view)?;
@@ -98,9 +96,7 @@ fn add_batch<D: Sectors>(
         → slice_get w.batches before ≡ Some batch → count ≡ length batch
         → IsAddFaultOf dims.now modes.now (grown cells.old) batch fault) }
     ensures reads { ReadsOnly D.Sectors store.old store.new result }
-    ensures causes { IfErr result
-        (λ fault. (fault ≡ Memory)
-        ⊎ ((fault ≡ Device) ⊎ ((fault ≡ BadLayout) ⊎ (fault ≡ TooManyCells (index_of (grown cells.old).view))))) }
+    ensures causes { IfErr result (EndsGrouping (index_of (grown cells.old).view)) }
 {
     let number = before + 1;
     let bytes = read_object(alloc, store, segment_id(number))?;

@@ -1,18 +1,19 @@
 //! Bringing one stored cuboid to the target.
 ghost use Rattle.std.specs.Prelude.{◌≡◌, ◌≢◌, ◌⊎◌, ◌↔◌, ◌<◌, ◌≤◌, ◌∷◌, [], All, Some, false, length, slice_get, IfErr};
 ghost use Rattle.std.specs.Prelude.{IfOk, IsErrOf, IsTrue, OnErr, OnOk, List, ℕ};
-ghost use Rattle.cube_model.specs.declared.fault.Fault.TheVariants.{BadLayout, Device, Failed, Memory, TooManyCells};
+ghost use Rattle.cube_model.specs.declared.fault.Fault.TheVariants.{BadLayout, Device, Memory, TooManyCells};
 ghost use Rattle.cube_model.specs.FaultNumbers.{number_of};
 ghost use Rattle.cube_model.specs.declared.rows.DimRows.{DimRows};
 ghost use Rattle.object_store.specs.Commit.{ArePuts};
 ghost use Rattle.object_store.specs.Disk.{Leaves};
-ghost use Rattle.object_store.specs.Store.{Breaks, IsAsBefore, Refuses, content_of, device_of, disk_of, has_failed};
+ghost use Rattle.object_store.specs.Store.{IsAsBefore, Refuses, content_of, device_of, disk_of, has_failed};
 ghost use Rattle.object_store.specs.Store.{room_of};
 ghost use Rattle.lattice.specs.Views.{index_of};
 ghost use Rattle.warehouse_root.specs.Root.{IsProperCuboid, IsRoot};
 ghost use Rattle.warehouse_objects.specs.Loaded.{IsLoaded};
 ghost use Rattle.warehouse_objects.specs.Represents.{AreItsMembers, Represents};
 ghost use Rattle.warehouse_objects.specs.Warehouse.{Cuboid, Warehouse};
+ghost use Rattle.stored_cuboids.specs.Calls.{CallsStore};
 ghost use Rattle.stored_cuboids.specs.Keeping.{ForStored, ForStoredWith, IsCaughtUp, IsReached, StaysLoaded, StoreAt};
 ghost use Rattle.stored_cuboids.specs.Nexts.{EndsBringing, IsBroughtBy, RefusesToBringOn, first_run};
 
@@ -50,8 +51,6 @@ pub(crate) fn bring_on<D: Sectors>(
         → D.keeps_word (device_of store.new) → AreItsMembers v dims.now modes.now
         → (cuboid : Cuboid) → slice_get v.cuboids place ≡ Some cuboid → IsReached passed v cuboid) }
     ensures many { length root.new.cuboids ≡ length root.old.cuboids }
-    ensures fine { OnOk result (has_failed store.new ≡ false) }
-    ensures failures { OnOk result ((disk_of D.Sectors store.new).failures ≡ (disk_of D.Sectors store.old).failures) }
     ensures reason { IfErr result (λ fault. fault ≢ Device → fault ≢ Memory → D.keeps_word (device_of store.new)
         → ForStoredWith D.Sectors store.old root.old dims.now modes.now
         (λ w. (next : RefusesToBringOn D.Sectors store.new w fault) × (slice_get w.cuboids place ≡ Some next.old))) }
@@ -61,10 +60,8 @@ pub(crate) fn bring_on<D: Sectors>(
     ensures readable { IsErrOf result BadLayout → D.keeps_word (device_of store.new)
         → ForStoredWith D.Sectors store.old root.old dims.now modes.now (λ w. ⊥) }
     ensures causes { IfErr result EndsBringing }
-    ensures failed { IsErrOf result Failed → ⊥ }
-    ensures device { IsErrOf result Device → Breaks D.Sectors store.old store.new }
+    ensures calls { CallsStore D.Sectors (IsErrOf result) store.old store.new }
     ensures loaded { StaysLoaded D.Sectors store.old store.new root.old root.new }
-    ensures word { D.keeps_word (device_of store.new) → D.keeps_word (device_of store.old) }
 {
     let (cuboid, view) = cuboid_at(root, place);
     if root.target() <= cuboid.mark {
@@ -121,17 +118,13 @@ fn put_next<D: Sectors>(
         → next.root.layout ≡ root.old.layout → IsLoaded (content_of D.Sectors store.new) rows modes root.new) }
     ensures root { OnOk result (root.new ≡ next.root) }
     ensures unchanged { OnErr result (root.new ≡ root.old) }
-    ensures fine { OnOk result (has_failed store.new ≡ false) }
-    ensures failures { OnOk result ((disk_of D.Sectors store.new).failures ≡ (disk_of D.Sectors store.old).failures) }
     ensures refused { IfErr result (λ fault. fault ≢ Device → IsAsBefore D.Sectors store.old store.new) }
     ensures causes { IfErr result (λ fault. fault ≢ Device → (fault ≡ BadLayout)
         ⊎ Refuses (content_of D.Sectors store.old) (room_of store.old)
         ((next.id, next.bytes.items) ∷ []) next.drops.items next.root_bytes.items fault) }
     ensures readable { IsErrOf result BadLayout → D.keeps_word (device_of store.new)
         → ForStored D.Sectors store.old root.old (λ w. ⊥) }
-    ensures failed { IsErrOf result Failed → ⊥ }
-    ensures device { IsErrOf result Device → Breaks D.Sectors store.old store.new }
-    ensures word { D.keeps_word (device_of store.new) → D.keeps_word (device_of store.old) }
+    ensures calls { CallsStore D.Sectors (IsErrOf result) store.old store.new }
 {
     if store.objects() as usize >= MOST_OBJECTS {
         return Err(Fault::BadLayout); // more than a warehouse has

@@ -1,11 +1,12 @@
 //! Bringing stored cuboids to their target.
-ghost use Rattle.std.specs.Prelude.{◌≡◌, ◌≢◌, ◌+◌, ◌-◌, ◌^◌, min, false, true, IfErr};
+ghost use Rattle.std.specs.Prelude.{◌≡◌, ◌≢◌, ◌-◌, false, IfErr};
 ghost use Rattle.std.specs.Prelude.{IfOk, IsErrOf};
-ghost use Rattle.cube_model.specs.declared.fault.Fault.TheVariants.{BadLayout, Device, Failed, Memory};
+ghost use Rattle.cube_model.specs.declared.fault.Fault.TheVariants.{BadLayout, Device, Memory};
 ghost use Rattle.object_store.specs.Disk.{Leaves};
 ghost use Rattle.object_store.specs.Store.{device_of, disk_of, has_failed};
 ghost use Rattle.warehouse_objects.specs.Represents.{Represents};
 ghost use Rattle.warehouse_objects.specs.Warehouse.{Warehouse};
+ghost use Rattle.stored_cuboids.specs.Calls.{CallsStore};
 ghost use Rattle.stored_cuboids.specs.Keeping.{ForStoredWith, IsCaughtUp, IsDone, StaysLoaded, StoreAt};
 ghost use Rattle.stored_cuboids.specs.Nexts.{EndsBringing, RefusesLeast};
 
@@ -54,13 +55,10 @@ pub fn catch_up<D: Sectors>(
     ensures readable { IsErrOf result BadLayout → D.keeps_word (device_of store.new)
         → ForStoredWith D.Sectors store.old root.old dims.now modes.now (λ w. ⊥) }
     ensures causes { IfErr result EndsBringing }
-    ensures failed { IsErrOf result Failed → ⊥ }
-    ensures device { IsErrOf result Device → (has_failed store.new ≡ true)
-        × ((disk_of D.Sectors store.new).failures ≡ min ((disk_of D.Sectors store.old).failures + 1) (2 ^ 64 - 1)) }
+    ensures calls { CallsStore D.Sectors (IsErrOf result) store.old store.new }
 
     // What is kept in memory stays that of the content.
     ensures loaded { StaysLoaded D.Sectors store.old store.new root.old root.new }
-    ensures word { D.keeps_word (device_of store.new) → D.keeps_word (device_of store.old) }
 {
     let count = root.cuboids().len();
     let mut first = None;

@@ -1,17 +1,18 @@
 //! The commit that brings a stored cuboid on.
 ghost use Rattle.std.specs.Prelude.{ℕ};
 ghost use Rattle.std.specs.Prelude.{◌≡◌, ◌≢◌, ◌⊎◌, ◌<◌, ◌≤◌, ◌∷◌, [], All, false, length, IfErr, IsErrOf, OnOk, List};
-ghost use Rattle.cube_model.specs.declared.fault.Fault.TheVariants.{Device, Failed};
+ghost use Rattle.cube_model.specs.declared.fault.Fault.TheVariants.{Device};
 ghost use Rattle.cube_model.specs.declared.rows.DimRows.{DimRows};
 ghost use Rattle.wire.specs.Limits.{most_objects};
 ghost use Rattle.object_store.specs.Commit.{ArePuts};
 ghost use Rattle.object_store.specs.Disk.{Leaves};
-ghost use Rattle.object_store.specs.Store.{Breaks, IsAsBefore, Refuses, content_of, device_of, disk_of, has_failed};
+ghost use Rattle.object_store.specs.Store.{IsAsBefore, Refuses, content_of, device_of, disk_of, has_failed};
 ghost use Rattle.object_store.specs.Store.{room_of};
 ghost use Rattle.warehouse_root.specs.Root.{IsRoot, PlainRoot};
 ghost use Rattle.warehouse_objects.specs.Loaded.{IsLoaded};
 ghost use Rattle.warehouse_objects.specs.Represents.{Represents};
 ghost use Rattle.warehouse_objects.specs.Warehouse.{Cuboid, StoredRun, Warehouse, kept};
+ghost use Rattle.stored_cuboids.specs.Calls.{CallsStore};
 ghost use Rattle.stored_cuboids.specs.Keeping.{StoreAt};
 ghost use Rattle.stored_cuboids.specs.Nexts.{BringsOn, first_run};
 
@@ -61,19 +62,13 @@ pub fn keep_one<D: Sectors>(alloc: Global, store: &mut Store<D>, next: &Next) ->
         → (rows : DimRows) (modes : List (List ℕ)) (root : PlainRoot)
         → IsLoaded (content_of D.Sectors store.old) rows modes root
         → next.now.root.layout ≡ root.layout → IsLoaded (content_of D.Sectors store.new) rows modes next.now.root) }
-    ensures fine { OnOk result (has_failed store.new ≡ false) }
-    ensures failures { OnOk result ((disk_of D.Sectors store.new).failures ≡ (disk_of D.Sectors store.old).failures) }
 
     // What a refusal leaves, and when it comes.
     ensures refused { IfErr result (λ fault. fault ≢ Device → IsAsBefore D.Sectors store.old store.new) }
     ensures causes { IfErr result
         (λ fault. fault ≢ Device → Refuses (content_of D.Sectors store.old) (room_of store.old)
         ((next.now.id, next.now.bytes.items) ∷ []) next.now.drops.items next.now.root_bytes.items fault) }
-    ensures failed { IsErrOf result Failed → ⊥ }
-    ensures device { IsErrOf result Device → Breaks D.Sectors store.old store.new }
-
-    // Also after an error.
-    ensures word { D.keeps_word (device_of store.new) → D.keeps_word (device_of store.old) }
+    ensures calls { CallsStore D.Sectors (IsErrOf result) store.old store.new }
 {
     let puts = [(next.id, next.bytes.as_slice())];
     match store.commit(

@@ -1,5 +1,5 @@
 //! Making what a commit puts to bring a stored cuboid on.
-ghost use Rattle.std.specs.Prelude.{◌≡◌, ◌<◌, ◌≤◌, ◌+◌, ◌-◌, ◌↔◌, length, take, IfErr, IfOk, IsTrue};
+ghost use Rattle.std.specs.Prelude.{◌≡◌, ◌<◌, ◌≤◌, ◌+◌, ◌-◌, ◌↔◌, length, take, IfOk, IsTrue, IsOkUnless};
 ghost use Rattle.std.specs.List.{range_with_len};
 ghost use Rattle.cube_model.specs.declared.fault.Fault.TheVariants.{Memory};
 ghost use Rattle.cube_model.specs.Admission.{all_rows};
@@ -46,7 +46,7 @@ pub(crate) fn appended(
     ensures ok { IfOk result
         (IsNextStep (λ w. RepresentRows w.rows (ship_modes_of w) (rows_in w.batches span) tail.now) root.now cuboid
         span.to) }
-    ensures memory { IfErr result (λ fault. fault ≡ Memory) }
+    ensures memory { IsOkUnless result Memory }
 {
     let after = StoredCuboid {
         view: cuboid.view,
@@ -74,7 +74,7 @@ pub(crate) fn replaced(
         (IsNextStep (λ w. RepresentRows w.rows (ship_modes_of w) (all_rows (take mark w.batches)) cells.now) root.now
         cuboid
         mark) }
-    ensures memory { IfErr result (λ fault. fault ≡ Memory) }
+    ensures memory { IsOkUnless result Memory }
 {
     let after = StoredCuboid {
         view: cuboid.view,
@@ -98,7 +98,7 @@ pub(crate) fn replaced(
 // The ids of the runs of a cuboid after the first.
 fn later_runs(alloc: Global, cuboid: StoredCuboid) -> Result<Vec<u32>, Fault>
     ensures ok { IfOk result (λ ids. ids.items ≡ range_with_len (run_id cuboid.view 1) (cuboid.runs - 1)) }
-    ensures memory { IfErr result (λ fault. fault ≡ Memory) }
+    ensures memory { IsOkUnless result Memory }
 {
     let mut ids = Vec::new(alloc);
     for run in 1..cuboid.runs {
@@ -120,7 +120,7 @@ fn made(
     requires proper { IsProperCuboid root.now.layout (length root.now.batches) after }
     requires some { span.from < span.to }
     ensures ok { IfOk result (IsMade root.now after id span cells.now drops.items) }
-    ensures memory { IfErr result (λ fault. fault ≡ Memory) }
+    ensures memory { IsOkUnless result Memory }
 {
     let bytes = cells.encode(alloc, span)?;
     let root = root.with_cuboid(alloc, after)?;

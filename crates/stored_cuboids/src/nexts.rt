@@ -1,7 +1,7 @@
 //! The next run of a stored cuboid.
-ghost use Rattle.std.specs.Prelude.{◌≡◌, ◌⊎◌, ◌<◌, ◌≤◌, ◌++◌, ◌^◌, Some, List, false, length, take, IfErr, IfOk};
+ghost use Rattle.std.specs.Prelude.{◌≡◌, ◌<◌, ◌≤◌, ◌++◌, ◌^◌, Some, List, false, length, take, IfErr, IfOk};
 ghost use Rattle.std.specs.Prelude.{IsErrOf};
-ghost use Rattle.cube_model.specs.declared.fault.Fault.TheVariants.{BadLayout, Device, Memory, TooManyCells};
+ghost use Rattle.cube_model.specs.declared.fault.Fault.TheVariants.{BadLayout, TooManyCells};
 ghost use Rattle.cube_model.specs.declared.rows.LineOrder.{LineOrder};
 ghost use Rattle.cube_model.specs.Admission.{AreInRange, all_rows};
 ghost use Rattle.object_store.specs.Store.{content_of, device_of, has_failed};
@@ -12,6 +12,7 @@ ghost use Rattle.warehouse_root.specs.Root.{IsProperCuboid};
 ghost use Rattle.warehouse_objects.specs.Reads.{ReadsOnly};
 ghost use Rattle.warehouse_objects.specs.Represents.{AreItsMembers, Represents, rows_in, said_of};
 ghost use Rattle.warehouse_objects.specs.Warehouse.{Cuboid, Warehouse, cuboid_at, ship_modes_of};
+ghost use Rattle.stored_cuboids.specs.Grouped.{EndsGrouping};
 ghost use Rattle.stored_cuboids.specs.Keeping.{IsTooLarge};
 ghost use Rattle.stored_cuboids.specs.Nexts.{HasStored, IsNextStep};
 
@@ -62,9 +63,7 @@ pub(crate) fn next_of<D: Sectors>(
 
     // The content stays, at each moment.
     ensures reads { ReadsOnly D.Sectors store.old store.new result }
-    ensures causes { IfErr result
-        (λ fault. (fault ≡ Memory)
-        ⊎ ((fault ≡ Device) ⊎ ((fault ≡ BadLayout) ⊎ (fault ≡ TooManyCells (index_of view))))) }
+    ensures causes { IfErr result (EndsGrouping (index_of view)) }
 {
     let span = Span {
         from: cuboid.mark,
@@ -104,9 +103,7 @@ fn next_run<D: Sectors>(
         → Represents (content_of D.Sectors store.old) w → HasStored root.now cuboid w stored
         → RepresentRows w.rows (ship_modes_of w) (rows_in w.batches span) tail.now → ⊥ }
     ensures reads { ReadsOnly D.Sectors store.old store.new result }
-    ensures causes { IfErr result
-        (λ fault. (fault ≡ Memory)
-        ⊎ ((fault ≡ Device) ⊎ ((fault ≡ BadLayout) ⊎ (fault ≡ TooManyCells (index_of tail.now.view))))) }
+    ensures causes { IfErr result (EndsGrouping (index_of tail.now.view)) }
 {
     if has_room(cuboid, tail.as_slice().len()) {
         return appended(alloc, root, cuboid, tail, span);
@@ -147,9 +144,7 @@ fn merged_with<D: Sectors>(
         → AreInRange (all_rows (take cuboid.mark w.batches) ++ rows)
         → length (all_rows (take cuboid.mark w.batches) ++ rows) < 2 ^ 63 → ⊥ }
     ensures reads { ReadsOnly D.Sectors store.old store.new result }
-    ensures causes { IfErr result
-        (λ fault. (fault ≡ Memory)
-        ⊎ ((fault ≡ Device) ⊎ ((fault ≡ BadLayout) ⊎ (fault ≡ TooManyCells (index_of tail.now.view))))) }
+    ensures causes { IfErr result (EndsGrouping (index_of tail.now.view)) }
 {
     let mut cells = match merged_runs(alloc, store, cuboid) {
         Ok(cells) => cells,

@@ -1,14 +1,15 @@
 //! The commit of another root.
 ghost use Rattle.std.specs.Prelude.{List, ℕ};
 ghost use Rattle.std.specs.Prelude.{◌≡◌, ◌≢◌, ◌⊎◌, ◌<◌, ◌≤◌, [], All, false, length, IfErr, IsErrOf, OnErr, OnOk};
-ghost use Rattle.cube_model.specs.declared.fault.Fault.TheVariants.{BadLayout, Device, Failed};
+ghost use Rattle.cube_model.specs.declared.fault.Fault.TheVariants.{BadLayout, Device};
 ghost use Rattle.cube_model.specs.declared.rows.DimRows.{DimRows};
 ghost use Rattle.wire.specs.Limits.{most_objects};
 ghost use Rattle.object_store.specs.Disk.{Leaves};
-ghost use Rattle.object_store.specs.Store.{Breaks, IsAsBefore, IsOneOf, Refuses, content_of, device_of, disk_of};
+ghost use Rattle.object_store.specs.Store.{IsAsBefore, IsOneOf, Refuses, content_of, device_of, disk_of};
 ghost use Rattle.object_store.specs.Store.{has_failed, room_of};
 ghost use Rattle.warehouse_root.specs.Root.{root_spelling};
 ghost use Rattle.warehouse_objects.specs.Loaded.{IsLoaded};
+ghost use Rattle.stored_cuboids.specs.Calls.{CallsStore};
 ghost use Rattle.stored_cuboids.specs.Nexts.{first_run};
 ghost use Rattle.stored_cuboids.specs.Replacing.{content_replaced};
 
@@ -43,8 +44,6 @@ pub(crate) fn replace_root<D: Sectors>(
     ensures loaded { OnOk result (D.keeps_word (device_of store.new) → (rows : DimRows) (modes : List (List ℕ))
         → IsLoaded (content_of D.Sectors store.old) rows modes root.old
         → IsLoaded (content_of D.Sectors store.new) rows modes root.new) }
-    ensures fine { OnOk result (has_failed store.new ≡ false) }
-    ensures failures { OnOk result ((disk_of D.Sectors store.new).failures ≡ (disk_of D.Sectors store.old).failures) }
 
     // What a refusal leaves, and when it comes.
     ensures kept { OnErr result (root.new ≡ root.old) }
@@ -53,11 +52,7 @@ pub(crate) fn replace_root<D: Sectors>(
         (λ fault. fault ≢ Device
         → ((fault ≡ BadLayout) × (most_objects < length (content_of D.Sectors store.old).objects))
         ⊎ Refuses (content_of D.Sectors store.old) (room_of store.old) [] drops.now (root_spelling next) fault) }
-    ensures failed { IsErrOf result Failed → ⊥ }
-    ensures device { IsErrOf result Device → Breaks D.Sectors store.old store.new }
-
-    // Also after an error.
-    ensures word { D.keeps_word (device_of store.new) → D.keeps_word (device_of store.old) }
+    ensures calls { CallsStore D.Sectors (IsErrOf result) store.old store.new }
 {
     if store.objects() as usize > MOST_OBJECTS {
         return Err(Fault::BadLayout);

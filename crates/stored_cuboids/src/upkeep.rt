@@ -1,10 +1,11 @@
 //! Bringing all stored cuboids to all batches.
 ghost use Rattle.std.specs.Prelude.{◌≡◌, ◌≢◌, ◌↔◌, All, IsTrue, false, IfErr, IfOk, IsErrOf};
-ghost use Rattle.cube_model.specs.declared.fault.Fault.TheVariants.{BadLayout, Device, Failed};
+ghost use Rattle.cube_model.specs.declared.fault.Fault.TheVariants.{Device};
 ghost use Rattle.object_store.specs.Disk.{Leaves};
-ghost use Rattle.object_store.specs.Store.{Breaks, device_of, disk_of, has_failed};
+ghost use Rattle.object_store.specs.Store.{device_of, disk_of, has_failed};
 ghost use Rattle.warehouse_objects.specs.Represents.{Represents};
 ghost use Rattle.warehouse_objects.specs.Warehouse.{Warehouse};
+ghost use Rattle.stored_cuboids.specs.Calls.{CallsStore};
 ghost use Rattle.stored_cuboids.specs.Keeping.{ForStoredWith, IsKeptUp, StaysLoaded, StoreAt};
 ghost use Rattle.stored_cuboids.specs.Upkeep.{AreWholeBut, KeepUpRefuses};
 
@@ -52,12 +53,10 @@ pub fn keep_up<D: Sectors>(
         → ForStoredWith D.Sectors store.old root.old dims.now modes.now
         (λ w. (v : Warehouse) × IsKeptUp w v × StoreAt D.Sectors store.new root.new v
         × (D.keeps_word (device_of store.new) → KeepUpRefuses D.Sectors store.new v fault))) }
-    ensures failed { IsErrOf result Failed → ⊥ }
-    ensures device { IsErrOf result Device → Breaks D.Sectors store.old store.new }
+    ensures calls { CallsStore D.Sectors (IsErrOf result) store.old store.new }
 
     // What is kept in memory stays that of the content.
     ensures loaded { StaysLoaded D.Sectors store.old store.new root.old root.new }
-    ensures word { D.keeps_word (device_of store.new) → D.keeps_word (device_of store.old) }
 {
     if are_whole(root.cuboids(), root.batches().len() as u32) {
         return Ok(None);

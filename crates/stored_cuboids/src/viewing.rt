@@ -1,15 +1,16 @@
 //! The commit that chooses which cuboids are stored.
 ghost use Rattle.std.specs.Prelude.{◌≡◌, ◌≢◌, ◌⊎◌, ◌≤◌, ◌==◌, ◌+◌, [], false, length, IfErr, IfOk, IsErrOf, OnErr};
-ghost use Rattle.std.specs.Prelude.{OnOk};
+ghost use Rattle.std.specs.Prelude.{OnOk, IsOkUnless};
 ghost use Rattle.std.specs.List.{find};
-ghost use Rattle.cube_model.specs.declared.fault.Fault.TheVariants.{Device, Failed, Memory};
+ghost use Rattle.cube_model.specs.declared.fault.Fault.TheVariants.{Device, Memory};
 ghost use Rattle.object_store.specs.Disk.{Leaves};
-ghost use Rattle.object_store.specs.Store.{Breaks, IsAsBefore, Refuses, content_of, device_of, disk_of, has_failed};
+ghost use Rattle.object_store.specs.Store.{IsAsBefore, Refuses, content_of, device_of, disk_of, has_failed};
 ghost use Rattle.object_store.specs.Store.{room_of};
 ghost use Rattle.warehouse_root.specs.Limits.{most_cuboids};
 ghost use Rattle.warehouse_root.specs.Root as roots;
 ghost use Rattle.warehouse_objects.specs.Represents.{Represents, root_of, said_below, said_or_new, said_with};
 ghost use Rattle.warehouse_objects.specs.Warehouse.{dropped_ids, is_among, with_views};
+ghost use Rattle.stored_cuboids.specs.Calls.{CallsStore};
 ghost use Rattle.stored_cuboids.specs.Keeping.{ForStored, StaysLoaded, StoreAt};
 ghost use Rattle.stored_cuboids.specs.Replacing.{dropped_of};
 
@@ -46,8 +47,6 @@ pub fn set_views<D: Sectors>(
         (ForStored D.Sectors store.old root.old (λ w. StoreAt D.Sectors store.new root.new (with_views w views.now))) }
     ensures once { OnOk result (D.keeps_word (device_of store.new)
         → (content_of D.Sectors store.new).generation ≡ (content_of D.Sectors store.old).generation + 1) }
-    ensures fine { OnOk result (has_failed store.new ≡ false) }
-    ensures failures { OnOk result ((disk_of D.Sectors store.new).failures ≡ (disk_of D.Sectors store.old).failures) }
 
     // What a refusal leaves, and when it comes.
     ensures refused { IfErr result
@@ -62,12 +61,10 @@ pub fn set_views<D: Sectors>(
         → ForStored D.Sectors store.old root.old (λ w. D.keeps_word (device_of store.new)
         → Refuses (content_of D.Sectors store.old) (room_of store.old) [] (dropped_ids w views.now)
         (roots.root_spelling (root_of (with_views w views.now))) fault)) }
-    ensures failed { IsErrOf result Failed → ⊥ }
-    ensures device { IsErrOf result Device → Breaks D.Sectors store.old store.new }
+    ensures calls { CallsStore D.Sectors (IsErrOf result) store.old store.new }
 
     // Also after an error.
     ensures loaded { StaysLoaded D.Sectors store.old store.new root.old root.new }
-    ensures word { D.keeps_word (device_of store.new) → D.keeps_word (device_of store.old) }
 {
     let drops = match dropped(alloc, root.cuboids(), views) {
         Ok(drops) => drops,
@@ -88,7 +85,7 @@ fn viewed(alloc: Global, root: &Root, views: &[View]) -> Result<Root, Fault>
     requires few { length views.now ≤ most_cuboids }
     ensures ok { IfOk result (λ next. next
         ≡ roots.with_cuboids (said_with root.now.layout views.now root.now.cuboids) root.now) }
-    ensures memory { IfErr result (λ fault. fault ≡ Memory) }
+    ensures memory { IsOkUnless result Memory }
 {
     let cuboids = said_below(alloc, root.layout().views(), views, root.cuboids())?;
     root.with_cuboids(alloc, cuboids)
@@ -102,7 +99,7 @@ fn said_below(
     cuboids: &[StoredCuboid],
 ) -> Result<Vec<StoredCuboid>, Fault>
     ensures ok { IfOk result (λ said. said.items ≡ said_below count views.now cuboids.now) }
-    ensures memory { IfErr result (λ fault. fault ≡ Memory) }
+    ensures memory { IsOkUnless result Memory }
 {
     let mut said = Vec::new(alloc);
     for number in 0..count {
@@ -131,7 +128,7 @@ fn said_or_new(cuboids: &[StoredCuboid], number: u16) -> StoredCuboid
 // The ids of the runs of the cuboids of other views.
 fn dropped(alloc: Global, cuboids: &[StoredCuboid], views: &[View]) -> Result<Vec<u32>, Fault>
     ensures ok { IfOk result (λ drops. drops.items ≡ dropped_of views.now cuboids.now) }
-    ensures memory { IfErr result (λ fault. fault ≡ Memory) }
+    ensures memory { IsOkUnless result Memory }
 {
     let mut drops = Vec::new(alloc);
     for cuboid in cuboids {

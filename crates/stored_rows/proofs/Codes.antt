@@ -5,7 +5,7 @@ use Rattle.std.specs.Prelude.{◌==◌, not}
 use Rattle.std.specs.List.{filter, list_any, position_or_len}
 use Rattle.std.specs.Fmt.{decimal}
 use Rattle.std.specs.Str.{bytes_eq}
-use Rattle.std.proofs.lemmas.List.{get_or_append_left, length-map, map-append}
+use Rattle.std.proofs.lemmas.List.{get_or_append_left, map-append}
 use Rattle.std.proofs.lemmas.List.Elements.{filter-append}
 use Rattle.cube_model.specs.declared.attr.Attr.{Attr}
 use Rattle.cube_model.specs.declared.attr.Attr.TheVariants.{CustomerCity, CustomerNation, CustomerRegion, SupplierCity}
@@ -22,6 +22,7 @@ use Rattle.dictionary.specs.Dictionary.{firsts}
 use Rattle.dictionary.proofs.CallerLemmas.{bytes_eq-refl, list_any-firsts, list_any_here, place_append, place_seen}
 use Rattle.dimensions.specs.Columns.{code_at}
 use Rattle.group_numbers.specs.Numbers.{IsKnownOn}
+use Rattle.group_numbers.proofs.Numbers.{text_count}
 use Rattle.dimensions.specs.Added.{joined}
 
 -- ---- places of rows
@@ -92,25 +93,9 @@ module _ (rows more : DimRows) where
   texts_more DateYearmonth = map-append (λ row. row.yearmonth) rows.dates more.dates
   texts_more DateWeeknuminyear = map-append (λ row. row.weeknuminyear) rows.dates more.dates
 
-  text_count : (attr : Attr) → length (texts_of rows attr) ≡ row_count_of rows (axis_of attr)
-  text_count CustomerCity = length-map rows.customers (λ row. row.city)
-  text_count CustomerNation = length-map rows.customers (λ row. row.nation)
-  text_count CustomerRegion = length-map rows.customers (λ row. row.region)
-  text_count SupplierCity = length-map rows.suppliers (λ row. row.city)
-  text_count SupplierNation = length-map rows.suppliers (λ row. row.nation)
-  text_count SupplierRegion = length-map rows.suppliers (λ row. row.region)
-  text_count PartBrand1 = length-map rows.parts (λ row. row.brand1)
-  text_count PartCategory = length-map rows.parts (λ row. row.category)
-  text_count PartMfgr = length-map rows.parts (λ row. row.mfgr)
-  text_count DateKey = length-map rows.dates (λ row. decimal row.key)
-  text_count DateYearmonthnum = length-map rows.dates (λ row. row.yearmonthnum)
-  text_count DateYear = length-map rows.dates (λ row. row.year)
-  text_count DateYearmonth = length-map rows.dates (λ row. row.yearmonth)
-  text_count DateWeeknuminyear = length-map rows.dates (λ row. row.weeknuminyear)
-
   -- the code of an attribute at a row that is there
   pub code_of_kept : (attr : Attr) (row : ℕ) → row < row_count_of rows (axis_of attr)
       → code_at (texts_of (joined rows more) attr) row ≡ code_at (texts_of rows attr) row
   code_of_kept attr row within =
       ap (λ texts. code_at texts row) (texts_more attr)
-      ∙ code_kept (texts_of rows attr) (texts_of more attr) row (omega (arith, within, text_count attr))
+      ∙ code_kept (texts_of rows attr) (texts_of more attr) row (omega (arith, within, text_count rows attr))

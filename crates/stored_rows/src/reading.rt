@@ -1,5 +1,5 @@
 //! Reading the fact rows of a stored batch.
-ghost use Rattle.std.specs.Prelude.{◌≡◌, ◌<◌, ◌≤◌, false, slice_get, IfErr, IfOk, IfSome, IsErrOf};
+ghost use Rattle.std.specs.Prelude.{◌≡◌, ◌<◌, ◌≤◌, false, slice_get, IfErr, IfOk, IfSome, IsErrOf, IsOkUnless};
 ghost use Rattle.cube_model.specs.declared.fault.Fault.TheVariants.{BadLayout, Memory};
 ghost use Rattle.cube_model.specs.Limits.{most_batches};
 ghost use Rattle.object_store.specs.Content.{bytes_of};
@@ -100,7 +100,7 @@ fn read_segment<D: Sectors>(
 // All rows of a segment.
 fn rows_in(alloc: Global, segment: &Segment) -> Result<Items<LineOrder>, Fault>
     ensures rows { IfOk result (λ rows. rows ≡ segment.now.rows) }
-    ensures memory { IfErr result (λ fault. fault ≡ Memory) }
+    ensures memory { IsOkUnless result Memory }
 {
     let count = segment.len();
     let mut rows = Vec::with_capacity(alloc, count)?;

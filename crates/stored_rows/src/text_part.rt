@@ -1,7 +1,8 @@
 //! Reading the ship modes of a stored batch, and none of its columns of numbers.
-ghost use Rattle.std.specs.Prelude.{◌≡◌, ◌⊎◌, ◌↔◌, ◌+◌, ◌*◌, ◌≤◌, ◌<◌, List, Some, drop, false, length, IfErr, IfOk};
+ghost use Rattle.std.specs.Prelude.{◌≡◌, ◌↔◌, ◌+◌, ◌*◌, ◌≤◌, ◌<◌, List, Some, drop, false, length, IfErr, IfOk};
 ghost use Rattle.std.specs.Prelude.{IsErrOf, IsSomeAnd, IsTrue, ℕ};
-ghost use Rattle.cube_model.specs.declared.fault.Fault.TheVariants.{BadLayout, Memory};
+ghost use Rattle.cube_model.specs.Causes.{EndsDecoding};
+ghost use Rattle.cube_model.specs.declared.fault.Fault.TheVariants.{BadLayout};
 ghost use Rattle.cube_model.specs.Limits.{most_batch_rows, most_batches};
 ghost use Rattle.object_store.specs.Content.{bytes_of};
 ghost use Rattle.object_store.specs.Store.{content_of, device_of, has_failed};
@@ -71,7 +72,7 @@ fn read_last_column<S: Source>(
         (λ text. HasColumns text number rows × LeadsToLast rows (drop (12 + 63 * rows) text) bytes.items)) }
     ensures refused { IsErrOf result BadLayout → S.keeps_word source.new
         → HoldsNoneOf (S.texts source.old id) number rows }
-    ensures run { ReadsSourceOr S.Source (λ fault. (fault ≡ Memory) ⊎ (fault ≡ BadLayout)) source.old source.new
+    ensures run { ReadsSourceOr S.Source EndsDecoding source.old source.new
         result }
 {
     if rows > MOST_BATCH_ROWS {
@@ -90,7 +91,7 @@ fn read_rest<S: Source>(alloc: Global, source: &mut S, id: u32, at: usize) -> Re
         (λ text. bytes.items ≡ drop at text)) }
     ensures refused { IsErrOf result BadLayout → S.keeps_word source.new → (text : List ℕ)
         → S.texts source.old id ≡ Some text → length text < at }
-    ensures run { ReadsSourceOr S.Source (λ fault. (fault ≡ Memory) ⊎ (fault ≡ BadLayout)) source.old source.new
+    ensures run { ReadsSourceOr S.Source EndsDecoding source.old source.new
         result }
 {
     let Some(count) = left_after(source, id, at) else {

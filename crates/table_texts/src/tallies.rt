@@ -1,5 +1,5 @@
 //! How many rows have each member of an attribute.
-ghost use Rattle.std.specs.Prelude.{◌≡◌, ◌<◌, ◌^◌, ◌+◌, ◌-◌, ◌==◌, cond, IfOk, IfErr, length, replicate};
+ghost use Rattle.std.specs.Prelude.{◌≡◌, ◌<◌, ◌^◌, ◌+◌, ◌-◌, ◌==◌, cond, IfOk, length, replicate, IsOkUnless};
 ghost use Rattle.cube_model.specs.Attributes.{axis_of};
 ghost use Rattle.cube_model.specs.Places.{attr_members, row_count_of};
 ghost use Rattle.table_texts.specs.Tallies.{AreTallies, empty_tally};
@@ -34,7 +34,7 @@ impl Tally {
 pub(crate) fn tallies_of(alloc: Global, dims: &Dims, attr: Attr) -> Result<Vec<Tally>, Fault>
     ensures ok { IfOk result
         (λ tallies. AreTallies dims.now attr (row_count_of dims.now (axis_of attr)) tallies.items) }
-    ensures err { IfErr result (λ fault. fault ≡ Fault.Memory) }
+    ensures err { IsOkUnless result Fault.Memory }
 {
     let mut tallies = no_tallies(alloc, dims.members(attr))?;
     count_rows(dims, attr, tallies.as_mut_slice());
@@ -44,7 +44,7 @@ pub(crate) fn tallies_of(alloc: Global, dims: &Dims, attr: Attr) -> Result<Vec<T
 // So many tallies of no rows.
 fn no_tallies(alloc: Global, count: usize) -> Result<Vec<Tally>, Fault>
     ensures ok { IfOk result (λ tallies. tallies.items ≡ replicate count empty_tally) }
-    ensures err { IfErr result (λ fault. fault ≡ Fault.Memory) }
+    ensures err { IsOkUnless result Fault.Memory }
 {
     let none = Tally { first: 0, rows: 0 };
     Ok(vec![in alloc; none; count]?)

@@ -1,5 +1,5 @@
 //! The test from its beginning to its end.
-ghost use Rattle.std.specs.Prelude.{◌≡◌, ◌⊎◌, ℕ, true, IfOk, IfErr};
+ghost use Rattle.std.specs.Prelude.{◌≡◌, ◌⊎◌, ℕ, true, IfOk, IfErr, IsOkUnless};
 ghost use Rattle.std.specs.Io.KnownBytes.{Appends};
 ghost use Rattle.cube_model.specs.declared.fault.Fault.TheVariants.{Memory, Output};
 ghost use Rattle.trials.specs.Printed.{crashes_line};
@@ -47,7 +47,7 @@ pub fn test_crashes<R: Clock, W: Write>(
 
 // Makes all crashes.
 fn crashed<R: Clock>(rt: &R, alloc: Global, seconds: u32) -> Result<Outcome, Fault>
-    ensures { IfErr result (λ fault. fault ≡ Memory) }
+    ensures { IsOkUnless result Memory }
 {
     let time = Time {
         began: rt.monotonic().ok(),
@@ -67,7 +67,7 @@ fn crashed<R: Clock>(rt: &R, alloc: Global, seconds: u32) -> Result<Outcome, Fau
 
 // Crashes the life at each of its calls, until it comes to its end or something is wrong.
 fn crash_in_turn(alloc: Global, sample: &Sample, outcome: &mut Outcome) -> Result<(), Fault>
-    ensures { IfErr result (λ fault. fault ≡ Memory) }
+    ensures { IsOkUnless result Memory }
 {
     for place in 0..u64::MAX {
         if outcome.is_whole || outcome.wrong.is_some() {
@@ -86,7 +86,7 @@ fn crash_at_random<R: Clock>(
     time: Time,
     outcome: &mut Outcome,
 ) -> Result<(), Fault>
-    ensures { IfErr result (λ fault. fault ≡ Memory) }
+    ensures { IsOkUnless result Memory }
 {
     let calls = outcome.crashes / WAYS;
     let mut draw = Pcg32::new(SEED, STREAM);

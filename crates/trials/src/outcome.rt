@@ -1,5 +1,5 @@
 //! What became of the crashes of a test.
-ghost use Rattle.std.specs.Prelude.{◌≡◌, true, IfOk, IfErr};
+ghost use Rattle.std.specs.Prelude.{◌≡◌, true, IfOk, IfErr, IsOkUnless};
 ghost use Rattle.std.specs.Io.KnownBytes.{Appends};
 ghost use Rattle.cube_model.specs.declared.fault.Fault.TheVariants.{Memory, Output};
 ghost use Rattle.ssb_reports.specs.Writing.{Writes};
@@ -39,7 +39,7 @@ impl Outcome {
 
     /// Crashes a life, and opens what the disk has kept.
     pub(crate) fn take(&mut self, alloc: Global, crash: Crash, sample: &Sample) -> Result<(), Fault>
-        ensures { IfErr result (λ fault. fault ≡ Memory) }
+        ensures { IsOkUnless result Memory }
     {
         match left_by(alloc, crash, sample) {
             Ok(Left::Whole) => self.is_whole = true,

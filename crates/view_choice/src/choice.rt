@@ -1,6 +1,6 @@
 //! The greedy choice among the views of the warehouse (Harinarayan, Rajaraman and Ullman 1996), and the benefits of
 //! views.
-ghost use Rattle.std.specs.Prelude.{◌≡◌, ◌≤◌, IfOk, IfErr, length};
+ghost use Rattle.std.specs.Prelude.{◌≡◌, ◌≤◌, IfOk, length, IsOkUnless};
 ghost use Rattle.view_choice.specs.Choice.{IsGreedy, benefits};
 ghost use Rattle.view_choice.specs.Cuboids.{cuboids, cuboids_by, cuboids_for, most_demanded, most_fact_rows};
 ghost use Rattle.view_choice.specs.Lawful.{HasGuarantee};
@@ -21,7 +21,7 @@ pub fn greedy(alloc: Global, rows: u64, counts: &Counts, k: u8) -> Result<Vec<Vi
     requires { rows ≤ most_fact_rows }
     ensures ok { IfOk result (λ chosen. IsGreedy (cuboids rows counts.now) k chosen.items) }
     ensures guarantee { 1 ≤ k → IfOk result (λ chosen. HasGuarantee (cuboids rows counts.now) k chosen.items) }
-    ensures err { IfErr result (λ fault. fault ≡ Fault.Memory) }
+    ensures err { IsOkUnless result Fault.Memory }
 {
     let demanded = all_views(alloc, counts)?;
     choose_best(alloc, rows, counts, demanded.as_slice(), Ties::ToLeast, k)
@@ -42,7 +42,7 @@ pub fn greedy_for(
     ensures ok { IfOk result (λ chosen. IsGreedy (cuboids_for rows counts.now demanded.now) k chosen.items) }
     ensures guarantee { 1 ≤ k
         → IfOk result (λ chosen. HasGuarantee (cuboids_for rows counts.now demanded.now) k chosen.items) }
-    ensures err { IfErr result (λ fault. fault ≡ Fault.Memory) }
+    ensures err { IsOkUnless result Fault.Memory }
 {
     choose_best(alloc, rows, counts, demanded, Ties::ToGreatest, k)
 }
@@ -59,7 +59,7 @@ fn choose_best(
     requires rows { rows ≤ most_fact_rows }
     requires few { length demanded.now ≤ most_demanded }
     ensures ok { IfOk result (λ chosen. IsGreedy (cuboids_by ties rows counts.now demanded.now) k chosen.items) }
-    ensures err { IfErr result (λ fault. fault ≡ Fault.Memory) }
+    ensures err { IsOkUnless result Fault.Memory }
 {
     let views = views_by(alloc, counts, ties)?;
     let candidates = all_candidates(alloc, rows, counts, views.as_slice())?;
@@ -86,7 +86,7 @@ pub fn benefits(
 ) -> Result<Vec<u64>, Fault>
     requires { rows ≤ most_fact_rows }
     ensures ok { IfOk result (λ found. found.items ≡ benefits (cuboids rows counts.now) views.now) }
-    ensures err { IfErr result (λ fault. fault ≡ Fault.Memory) }
+    ensures err { IsOkUnless result Fault.Memory }
 {
     let demanded = all_views(alloc, counts)?;
     benefits_for(alloc, rows, counts, demanded.as_slice(), views)
@@ -103,7 +103,7 @@ pub fn benefits_for(
     requires rows { rows ≤ most_fact_rows }
     requires few { length demanded.now ≤ most_demanded }
     ensures ok { IfOk result (λ found. found.items ≡ benefits (cuboids_for rows counts.now demanded.now) views.now) }
-    ensures err { IfErr result (λ fault. fault ≡ Fault.Memory) }
+    ensures err { IsOkUnless result Fault.Memory }
 {
     let mut all = all_costed(alloc, rows, demanded)?;
     let mut found = Vec::new(alloc);

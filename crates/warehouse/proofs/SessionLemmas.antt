@@ -1,10 +1,11 @@
 -- Lemmas of `session`, by subject.
 use Rattle.std.proofs.Common.{◌≡◌, ⊎_elim, inl, inr, ℕ, ◌+◌, ◌-◌, ◌<◌, ◌≤◌, ◌==◌, nat_lt, if◌then◌else◌, Bool, true}
 use Rattle.std.proofs.Common.{false, Option, Some, None, List, [], ◌∷◌, length, get_or, refl, sym, ◌∙◌, ap, subst}
-use Rattle.std.proofs.Common.{arith, ◌⊎◌, IfSome, zero, suc, ◌++◌}
+use Rattle.std.proofs.Common.{arith, ◌⊎◌, IfSome, zero, suc, ◌++◌, ◌≢◌, ◌↔◌, Result, Err, IfErr, IsErrOf}
 use Rattle.std.proofs.lemmas.Bool.Decides.{nat_tests}
 use Rattle.cube_model.specs.declared.attr.Axis.TheVariants.{Customer, Supplier, Part, Date}
 use Rattle.cube_model.specs.declared.fault.Fault.{Fault}
+use Rattle.cube_model.specs.declared.fault.Fault.TheVariants.{BadQuery, Device, Failed, Memory}
 use Rattle.cube_model.specs.declared.rows.DimRows.{DimRows}
 use Rattle.object_store.specs.Content.{Content, bytes_of}
 use Rattle.object_store.specs.Commit.{ArePuts, IsFew, committed, among}
@@ -48,7 +49,10 @@ use Rattle.warehouse.specs.Widening.{WidenedOrNot}
 use Rattle.warehouse.proofs.Numbering.{neither, next_of}
 use Rattle.warehouse_root.specs.Root as roots
 use Rattle.warehouse.specs.declared.session.Session.{Session}
-use Rattle.warehouse.specs.Session.{IsAt, device_of, disk_of}
+use Rattle.warehouse.specs.Session.{Breaks, IsAt, KeepsContent, KeptBefore, MayLeave, StaysAt, StaysIfRefused}
+use Rattle.warehouse.specs.Session.{device_of, disk_of, has_failed}
+use Rattle.warehouse_objects.proofs.Folded.{err_fault}
+use Rattle.warehouse.proofs.OnlyReading.{calls_alike}
 
 -- ==== A move to the second layout, over what its commit did.
 
@@ -517,3 +521,66 @@ pub leaves_at : {D : Type 0} (g : Ghosts D)
     → Leaves (disk_of g session) (disk_of g session) (λ c. Represents c w)
 leaves_at g only session w at =
     begins (ShowsSome (λ c. Represents c w)) (disk_of g session) (λ k image. only (device_of session) image k) at.all
+
+-- ==== What a refused call leaves.
+
+-- the same error, in the place of another value
+error_again : {A B : Type 0} (fault other : Fault) → IsErrOf {T = A} (Err fault) other
+    → IsErrOf {T = B} (Err fault) other
+error_again fault other is = ap (λ (f : Fault). Err f) (err_fault fault other is)
+
+module _ {D A : Type 0} (g : Ghosts D) where
+  -- where no device call was made
+  pub untouched : {B : Type 0} (fault : Fault) (s : Session D g) → MayLeave g s s (λ w c. Represents c w)
+      → (IsErrOf {T = B} (Err fault) Failed ↔ (has_failed s ≡ true)) → (IsErrOf {T = B} (Err fault) Device → ⊥)
+      → StaysIfRefused {A = A} g s s (Err fault)
+  untouched fault s leaves failed unbroken = record {
+    stays = λ other w at. (at, leaves w at);
+    kept = λ other k. refl;
+    calls = record {
+      failed = (
+        λ is. failed.0 (error_again fault Failed is),
+        λ broken. error_again fault Failed (failed.1 broken),
+      );
+      unmoved = λ is. refl;
+      device = λ is. absurd (unbroken (error_again fault Device is));
+      word = λ k. k;
+    };
+  }
+
+  -- where the session had not failed
+  pub fine_before : (result : Result A Fault) (old new : Session D g) → has_failed old ≡ false
+      → IfErr result (λ fault. fault ≢ Device → StaysAt g old new)
+      → IfErr result (λ fault. fault ≢ Device → KeepsContent g old new)
+      → (IsErrOf result Failed → ⊥) → (IsErrOf result Device → Breaks g old new) → KeptBefore g old new
+      → StaysIfRefused g old new result
+  fine_before result old new fine stays kept never device word = record {
+    stays = stays;
+    kept = kept;
+    calls = record {
+      failed = (
+        λ is. absurd (never is),
+        λ broken. let bad : true ≡ false = sym broken ∙ fine in absurd cc,
+      );
+      unmoved = λ is. absurd (never is);
+      device = device;
+      word = word;
+    };
+  }
+
+  -- where the error is that of another call
+  pub refused_again : {B : Type 0} (fault : Fault) (old new : Session D g)
+      → StaysIfRefused {A = B} g old new (Err fault) → StaysIfRefused {A = A} g old new (Err fault)
+  refused_again fault old new refused = record {
+    stays = refused.stays;
+    kept = refused.kept;
+    calls = calls_alike g old new (IsErrOf (Err fault)) (IsErrOf (Err fault))
+        (error_again fault Device, error_again fault Device) (error_again fault Failed, error_again fault Failed)
+        refused.calls;
+  }
+
+-- a choice makes no device call
+pub choice_or_not : {P : Type 0} (fault : Fault) → (fault ≡ Failed) ⊎ (((fault ≡ BadQuery) × P) ⊎ (fault ≡ Memory))
+    → fault ≡ Device → ⊥
+choice_or_not fault causes device =
+    ⊎_elim (λ failed. cc) (⊎_elim (λ many. let bad = many.0 in cc) (λ memory. cc)) causes

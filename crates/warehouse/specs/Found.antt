@@ -1,10 +1,12 @@
 -- What an opening may find.
-use Rattle.std.specs.Prelude.{◌≡◌, ◌⊎◌, Option, Some, All}
+use Rattle.std.specs.Prelude.{◌≡◌, ◌≢◌, ◌⊎◌, ◌+◌, ◌-◌, ◌^◌, min, true, Option, Some, All}
 use Rattle.sector_device.specs.declared.device.Sectors.{Ghosts}
 use Rattle.cube_model.specs.declared.fault.Fault.{Fault}
-use Rattle.cube_model.specs.declared.fault.Fault.TheVariants.{Full, Worn}
+use Rattle.cube_model.specs.declared.fault.Fault.TheVariants.{BadLayout, Device, Full, Memory, NotFormatted, Worn}
 use Rattle.object_store.specs.Content.{Content}
-use Rattle.object_store.specs.Disk.{Disk, IsShown}
+use Rattle.object_store.specs.Disk.{AllShow, Disk, Each, IsBlank, IsShown, Leaves, disk}
+use Rattle.object_store.specs.Found.{ExplainsRefusal, is_of_layout}
+use Rattle.object_store.specs.Shows.{HasNone}
 use Rattle.warehouse_objects.specs.Facts.{AddsChange, Change, Facts, facts_in}
 use Rattle.warehouse_objects.specs.Warehouse.{Warehouse}
 use Rattle.stored_cuboids.specs.Keeping.{IsKeptUp, IsReachedOrLarge}
@@ -41,3 +43,18 @@ abbrev pub IsFinished : {D : Type 0} (g : Ghosts D) → Session D g → Warehous
 IsFinished g session w =
     All (IsReachedOrLarge w) w.cuboids
     ⊎ ((fault : Fault) × ((fault ≡ Full) ⊎ (fault ≡ Worn)) × RefusesLeast g session.store w fault)
+
+-- no warehouse was found: why, and what the device that is handed back is
+pub record RefusesToOpen {D : Type 0} (g : Ghosts D) (device : D) (fault : Fault) (back : D) : Type 0 where
+  -- where every image at the start represents batches that may be found, each at any point represents such
+  pub leaves : (facts : Facts) (last : Option Change) → AllShow (disk g device) (MayRepresent facts last)
+      → Leaves (disk g device) (disk g back) (MayRepresentSince (disk g device) facts last)
+  -- and then it is memory or the device
+  pub never : (facts : Facts) (last : Option Change) → AllShow (disk g device) (MayRepresent facts last)
+      → g.keeps_word back → (fault ≡ Memory) ⊎ (fault ≡ Device)
+  pub failures : fault ≡ Device → g.failed back ≡ min (g.failed device + 1) (2 ^ 64 - 1)
+  pub unformatted : fault ≡ NotFormatted → g.keeps_word back → HasNone (g.state device).reads
+  pub explained : fault ≢ BadLayout → g.keeps_word back
+      → ExplainsRefusal fault (g.state device).size (g.state device).reads
+  pub blank : fault ≡ BadLayout → g.keeps_word back → Each (disk g device) IsBlank → HasNone (g.state device).reads → ⊥
+  pub causes : (fault ≡ Memory) ⊎ ((fault ≡ Device) ⊎ (is_of_layout fault ≡ true))

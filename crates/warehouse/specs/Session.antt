@@ -1,7 +1,6 @@
 -- What a session shows of itself, and when it represents a warehouse.
 use Rattle.std.specs.Prelude.{◌≡◌, ◌↔◌, ◌⊎◌, ℕ, ◌+◌, ◌<◌, ◌≤◌, Bool, true, false, None, Some, length}
-use Rattle.std.specs.Prelude.{List}
-use Rattle.std.specs.Prelude.{[]}
+use Rattle.std.specs.Prelude.{◌≢◌, List, [], IfErr, IsErrOf, Result}
 use Rattle.sector_device.specs.declared.device.Sectors.{Ghosts}
 use Rattle.cube_model.specs.declared.fault.Fault.{Fault}
 use Rattle.cube_model.specs.declared.fault.Fault.TheVariants.{BadQuery, Device, Failed, Memory, NoSuchPrefix}
@@ -81,6 +80,12 @@ KeepsContent g old new = (disk_of g new).keeps_word → content_of g new ≡ con
 -- one commit was made
 abbrev pub CommitsOnce : {D : Type 0} (g : Ghosts D) → Session D g → Session D g → Type 0
 CommitsOnce g old new = (disk_of g new).keeps_word → (content_of g new).generation ≡ (content_of g old).generation + 1
+
+-- What a call leaves where it is refused: unless the device failed, all is as it was, at each moment.
+pub record StaysIfRefused {D A : Type 0} (g : Ghosts D) (old new : Session D g) (result : Result A Fault) : Type 0 where
+  pub stays : IfErr result (λ fault. fault ≢ Device → StaysAt g old new)
+  pub kept : IfErr result (λ fault. fault ≢ Device → KeepsContent g old new)
+  pub calls : CallsDevice g (IsErrOf result) old new
 
 -- Why a submit is refused where the device has not failed: the first cause of the model, or one of its commit. The
 -- commit puts the segment of the batch, its new ship modes, and the root with it. There may also be no memory to look

@@ -13,9 +13,8 @@ ghost use Rattle.warehouse_objects.specs.Facts.{AdmitsRows, number_refusal, rows
 ghost use Rattle.warehouse_objects.specs.Warehouse.{Warehouse};
 ghost use Rattle.warehouse_objects.specs.Represents.{Represents};
 ghost use Rattle.warehouse.specs.Refusing.{is_of_device};
-ghost use Rattle.warehouse.specs.Session.{AddRefuses, Breaks, CallsDevice, ForItsWarehouse, IsAt, KeptBefore, MayLeave};
-ghost use Rattle.warehouse.specs.Session.{StaysAt};
-ghost use Rattle.warehouse.specs.Session.{content_of, device_of, disk_of};
+ghost use Rattle.warehouse.specs.Session.{AddRefuses, Breaks, ForItsWarehouse, IsAt, KeptBefore, MayLeave};
+ghost use Rattle.warehouse.specs.Session.{StaysIfRefused, content_of, device_of, disk_of};
 ghost use Rattle.warehouse.specs.Session.{has_failed};
 ghost use Rattle.warehouse.specs.Session.{CommitsOnce, KeepsContent};
 ghost use Rattle.warehouse.specs.Widening.{IsReadyToWiden, IsWidening, WidenedOrNot};
@@ -41,24 +40,20 @@ impl<D: Sectors> Session<D> {
         ensures leaves { MayLeave D.Sectors self.old self.new
             (λ w c. Represents c w ⊎ (AdmitsRows w number rows.now × Represents c (widened w rows.now))) }
 
-        // Then with them.
+        // Then with them, in one commit.
         ensures ok { OnOk result ((w : Warehouse) → IsAt D.Sectors self.old w
             → IsAt D.Sectors self.new (widened w rows.now)
             × (D.keeps_word (device_of self.new) → AdmitsRows w number rows.now)) }
+        ensures once { OnOk result (CommitsOnce D.Sectors self.old self.new) }
 
         // After a refusal, unless the device failed, as it was at each moment.
-        ensures refused { IfErr result (λ fault. fault ≢ Device → StaysAt D.Sectors self.old self.new) }
-
-        // One commit was made, or none.
-        ensures once { OnOk result (CommitsOnce D.Sectors self.old self.new) }
-        ensures kept { IfErr result (λ fault. fault ≢ Device → KeepsContent D.Sectors self.old self.new) }
+        ensures refused { StaysIfRefused D.Sectors self.old self.new result }
 
         // When each error comes.
         ensures causes { IfErr result
             (λ fault. fault ≢ Device
             → ForItsWarehouse D.Sectors self.old self.new
             (λ w. AddRefuses D.Sectors self.old w number rows.now fault)) }
-        ensures calls { CallsDevice D.Sectors (IsErrOf result) self.old self.new }
     {
         let wider = match self.widening(alloc, number, rows) {
             Ok(wider) => wider,

@@ -1,5 +1,5 @@
 //! What a warehouse is made of, made ready before the first device call.
-ghost use Rattle.std.specs.Prelude.{◌≡◌, IfOk, IfErr};
+ghost use Rattle.std.specs.Prelude.{◌≡◌, IfOk, IsOkUnless};
 ghost use Rattle.cube_model.specs.declared.fault.Fault.TheVariants.{Memory};
 ghost use Rattle.dimensions.specs.Shown.{AreStorable};
 ghost use Rattle.warehouse_objects.specs.Represents.{dimension_of};
@@ -29,7 +29,7 @@ impl Beginning {
     /// That of a warehouse of a layout with these dimensions.
     pub(crate) fn of(alloc: Global, dims: &Dims, layout: Layout) -> Result<Beginning, Fault>
         ensures ok { IfOk result (IsBeginning layout dims.now) }
-        ensures memory { IfErr result (λ fault. fault ≡ Memory) }
+        ensures memory { IsOkUnless result Memory }
     {
         let root = Root::new(alloc, layout);
         let root_bytes = root.encode(alloc)?;
@@ -57,7 +57,7 @@ fn two_encoded(
 ) -> Result<(Vec<u8>, Vec<u8>), Fault>
     ensures first { IfOk result (λ two. two.0.items ≡ dimension_of dims.now first) }
     ensures second { IfOk result (λ two. two.1.items ≡ dimension_of dims.now second) }
-    ensures memory { IfErr result (λ fault. fault ≡ Memory) }
+    ensures memory { IsOkUnless result Memory }
     ensures storable { AreStorable dims.now }
 {
     Ok((encode(alloc, dims, first)?, encode(alloc, dims, second)?))

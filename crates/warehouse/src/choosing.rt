@@ -1,6 +1,6 @@
 //! Which cuboids a warehouse stores.
 ghost use Rattle.std.specs.Prelude.{◌≡◌, ◌≢◌, ◌⊎◌, ◌↔◌, ◌<◌, ◌≤◌, Err, List, true, false, length, map, IfErr};
-ghost use Rattle.std.specs.Prelude.{IfOk, IsErrOf, IsTrue, OnOk};
+ghost use Rattle.std.specs.Prelude.{IfOk, IsErrOf, IsTrue, OnOk, IsOkUnless};
 ghost use Rattle.std.specs.Option.{option_map};
 ghost use Rattle.cube_model.specs.declared.fault.Fault.TheVariants.{BadQuery, Device, Failed, Memory};
 ghost use Rattle.view_choice.specs.Choice.{IsGreedy, benefits};
@@ -12,8 +12,8 @@ ghost use Rattle.warehouse.specs.Choosing.{AreTooMany, ChooseForRefuses, ChooseR
 ghost use Rattle.warehouse.specs.Choosing.{IsChosenFrom, ViewsRefuse, choices_asked, lattice_asked};
 ghost use Rattle.warehouse.specs.Choosing.{members_counted, members_on, views_of};
 ghost use Rattle.warehouse.specs.declared.chosen.Chosen.{Chosen};
-ghost use Rattle.warehouse.specs.Session.{CallsDevice, CommitsOnce, ForItsWarehouse, IsAt, KeepsContent, MayLeave};
-ghost use Rattle.warehouse.specs.Session.{StaysAt, device_of, has_failed};
+ghost use Rattle.warehouse.specs.Session.{CommitsOnce, ForItsWarehouse, IsAt, MayLeave, StaysIfRefused};
+ghost use Rattle.warehouse.specs.Session.{device_of, has_failed};
 
 use crate::chosen::Chosen;
 use crate::session::Session;
@@ -42,14 +42,12 @@ impl<D: Sectors> Session<D> {
             → IsAt D.Sectors self.new (with_views w views.now) × CommitsOnce D.Sectors self.old self.new) }
 
         // After a refusal, unless the device failed, all is as it was, at each moment.
-        ensures refused { IfErr result (λ fault. fault ≢ Device → StaysAt D.Sectors self.old self.new) }
-        ensures kept { IfErr result (λ fault. fault ≢ Device → KeepsContent D.Sectors self.old self.new) }
+        ensures refused { StaysIfRefused D.Sectors self.old self.new result }
 
         // When each error comes.
         ensures causes { IfErr result
             (λ fault. fault ≢ Device
             → ForItsWarehouse D.Sectors self.old self.new (λ w. ViewsRefuse D.Sectors self.old w views.now fault)) }
-        ensures calls { CallsDevice D.Sectors (IsErrOf result) self.old self.new }
     {
         if self.is_broken() {
             return Err(Fault::Failed);
@@ -75,15 +73,13 @@ impl<D: Sectors> Session<D> {
             × (D.keeps_word (device_of self.new) → IsChoice w k chosen.items)) }
 
         // After a refusal, unless the device failed, all is as it was, at each moment.
-        ensures refused { IfErr result (λ fault. fault ≢ Device → StaysAt D.Sectors self.old self.new) }
-        ensures kept { IfErr result (λ fault. fault ≢ Device → KeepsContent D.Sectors self.old self.new) }
+        ensures refused { StaysIfRefused D.Sectors self.old self.new result }
 
         // When each error comes.
         ensures causes { IfErr result
             (λ fault. fault ≢ Device
             → ForItsWarehouse D.Sectors self.old self.new (λ w. ChooseRefuses D.Sectors self.old w k fault)) }
         ensures many { has_failed self.old ≡ false → most_cuboids < k → result ≡ Err BadQuery }
-        ensures calls { CallsDevice D.Sectors (IsErrOf result) self.old self.new }
     {
         let chosen = match self.choice(alloc, k, None) {
             Ok(chosen) => chosen,
@@ -117,8 +113,7 @@ impl<D: Sectors> Session<D> {
             × (D.keeps_word (device_of self.new) → IsChoiceFor w demanded.now k chosen.items)) }
 
         // After a refusal, unless the device failed, all is as it was, at each moment.
-        ensures refused { IfErr result (λ fault. fault ≢ Device → StaysAt D.Sectors self.old self.new) }
-        ensures kept { IfErr result (λ fault. fault ≢ Device → KeepsContent D.Sectors self.old self.new) }
+        ensures refused { StaysIfRefused D.Sectors self.old self.new result }
 
         // When each error comes.
         ensures causes { IfErr result
@@ -127,7 +122,6 @@ impl<D: Sectors> Session<D> {
             (λ w. ChooseForRefuses D.Sectors self.old w demanded.now k fault)) }
         ensures many { has_failed self.old ≡ false → (most_cuboids < k) ⊎ (most_demanded < length demanded.now)
             → result ≡ Err BadQuery }
-        ensures calls { CallsDevice D.Sectors (IsErrOf result) self.old self.new }
     {
         let choice = match self.choice(alloc, k, Some(demanded)) {
             Ok(choice) => choice,
@@ -205,7 +199,7 @@ impl Choice {
             ≡ benefits (lattice_asked rows counts.now (option_map (λ views. views.now) asked.entry))
             choice.views.items) }
         ensures views { IfOk result (λ choice. choice.views.items ≡ views_of choice.chosen.items) }
-        ensures memory { IfErr result (λ fault. fault ≡ Memory) }
+        ensures memory { IsOkUnless result Memory }
     {
         let views = greedy_asked(alloc, rows, counts, k, asked)?;
         let benefits = benefits_asked(alloc, rows, counts, k, asked, views.as_slice())?;
@@ -227,7 +221,7 @@ fn greedy_asked(
     ensures greedy { IfOk result
         (λ views. IsGreedy (lattice_asked rows counts.now (option_map (λ views. views.now) asked.entry)) k
         views.items) }
-    ensures memory { IfErr result (λ fault. fault ≡ Memory) }
+    ensures memory { IsOkUnless result Memory }
 {
     match asked {
         None => greedy(alloc, rows, counts, k),
@@ -249,7 +243,7 @@ fn benefits_asked(
     ensures benefits { IfOk result
         (λ found. found.items ≡ benefits (lattice_asked rows counts.now (option_map (λ views. views.now) asked.entry))
         views.now) }
-    ensures memory { IfErr result (λ fault. fault ≡ Memory) }
+    ensures memory { IsOkUnless result Memory }
 {
     match asked {
         None => benefits(alloc, rows, counts, views),
@@ -262,7 +256,7 @@ fn paired(alloc: Global, views: &[View], benefits: &[u64]) -> Result<Vec<Chosen>
     requires same { length benefits.now ≡ length views.now }
     ensures views { IfOk result (λ chosen. views_of chosen.items ≡ views.now) }
     ensures benefits { IfOk result (λ chosen. map (λ one. one.benefit) chosen.items ≡ benefits.now) }
-    ensures memory { IfErr result (λ fault. fault ≡ Memory) }
+    ensures memory { IsOkUnless result Memory }
 {
     let mut chosen = Vec::with_capacity(alloc, views.len())?;
     for place in 0..views.len() {

@@ -12,7 +12,7 @@ ghost use Rattle.object_store.specs.Disk.{Leaves};
 ghost use Rattle.warehouse.specs.Growing.{IsGrown};
 ghost use Rattle.warehouse.specs.Prepared.{AddsModes, Admitted, CanBePut, ChecksModes, IsPrepared, MayFollow, Prepares};
 ghost use Rattle.warehouse.specs.Refusing.{is_of_device};
-ghost use Rattle.warehouse.specs.Session.{CallsDevice, CommitsOnce, IsAt, KeepsContent, MayLeave, StaysAt};
+ghost use Rattle.warehouse.specs.Session.{CommitsOnce, IsAt, MayLeave, StaysIfRefused};
 ghost use Rattle.warehouse.specs.Session.{SubmitRefuses, content_of};
 ghost use Rattle.warehouse.specs.Session.{device_of, disk_of, has_failed};
 ghost use Rattle.warehouse.specs.Submitting.{WithOrWithout};
@@ -75,7 +75,7 @@ impl GrowingBatch {
     // A batch of no row after those of a root, with room for so many.
     fn after(alloc: Global, root: &Root, rows: usize) -> Result<GrowingBatch, Fault>
         ensures ok { IfOk result (λ batch. (dimensions : DimRows) → IsGrown dimensions root.now [] batch) }
-        ensures memory { IfErr result (λ fault. fault ≡ Memory) }
+        ensures memory { IsOkUnless result Memory }
     {
         let columns = BatchColumns::new(alloc, rows)?;
         let found = admission_of(root).findings();
@@ -106,7 +106,7 @@ impl GrowingBatch {
         ensures long { IfOk result (λ found. (dimensions : DimRows) (root : PlainRoot) (rows : List LineOrder)
             → IsGrown dimensions root rows self.now
             → IfNone found (long_text 1 rows ≢ None)) }
-        ensures memory { IfErr result (λ fault. fault ≡ Memory) }
+        ensures memory { IsOkUnless result Memory }
     {
         if self.found.has_long_text() {
             return Ok(None);
@@ -211,7 +211,7 @@ impl<D: Sectors> Session<D> {
     /// memory.
     pub fn begin_batch(&self, alloc: Global, rows: usize) -> Result<GrowingBatch, Fault>
         ensures ok { IfOk result (Grows self.now []) }
-        ensures memory { IfErr result (λ fault. fault ≡ Memory) }
+        ensures memory { IsOkUnless result Memory }
     {
         GrowingBatch::after(alloc, &self.root, rows)
     }
@@ -246,25 +246,21 @@ impl<D: Sectors> Session<D> {
             → Grows self.old rows batch.now
             → Leaves (disk_of D.Sectors self.old) (disk_of D.Sectors self.new) (WithOrWithout w number rows) }
 
-        // Then with it.
+        // Then with it, in one commit.
         ensures ok { OnOk result ((w : Warehouse) (rows : List LineOrder) → IsAt D.Sectors self.old w
             → Grows self.old rows batch.now
             → IsAt D.Sectors self.new (loaded w rows)
             × (D.keeps_word (device_of self.new) → AdmitsBatch w number rows)) }
+        ensures once { OnOk result (CommitsOnce D.Sectors self.old self.new) }
 
         // After a refusal, unless the device failed, as it was at each moment.
-        ensures refused { IfErr result (λ fault. fault ≢ Device → StaysAt D.Sectors self.old self.new) }
-
-        // One commit was made, or none.
-        ensures once { OnOk result (CommitsOnce D.Sectors self.old self.new) }
-        ensures kept { IfErr result (λ fault. fault ≢ Device → KeepsContent D.Sectors self.old self.new) }
+        ensures refused { StaysIfRefused D.Sectors self.old self.new result }
 
         // When each error comes.
         ensures causes { IfErr result (λ fault. fault ≢ Device → (w : Warehouse) (rows : List LineOrder)
             → IsAt D.Sectors self.old w
             → Grows self.old rows batch.now → D.keeps_word (device_of self.new)
             → SubmitRefuses D.Sectors self.old w number rows fault) }
-        ensures calls { CallsDevice D.Sectors (IsErrOf result) self.old self.new }
     {
         let prepared = match self.prepared_batch(alloc, number, batch) {
             Ok(prepared) => prepared,

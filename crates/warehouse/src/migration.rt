@@ -1,5 +1,5 @@
 //! Moving a warehouse to the second layout.
-ghost use Rattle.std.specs.Prelude.{◌≡◌, ◌≢◌, ◌⊎◌, ◌≤◌, ◌+◌, false, Some, length, IfErr, IfOk, IsErrOf};
+ghost use Rattle.std.specs.Prelude.{◌≡◌, ◌≢◌, ◌⊎◌, ◌≤◌, ◌+◌, false, Some, length, IfErr, IfOk, IsErrOf, IsOkUnless};
 ghost use Rattle.std.specs.Prelude.{OnOk};
 ghost use Rattle.cube_model.specs.declared.fault.Fault.TheVariants.{Device, Failed, Memory};
 ghost use Rattle.object_store.specs.Disk.{Leaves};
@@ -11,7 +11,7 @@ ghost use Rattle.warehouse_objects.specs.Warehouse.{Warehouse, migrated};
 ghost use Rattle.warehouse_root.specs.declared.layout.Layout.TheVariants.{First};
 ghost use Rattle.wire.specs.Limits.{most_objects};
 ghost use Rattle.warehouse.specs.Migrating.{IsMigration, IsMigrationOf, MigrateRefuses, MigratedOrNot, MovesOnce};
-ghost use Rattle.warehouse.specs.Session.{Breaks, CallsDevice, CommitsOnce, ForItsWarehouse, IsAt, KeepsContent};
+ghost use Rattle.warehouse.specs.Session.{Breaks, CommitsOnce, ForItsWarehouse, IsAt, KeepsContent, StaysIfRefused};
 ghost use Rattle.warehouse.specs.Session.{KeptBefore, MayLeave};
 ghost use Rattle.warehouse.specs.Session.{StaysAt, content_of, device_of};
 ghost use Rattle.warehouse.specs.Session.{disk_of};
@@ -47,23 +47,19 @@ impl<D: Sectors> Session<D> {
         // A crash at any point leaves the warehouse as it was, or in the second layout if it may be there.
         ensures leaves { MayLeave D.Sectors self.old self.new MigratedOrNot }
 
-        // Then in the second layout.
+        // Then in the second layout, in one commit or none.
         ensures ok { OnOk result ((w : Warehouse) → IsAt D.Sectors self.old w
             → IsAt D.Sectors self.new (migrated w) × (D.keeps_word (device_of self.new) → CanMigrate w)) }
-
-        // After a refusal, unless the device failed, as it was at each moment.
-        ensures refused { IfErr result (λ fault. fault ≢ Device → StaysAt D.Sectors self.old self.new) }
-
-        // One commit was made, or none.
         ensures once { OnOk result ((w : Warehouse) → IsAt D.Sectors self.old w
             → MovesOnce D.Sectors w self.old self.new) }
-        ensures kept { IfErr result (λ fault. fault ≢ Device → KeepsContent D.Sectors self.old self.new) }
+
+        // After a refusal, unless the device failed, as it was at each moment.
+        ensures refused { StaysIfRefused D.Sectors self.old self.new result }
 
         // When each error comes.
         ensures causes { IfErr result
             (λ fault. fault ≢ Device
             → ForItsWarehouse D.Sectors self.old self.new (λ w. MigrateRefuses D.Sectors self.old w fault)) }
-        ensures calls { CallsDevice D.Sectors (IsErrOf result) self.old self.new }
     {
         if self.is_broken() {
             return Err(Fault::Failed);
@@ -174,7 +170,7 @@ impl Migration {
     fn of(alloc: Global, modes: ShipModes, root: &Root) -> Result<Migration, Fault>
         ensures ok { IfOk result (IsMigration root.now) }
         ensures modes { IfOk result (λ m. m.modes ≡ modes) }
-        ensures memory { IfErr result (λ fault. fault ≡ Memory) }
+        ensures memory { IsOkUnless result Memory }
     {
         let root = root.in_second_layout(alloc)?;
         let root_bytes = root.encode(alloc)?;

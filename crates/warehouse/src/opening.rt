@@ -1,9 +1,8 @@
 //! Opening what is on a device.
-ghost use Rattle.std.specs.Prelude.{◌≡◌, ◌≢◌, ◌⊎◌, ◌+◌, ◌-◌, ◌^◌, min, true, false, Option, IfOk, IfErr, IsErrOf, OnOk};
-ghost use Rattle.cube_model.specs.declared.fault.Fault.TheVariants.{BadLayout, Device, Memory, NotFormatted};
-ghost use Rattle.object_store.specs.Disk.{disk, AllShow, Each, IsBlank, IsShown, Leaves};
-ghost use Rattle.object_store.specs.Found.{ExplainsRefusal, is_of_layout};
-ghost use Rattle.object_store.specs.Shows.{HasNone};
+ghost use Rattle.std.specs.Prelude.{◌≡◌, ◌⊎◌, ◌+◌, ◌-◌, ◌^◌, min, false, Option, IfOk, IfErr, IsErrOf, OnOk};
+ghost use Rattle.cube_model.specs.Causes.{EndsDecoding};
+ghost use Rattle.cube_model.specs.declared.fault.Fault.TheVariants.{BadLayout, Device, Memory};
+ghost use Rattle.object_store.specs.Disk.{disk, AllShow, IsShown, Leaves};
 ghost use Rattle.object_store.specs.Store as stores;
 ghost use Rattle.warehouse_root.specs.Layouts.{layout_number};
 ghost use Rattle.warehouse_root.specs.Root.{IsRoot};
@@ -11,6 +10,7 @@ ghost use Rattle.warehouse_objects.specs.Facts.{Change, Facts};
 ghost use Rattle.warehouse_objects.specs.Warehouse.{Warehouse};
 ghost use Rattle.warehouse_objects.specs.Represents.{Represents, root_of};
 ghost use Rattle.warehouse.specs.Found.{IsFinished, IsSince, MayBeFound, MayRepresent, MayRepresentSince};
+ghost use Rattle.warehouse.specs.Found.{RefusesToOpen};
 ghost use Rattle.warehouse_objects.specs.Loaded.{IsLoaded};
 ghost use Rattle.warehouse_objects.specs.Reads.{EndsReading, ForHeld};
 ghost use Rattle.warehouse.specs.Session.{content_of, device_of, disk_of, has_failed, IsAt};
@@ -38,10 +38,6 @@ pub fn open<D: Sectors>(alloc: Global, device: D) -> Result<Session<D>, (Fault, 
         AllShow (disk D.Sectors device) (MayRepresent facts last)
         → Leaves (disk D.Sectors device) (disk_of D.Sectors session)
         (MayRepresentSince (disk D.Sectors device) facts last)) }
-    ensures leaves_err { IfErr result (λ e. (facts : Facts) (last : Option Change) →
-        AllShow (disk D.Sectors device) (MayRepresent facts last)
-        → Leaves (disk D.Sectors device) (disk D.Sectors e.1)
-        (MayRepresentSince (disk D.Sectors device) facts last)) }
 
     // Then it is at one of them, and every image represents that one. Its cuboids hold the batches up to the target.
     ensures ok { IfOk result (λ session. (facts : Facts) (last : Option Change) →
@@ -50,16 +46,7 @@ pub fn open<D: Sectors>(alloc: Global, device: D) -> Result<Session<D>, (Fault, 
         × IsFinished D.Sectors session w) }
 
     // Where every image at the start represents a warehouse, it never finds none: it refuses for memory or the device.
-    ensures never { IfErr result (λ e. (facts : Facts) (last : Option Change) →
-        AllShow (disk D.Sectors device) (MayRepresent facts last) → D.keeps_word e.1 → (e.0 ≡ Memory)
-        ⊎ (e.0 ≡ Device)) }
-    ensures device { IfErr result (λ e. e.0 ≡ Device → D.failed e.1 ≡ min (D.failed device + 1) (2 ^ 64 - 1)) }
-    ensures unformatted { IfErr result (λ e. e.0 ≡ NotFormatted → D.keeps_word e.1 → HasNone (D.state device).reads) }
-    ensures explained { IfErr result (λ e. e.0 ≢ BadLayout → D.keeps_word e.1
-        → ExplainsRefusal e.0 (D.state device).size (D.state device).reads) }
-    ensures blank { IfErr result (λ e. e.0 ≡ BadLayout → D.keeps_word e.1 → Each (disk D.Sectors device) IsBlank
-        → HasNone (D.state device).reads → ⊥) }
-    ensures causes { IfErr result (λ e. (e.0 ≡ Memory) ⊎ ((e.0 ≡ Device) ⊎ (is_of_layout e.0 ≡ true))) }
+    ensures refused { IfErr result (λ e. RefusesToOpen D.Sectors device e.0 e.1) }
 {
     let mut session = match open_as_is(alloc, device) {
         Ok(session) => session,
@@ -81,10 +68,6 @@ pub fn open_as_is<D: Sectors>(alloc: Global, device: D) -> Result<Session<D>, (F
         AllShow (disk D.Sectors device) (MayRepresent facts last)
         → Leaves (disk D.Sectors device) (disk_of D.Sectors session)
         (MayRepresentSince (disk D.Sectors device) facts last)) }
-    ensures leaves_err { IfErr result (λ e. (facts : Facts) (last : Option Change) →
-        AllShow (disk D.Sectors device) (MayRepresent facts last)
-        → Leaves (disk D.Sectors device) (disk D.Sectors e.1)
-        (MayRepresentSince (disk D.Sectors device) facts last)) }
 
     // Then it is at one of them, and every image represents that one.
     ensures ok { IfOk result (λ session. (facts : Facts) (last : Option Change) →
@@ -99,16 +82,7 @@ pub fn open_as_is<D: Sectors>(alloc: Global, device: D) -> Result<Session<D>, (F
     ensures failures { IfOk result (λ session. D.failed (device_of session) ≡ D.failed device) }
 
     // Where every image at the start represents a warehouse, it never finds none: it refuses for memory or the device.
-    ensures never { IfErr result (λ e. (facts : Facts) (last : Option Change) →
-        AllShow (disk D.Sectors device) (MayRepresent facts last) → D.keeps_word e.1 → (e.0 ≡ Memory)
-        ⊎ (e.0 ≡ Device)) }
-    ensures device { IfErr result (λ e. e.0 ≡ Device → D.failed e.1 ≡ min (D.failed device + 1) (2 ^ 64 - 1)) }
-    ensures unformatted { IfErr result (λ e. e.0 ≡ NotFormatted → D.keeps_word e.1 → HasNone (D.state device).reads) }
-    ensures explained { IfErr result (λ e. e.0 ≢ BadLayout → D.keeps_word e.1
-        → ExplainsRefusal e.0 (D.state device).size (D.state device).reads) }
-    ensures blank { IfErr result (λ e. e.0 ≡ BadLayout → D.keeps_word e.1 → Each (disk D.Sectors device) IsBlank
-        → HasNone (D.state device).reads → ⊥) }
-    ensures causes { IfErr result (λ e. (e.0 ≡ Memory) ⊎ ((e.0 ≡ Device) ⊎ (is_of_layout e.0 ≡ true))) }
+    ensures refused { IfErr result (λ e. RefusesToOpen D.Sectors device e.0 e.1) }
 {
     let store = match Store::open(alloc, device) {
         Ok(store) => store,
@@ -185,7 +159,7 @@ fn known_root<D: Sectors>(alloc: Global, store: &Store<D>) -> Result<Root, Fault
     ensures found { IfOk result (λ root. (w : Warehouse) → Represents (stores.content_of D.Sectors store.now) w
         → root ≡ root_of w) }
     ensures readable { IsErrOf result BadLayout → ForHeld D.Sectors store.now store.now (λ w. ⊥) }
-    ensures causes { IfErr result (λ fault. (fault ≡ Memory) ⊎ (fault ≡ BadLayout)) }
+    ensures causes { IfErr result EndsDecoding }
 {
     let root = read_root(alloc, store)?;
     if has_its_objects(alloc, store, &root)? {

@@ -1,5 +1,5 @@
 //! What a submit puts on the device, made ready before the first device call.
-ghost use Rattle.std.specs.Prelude.{◌≡◌, ◌<◌, ◌≤◌, false, length, IfOk, IfErr};
+ghost use Rattle.std.specs.Prelude.{◌≡◌, ◌<◌, ◌≤◌, false, length, IfOk, IsOkUnless};
 ghost use Rattle.cube_model.specs.declared.fault.Fault.TheVariants.{Memory};
 ghost use Rattle.cube_model.specs.Limits.{most_batch_rows, most_batches};
 ghost use Rattle.batch_admission.specs.Accepted.{HasAccepted};
@@ -49,7 +49,7 @@ impl Prepared {
         ensures more { IfOk result (λ p. p.more ≡ more) }
         ensures root { IfOk result (λ p. p.root ≡ root_with_batch rows totals root.now) }
         ensures spelled { IfOk result (λ p. IsRoot p.root_bytes.items p.root) }
-        ensures memory { IfErr result (λ fault. fault ≡ Memory) }
+        ensures memory { IsOkUnless result Memory }
     {
         let root = root.with_batch(alloc, rows, totals)?;
         let root_bytes = root.encode(alloc)?;

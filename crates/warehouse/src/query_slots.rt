@@ -1,6 +1,6 @@
 //! The running queries of a run.
-ghost use Rattle.std.specs.Prelude.{◌≡◌, ◌<◌, None, Some, replicate, slice_index_or, slice_set, vec_len, IfErr, IfOk};
-ghost use Rattle.std.specs.Prelude.{IfSome};
+ghost use Rattle.std.specs.Prelude.{◌≡◌, ◌<◌, None, Some, replicate, slice_index_or, slice_set, vec_len, IfOk};
+ghost use Rattle.std.specs.Prelude.{IfSome, IsOkUnless};
 ghost use Rattle.cube_model.specs.declared.fault.Fault.TheVariants.{Memory};
 
 use cube_model::Fault;
@@ -21,7 +21,7 @@ impl QuerySlots {
     /// Sixteen empty slots. It can only fail when out of memory.
     pub(crate) fn new(alloc: Global) -> Result<QuerySlots, Fault>
         ensures ok { IfOk result (λ slots. slots.queries.items ≡ replicate 16 None) }
-        ensures memory { IfErr result (λ fault. fault ≡ Memory) }
+        ensures memory { IsOkUnless result Memory }
     {
         let mut queries = Vec::with_capacity(alloc, MOST_RUNNING)?;
         for _ in 0..MOST_RUNNING {

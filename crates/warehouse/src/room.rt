@@ -1,12 +1,12 @@
 //! How much of its device a warehouse takes.
-ghost use Rattle.std.specs.Prelude.{◌≡◌, ◌+◌, ◌<◌, ◌^◌, min, IfOk, IfErr};
+ghost use Rattle.std.specs.Prelude.{◌≡◌, ◌+◌, ◌<◌, ◌^◌, min, IfOk, IsOkUnless};
 ghost use Rattle.std.specs.List.{sum_by};
 ghost use Rattle.cube_model.specs.declared.fault.Fault.TheVariants.{Memory};
 ghost use Rattle.superblock.specs.Superblock.{sectors_of};
 ghost use Rattle.object_store.specs.Room.{catalogue_bytes};
 ghost use Rattle.object_store.specs.Store as stores;
 ghost use Rattle.warehouse.specs.Room.{object_sectors, sectors_of_size, sectors_taken};
-ghost use Rattle.warehouse.specs.Session.{ForItsWarehouse, content_of, device_of};
+ghost use Rattle.warehouse.specs.Session.{ForItsWarehouse, content_of};
 
 use crate::session::Session;
 use cube_model::Fault;
@@ -24,7 +24,7 @@ impl<D: Sectors> Session<D> {
         ensures taken { IfOk result
             (λ taken. ForItsWarehouse D.Sectors self.now self.now
             (λ w. taken ≡ min (sectors_taken (content_of D.Sectors self.now) w) u64.MAX)) }
-        ensures memory { IfErr result (λ fault. fault ≡ Memory) }
+        ensures memory { IsOkUnless result Memory }
     {
         let ids = self.root.object_ids(alloc)?;
         let objects = sectors_of_objects(&self.store, ids.as_slice());

@@ -1,5 +1,5 @@
 //! A session of a warehouse.
-ghost use Rattle.std.specs.Prelude.{◌≡◌, false, IfOk, IfErr};
+ghost use Rattle.std.specs.Prelude.{◌≡◌, false, IfOk, IsOkUnless};
 ghost use Rattle.cube_model.specs.declared.fault.Fault.TheVariants.{Memory};
 ghost use Rattle.object_store.specs.Store as stores;
 ghost use Rattle.warehouse_objects.specs.Represents.{Represents};
@@ -76,7 +76,7 @@ impl<D: Sectors> Session<D> {
 // Dimensions that running queries can share.
 pub(crate) fn shared(alloc: Global, dims: Dims) -> Result<Rc<Dims>, Fault>
     ensures ok { IfOk result (λ shared. shared.value ≡ dims) }
-    ensures memory { IfErr result (λ fault. fault ≡ Memory) }
+    ensures memory { IsOkUnless result Memory }
 {
     match Rc::new(alloc, dims) {
         Ok(shared) => Ok(shared),

@@ -17,8 +17,8 @@ ghost use Rattle.warehouse.specs.Growing.{Grows};
 ghost use Rattle.warehouse.specs.Loaded.{Agrees};
 ghost use Rattle.warehouse.specs.Prepared.{IsPrepared, prepared_puts};
 ghost use Rattle.warehouse.specs.Refusing.{is_of_device};
-ghost use Rattle.warehouse.specs.Session.{Breaks, CallsDevice, CommitsOnce, ForItsWarehouse, IsAt, KeptBefore};
-ghost use Rattle.warehouse.specs.Session.{MayLeave, StaysAt};
+ghost use Rattle.warehouse.specs.Session.{Breaks, CommitsOnce, ForItsWarehouse, IsAt, KeptBefore, StaysIfRefused};
+ghost use Rattle.warehouse.specs.Session.{MayLeave};
 ghost use Rattle.warehouse.specs.Session.{content_of, device_of, disk_of};
 ghost use Rattle.warehouse.specs.Session.{has_failed};
 ghost use Rattle.warehouse.specs.Session.{KeepsContent, SubmitRefuses};
@@ -45,24 +45,20 @@ impl<D: Sectors> Session<D> {
         ensures leaves { MayLeave D.Sectors self.old self.new
             (λ w c. Represents c w ⊎ (AdmitsBatch w number rows.now × Represents c (loaded w rows.now))) }
 
-        // Then with it.
+        // Then with it, in one commit.
         ensures ok { OnOk result ((w : Warehouse) → IsAt D.Sectors self.old w
             → IsAt D.Sectors self.new (loaded w rows.now)
             × (D.keeps_word (device_of self.new) → AdmitsBatch w number rows.now)) }
+        ensures once { OnOk result (CommitsOnce D.Sectors self.old self.new) }
 
         // After a refusal, unless the device failed, as it was at each moment.
-        ensures refused { IfErr result (λ fault. fault ≢ Device → StaysAt D.Sectors self.old self.new) }
-
-        // One commit was made, or none.
-        ensures once { OnOk result (CommitsOnce D.Sectors self.old self.new) }
-        ensures kept { IfErr result (λ fault. fault ≢ Device → KeepsContent D.Sectors self.old self.new) }
+        ensures refused { StaysIfRefused D.Sectors self.old self.new result }
 
         // When each error comes.
         ensures causes { IfErr result
             (λ fault. fault ≢ Device
             → ForItsWarehouse D.Sectors self.old self.new
             (λ w. SubmitRefuses D.Sectors self.old w number rows.now fault)) }
-        ensures calls { CallsDevice D.Sectors (IsErrOf result) self.old self.new }
     {
         let batch = match self.grown(alloc, number, rows) {
             Ok(batch) => batch,

@@ -1,5 +1,5 @@
 //! What an addition of dimension rows puts on the device, made ready before the first device call.
-ghost use Rattle.std.specs.Prelude.{◌≡◌, ◌⊎◌, ◌++◌, ◌<◌, false, Some, IfOk, IfErr, OnOk};
+ghost use Rattle.std.specs.Prelude.{◌≡◌, ◌⊎◌, ◌++◌, ◌<◌, false, Some, IfOk, IfErr, OnOk, IsOkUnless};
 ghost use Rattle.cube_model.specs.declared.fault.Fault.TheVariants.{Memory};
 ghost use Rattle.cube_model.specs.declared.rows.DimRows as dim_rows;
 ghost use Rattle.cube_model.specs.Validity.{HaveShortTexts};
@@ -64,7 +64,7 @@ impl Widening {
         requires few { root.now.additions < most_additions }
         ensures ok { IfOk result (λ wider. (old : dim_rows.DimRows) → dims ≡ joined old rows.now
             → AreStorable (joined old rows.now) → IsWidening old root.now rows.now wider) }
-        ensures memory { IfErr result (λ fault. fault ≡ Memory) }
+        ensures memory { IsOkUnless result Memory }
     {
         let root = root.with_addition(alloc)?;
         let root_bytes = root.encode(alloc)?;
@@ -83,7 +83,7 @@ impl Widening {
 fn new_objects(alloc: Global, dims: &Dims, rows: &DimRows) -> Result<Vec<NewObject>, Fault>
     ensures ok { IfOk result (λ objects. (old : dim_rows.DimRows) → dims.now ≡ joined old rows.now
         → shown_puts objects.items ≡ widening_puts old rows.now) }
-    ensures memory { IfErr result (λ fault. fault ≡ Memory) }
+    ensures memory { IsOkUnless result Memory }
 {
     let mut objects = Vec::with_capacity(alloc, MOST_PUTS)?;
     push_object(
@@ -118,7 +118,7 @@ fn push_object(
 ) -> Result<(), Fault>
     ensures ok { OnOk result
         (shown_puts objects.new.items ≡ shown_puts objects.old.items ++ put_of dims.now axis id count) }
-    ensures memory { IfErr result (λ fault. fault ≡ Memory) }
+    ensures memory { IsOkUnless result Memory }
 {
     if count == 0 {
         return Ok(());
@@ -131,7 +131,7 @@ fn push_object(
 // Objects as a commit takes them.
 pub(crate) fn puts_of(alloc: Global, objects: &[NewObject]) -> Result<Vec<(u32, &[u8])>, Fault>
     ensures ok { IfOk result (λ puts. commits.puts_of puts.items ≡ shown_puts objects.now) }
-    ensures memory { IfErr result (λ fault. fault ≡ Memory) }
+    ensures memory { IsOkUnless result Memory }
 {
     let mut puts = Vec::with_capacity(alloc, objects.len())?;
     for object in objects {

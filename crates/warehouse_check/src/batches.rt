@@ -1,6 +1,6 @@
 //! The batches of a store, checked one after another.
 ghost use Rattle.std.specs.Prelude.{◌≡◌, ◌⊎◌, ◌<◌, ℕ, None, Some, is_some, false, List, length, slice_get, take, IfErr};
-ghost use Rattle.std.specs.Prelude.{IfOk, IfSome, IsTrue};
+ghost use Rattle.std.specs.Prelude.{IfOk, IfSome, IsTrue, IsOkUnless};
 ghost use Rattle.cube_model.specs.declared.fault.Fault.TheVariants.{Device, Memory};
 ghost use Rattle.cube_model.specs.declared.rows.LineOrder.{LineOrder};
 ghost use Rattle.cube_model.specs.Limits.{most_batches};
@@ -107,7 +107,7 @@ fn segment_in(alloc: Global, bytes: Vec<u8>) -> Result<Option<Segment>, Fault>
     ensures some { IfOk result (λ found. IfSome found (λ segment. IsSegment bytes.items segment.number segment.rows)) }
     ensures none { IfOk result (λ found. found ≡ None → (number : ℕ) (rows : List LineOrder)
         → IsSegment bytes.items number rows → ⊥) }
-    ensures memory { IfErr result (λ fault. fault ≡ Memory) }
+    ensures memory { IsOkUnless result Memory }
 {
     match decode(alloc, bytes) {
         Ok(segment) => Ok(Some(segment)),

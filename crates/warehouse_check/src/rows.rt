@@ -1,5 +1,5 @@
 //! The rows of a segment as the next batch.
-ghost use Rattle.std.specs.Prelude.{◌≡◌, ◌+◌, None, is_some, [], ◌∷◌, ◌++◌, List, length, IfErr, IfOk, IsTrue};
+ghost use Rattle.std.specs.Prelude.{◌≡◌, ◌+◌, None, is_some, [], ◌∷◌, ◌++◌, List, length, IfOk, IsTrue, IsOkUnless};
 ghost use Rattle.cube_model.specs.declared.fault.Fault.TheVariants.{Memory};
 ghost use Rattle.cube_model.specs.declared.rows.LineOrder.{LineOrder};
 ghost use Rattle.batch_admission.specs.Accepted.{HasAccepted};
@@ -29,7 +29,7 @@ pub(crate) fn take_in(
         → HasAccepted admission.old batches
         → segment.now.number ≡ length batches + 1 → length segment.now.rows ≡ said
         → IsNext dims.now batches segment.now.rows → ⊥) }
-    ensures memory { IfErr result (λ fault. fault ≡ Memory) }
+    ensures memory { IsOkUnless result Memory }
 {
     let batch = admission.next_number();
     let number = segment.number();
@@ -61,7 +61,7 @@ fn admit(
     ensures found { IfOk result (λ found. IsTrue (is_some found) → (batches : List (List LineOrder))
         → HasAccepted admission.old batches → batch ≡ length batches + 1
         → IsNext dims.now batches segment.now.rows → ⊥) }
-    ensures memory { IfErr result (λ fault. fault ≡ Memory) }
+    ensures memory { IsOkUnless result Memory }
 {
     let count = segment.len();
     let mut rows = Vec::with_capacity(alloc, count)?;

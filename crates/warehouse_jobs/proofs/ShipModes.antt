@@ -1,11 +1,10 @@
 -- Ship modes for which an evaluation refuses no batch.
-use Rattle.std.proofs.Common.{◌≡◌, ◌≤◌, ◌+◌, ◌∙◌, suc, sym, ap, refl, subst, arith, ℕ, Bool, true, false, ◌||◌, nat_lt}
-use Rattle.std.proofs.Common.{if◌then◌else◌, List, [], ◌∷◌, ◌++◌, length, Option, Some, None, append_assoc, append-nil}
-use Rattle.std.specs.Prelude.{codes, position}
+use Rattle.std.proofs.Common.{◌≡◌, ◌≤◌, ◌+◌, ◌∙◌, sym, ap, refl, subst, arith, ℕ, Bool, true, false, ◌||◌}
+use Rattle.std.proofs.Common.{List, [], ◌∷◌, ◌++◌, length, Option, None}
+use Rattle.std.specs.Prelude.{codes}
 use Rattle.std.specs.List.{list_any}
 use Rattle.std.specs.Option.{option_map}
 use Rattle.std.specs.Str.{bytes_eq}
-use Rattle.std.proofs.lemmas.Bool.Decides.{nat_tests}
 use Rattle.std.proofs.lemmas.Grind.{flat_map-append}
 use Rattle.std.proofs.lemmas.List.{map-append}
 use Rattle.std.proofs.lemmas.List.Folds.{list_any-append}
@@ -20,7 +19,6 @@ use Rattle.cube_model.specs.Causes.{first_cause}
 use Rattle.cube_model.specs.Limits.{most_members}
 use Rattle.cube_model.specs.ShipModes.{crowded_place, modes_cause, modes_in, reserved_place}
 use Rattle.cube_model.specs.Validity.{members_of}
-use Rattle.dictionary.specs.Dictionary.{firsts}
 use Rattle.dictionary.proofs.CallerLemmas.{absent, list_any-firsts}
 use Rattle.dimensions.proofs.MemberLaws.{length-members}
 use Rattle.warehouse_root.specs.declared.layout.Layout.{Layout}
@@ -28,37 +26,12 @@ use Rattle.warehouse_root.specs.declared.layout.Layout.TheVariants.{First, Secon
 use Rattle.warehouse_root.specs.Modes.{AreModes, kept_modes}
 use Rattle.warehouse_objects.specs.Migration.{migration_refusal, place_after}
 use Rattle.warehouse_objects.proofs.Batches.{both, only}
-use Rattle.warehouse_objects.proofs.KeptModes.{crowded_none, somewhere}
+use Rattle.warehouse_objects.proofs.KeptModes.{crowded_none, never_crowded, somewhere, unmapped}
 
 -- texts that can be the ship modes of one warehouse of the second layout
 pub record AreFit (modes : List (List ℕ)) : Type 0 where
   pub few : length (members_of modes) ≤ most_members
   pub free : list_any (bytes_eq (codes "ALL")) modes ≡ false
-
--- where no text is one too many, all are few enough
-never_crowded : (earlier modes : List (List ℕ)) → length (members_of earlier) ≤ most_members
-    → crowded_place earlier modes ≡ None → length (members_of (earlier ++ modes)) ≤ most_members
-never_crowded earlier [] few none = subst (λ l. length (members_of l) ≤ most_members) (sym (append-nil earlier)) few
-never_crowded earlier (mode ∷ modes) few none =
-    (elim (nat_lt most_members (length (members_of (earlier ++ mode ∷ [])))) as
-    (λ (b : Bool). nat_lt most_members (length (members_of (earlier ++ mode ∷ []))) ≡ b
-    → (if b then Some 0 else option_map suc (crowded_place (earlier ++ mode ∷ []) modes)) ≡ None
-    → length (members_of (earlier ++ mode ∷ modes)) ≤ most_members) [
-      | true ↦ λ e here. absurd (cc here)
-      | false ↦ λ e here.
-          let low : length (members_of (earlier ++ mode ∷ [])) ≤ most_members = grind (arith, nat_tests, e) in
-          subst (λ l. length (members_of l) ≤ most_members) (append_assoc earlier (mode ∷ []) modes)
-          (never_crowded (earlier ++ mode ∷ []) modes low
-          (later (crowded_place (earlier ++ mode ∷ []) modes) here))
-    ]) refl none
-  where
-    later : (o : Option ℕ) → option_map suc o ≡ None → o ≡ None
-    later None e = refl
-    later (Some x) e = absurd cc
-
-unmapped : (f : ℕ → Fault) (place : Option ℕ) → option_map f place ≡ None → place ≡ None
-unmapped f None e = refl
-unmapped f (Some k) e = absurd cc
 
 fit_first : (batches : List (List LineOrder)) → migration_refusal First batches ≡ None
     → AreFit (modes_in (all_rows batches))

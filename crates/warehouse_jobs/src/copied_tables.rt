@@ -1,5 +1,5 @@
 //! A copy of dimension rows.
-ghost use Rattle.std.specs.Prelude.{◌≡◌, [], IfErr, IfOk};
+ghost use Rattle.std.specs.Prelude.{◌≡◌, [], IfOk, IsOkUnless};
 ghost use Rattle.cube_model.specs.declared.fault.Fault.TheVariants.{Memory};
 
 use cube_model::{DimRows, Fault, Items};
@@ -9,7 +9,7 @@ use std::alloc::Global;
 // The dimensions of the same rows. It can only fail when out of memory.
 pub(crate) fn copied(alloc: Global, dims: &Dims) -> Result<Dims, Fault>
     ensures same { IfOk result (λ copy. copy ≡ dims.now) }
-    ensures memory { IfErr result (λ fault. fault ≡ Memory) }
+    ensures memory { IsOkUnless result Memory }
 {
     let none = no_rows(alloc);
     dims.with_rows(alloc, &none)

@@ -1,5 +1,6 @@
 //! Loading the fact rows of a file.
 ghost use Rattle.std.specs.Prelude.{◌≡◌, ◌≤◌, ◌++◌, [], List, Option, None, length, IfOk, IfErr, IfSome, OnOk, ℕ};
+ghost use Rattle.std.specs.Prelude.{IsOkUnless};
 ghost use Rattle.std.specs.Io.KnownBytes.{Keeps};
 ghost use Rattle.cube_model.specs.declared.rows.LineOrder.{LineOrder};
 ghost use Rattle.cube_model.specs.Limits.{most_batch_rows};
@@ -73,7 +74,7 @@ impl<R: Read + Drop> LoadText<R> {
         ensures number { IfOk result (λ text. text.lines.number ≡ 0) }
         ensures fault { IfOk result (λ text. text.lines.fault ≡ None) }
         ensures unknown { IfOk result (λ text. text.unknown ≡ None) }
-        ensures err { IfErr result (λ fault. fault ≡ Fault.Memory) }
+        ensures err { IsOkUnless result Fault.Memory }
     {
         let lines = Lines::new(alloc, lineorder)?;
         let kept = Kept {

@@ -64,29 +64,6 @@ pub fn perform<D: Sectors, R: Read + Drop, W: Write>(
     if session.is_broken() {
         return Err(Fault::Failed);
     }
-    do_job(alloc, session, job, lineorder, out)
-}
-
-// Does a job.
-fn do_job<D: Sectors, R: Read + Drop, W: Write>(
-    alloc: Global,
-    session: &mut Session<D>,
-    job: Job,
-    lineorder: R,
-    out: &mut W,
-) -> Result<bool, Fault>
-    ensures performs { ForItsWarehouse D.Sectors session.old session.new
-        (λ w. Performs D.Sectors w (R.remaining lineorder) job session.old session.new (W.contents out.old)
-        (W.contents out.new) result) }
-    ensures yes { (MayAnswerNo job → ⊥) → IfOk result (λ answer. answer ≡ true) }
-    ensures sound { MayAnswerNo job
-        → IfOk result (λ answer. (w : Warehouse) → IsLaidAt D.Sectors session.old w
-        → D.keeps_word (device_of session.new)
-        → IsTrue answer ↔ All (IsSound w) w.cuboids) }
-    ensures printed { MayAnswerNo job
-        → IfOk result (λ answer. Appends (W.contents out.old) (W.contents out.new) (audit_text answer)) }
-    ensures word { KeptBefore D.Sectors session.old session.new }
-{
     match job {
         Job::Load { first, rows } => yes(load_from(alloc, session, first, rows, lineorder, out)),
         Job::Report { as_of, query } => yes(report(alloc, session, as_of, &query, out)),

@@ -108,7 +108,8 @@ modes_same layout rows more same =
 
 -- ---- the limits
 
-unmapped : (f : ℕ → Fault) (o : Option ℕ) → option_map f o ≡ None → o ≡ None
+-- where a fault of a place is none, there is no place
+pub unmapped : (f : ℕ → Fault) (o : Option ℕ) → option_map f o ≡ None → o ≡ None
 unmapped f None e = refl
 unmapped f (Some x) e = absurd cc
 
@@ -116,7 +117,7 @@ nowhere : (texts : List (List ℕ)) → reserved_place texts ≡ None → list_a
 nowhere texts none = absent texts (codes "ALL") none
 
 -- where no text is one too many, all are few enough
-never_crowded : (earlier modes : List (List ℕ)) → length (members_of earlier) ≤ most_members
+pub never_crowded : (earlier modes : List (List ℕ)) → length (members_of earlier) ≤ most_members
     → crowded_place earlier modes ≡ None → length (members_of (earlier ++ modes)) ≤ most_members
 never_crowded earlier [] few none = subst (λ l. length (members_of l) ≤ most_members) (sym (append-nil earlier)) few
 never_crowded earlier (mode ∷ modes) few none =

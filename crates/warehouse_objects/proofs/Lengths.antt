@@ -3,7 +3,7 @@ use Rattle.std.proofs.Common.{◌≡◌, ◌<◌, ◌≤◌, ◌+◌, ◌*◌, r
 use Rattle.std.proofs.Common.{None, length-append}
 use Rattle.std.specs.List.{AllByRecursion, flat_map}
 use Rattle.std.proofs.lemmas.List.{length-map}
-use Rattle.std.proofs.lemmas.List.Elements.{All-head, All-map, All-tail}
+use Rattle.std.proofs.lemmas.List.Elements.{All-map}
 use Rattle.cube_model.specs.Limits.{longest_text, most_batch_rows, most_dimension_rows, most_members}
 use Rattle.cube_model.specs.declared.attr.Axis.{Axis}
 use Rattle.cube_model.specs.declared.attr.Axis.TheVariants.{Customer, Supplier, Part, Date}
@@ -25,29 +25,15 @@ use Rattle.dimensions.specs.Shapes.{lowers_of, lower_of}
 use Rattle.dimensions.specs.TextRows.{TextRow}
 use Rattle.dimensions.proofs.CallerLemmas.{few_good_rows, good_places_above, good_places_of_rows, good_texts}
 use Rattle.dimensions.proofs.CallerLemmas.{lower_below}
-use Rattle.dimension_objects.specs.Spelled.{codes_in_order, dimension_spelling, dimension_header, keys_spelling}
+use Rattle.dimension_objects.specs.Spelled.{codes_in_order, dimension_spelling, keys_spelling}
 use Rattle.dimension_objects.specs.Spelled.{linked_columns, dimension_parts, row_columns, stored_columns}
+use Rattle.warehouse_root.proofs.ModesLaws.{each_text_most}
 use Rattle.dimension_objects.specs.Spelled.{texts_in_order}
 use Rattle.dimension_objects.specs.Spelled as dimension_objects
 use Rattle.dimension_objects.proofs.Front.{length-numbers}
 use Rattle.dimension_objects.proofs.SpelledLaws.{linked_all, row_all, stored_all}
 
 -- ---- texts and numbers
-
-each_text_most : (texts : List (List ℕ)) → AreShort texts → length (flat_map text_spelling texts) ≤ 256 * length texts
-each_text_most [] short = omega arith
-each_text_most (text ∷ texts) short =
-    let here = All-head (λ t. length t ≤ longest_text) text texts short in
-    let rest : length (flat_map text_spelling texts) ≤ 256 * length texts =
-    each_text_most texts (All-tail (λ t. length t ≤ longest_text) text texts short) in
-    omega (
-      arith,
-      length-append (text_spelling text) (flat_map text_spelling texts),
-      length-append (spelling 1 (length text)) text,
-      length-spelling 1 (length text),
-      here,
-      rest,
-    )
 
 texts_most : (texts : List (List ℕ)) → AreShort texts → length (texts_spelling texts) ≤ 4 + 256 * length texts
 texts_most texts short =

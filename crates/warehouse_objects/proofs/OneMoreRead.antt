@@ -7,7 +7,7 @@ use Rattle.sector_device.specs.declared.device.Sectors.{Ghosts}
 use Rattle.sector_device.specs.Device.{Image, IsImage}
 use Rattle.object_store.specs.Disk.{Leaves}
 use Rattle.object_store.proofs.Moments.{leaves_then, leaves_weaker}
-use Rattle.object_store.proofs.SourceLemmas.{still_here}
+use Rattle.object_store.proofs.SourceLemmas.{still_here, still_then}
 use Rattle.object_store.specs.Store.{Breaks, IsStill, content_of, disk_of, has_failed}
 use Rattle.object_store.proofs.CallerLemmas.{leaves_now}
 use Rattle.object_store.specs.declared.store.Store.{Store}
@@ -15,16 +15,6 @@ use Rattle.warehouse_objects.specs.Reads.{ReadsOnly}
 
 -- a content that stays, over one read more
 module _ {D : Type 0} (g : Ghosts D) (a b c : Store D g) (still : IsStill g a b) where
-  pub still_then : IsStill g b c → IsStill g a c
-  still_then second = record {
-    word = λ k. still.word (second.word k);
-    content = λ k. second.content k ∙ still.content (second.word k);
-    room = second.room ∙ still.room;
-    sizes = λ id. second.sizes id ∙ still.sizes id;
-    failed = second.failed ∙ still.failed;
-    failures = second.failures ∙ still.failures;
-  }
-
   pub reads_more : Leaves (disk_of g a) (disk_of g b) (λ x. x ≡ content_of g a)
       → Leaves (disk_of g b) (disk_of g c) (λ x. x ≡ content_of g b)
       → Leaves (disk_of g a) (disk_of g c) (λ x. x ≡ content_of g a)
@@ -46,7 +36,7 @@ module _ {D : Type 0} (g : Ghosts D) (a b c : Store D g) (still : IsStill g a b)
       → Leaves (disk_of g a) (disk_of g b) (λ x. x ≡ content_of g a) → ReadsOnly g b c result → ReadsOnly g a c result
   then_reads result fine first second = record {
     leaves = reads_more first second.leaves;
-    stays = λ other. still_then (second.stays other);
+    stays = λ other. still_then g a b c still (second.stays other);
     device = λ is. breaks_then fine (second.device is);
   }
 

@@ -1,5 +1,5 @@
 //! Which objects a store has.
-ghost use Rattle.std.specs.Prelude.{◌≡◌, ◌↔◌, false, is_some, All, IfErr, IfOk, IsTrue};
+ghost use Rattle.std.specs.Prelude.{◌≡◌, ◌↔◌, false, is_some, All, IfOk, IsTrue, IsOkUnless};
 ghost use Rattle.cube_model.specs.declared.fault.Fault.{Fault};
 ghost use Rattle.object_store.specs.Content.{bytes_of};
 ghost use Rattle.object_store.specs.Store.{content_of, device_of};
@@ -24,7 +24,7 @@ pub fn has_its_objects<D: Sectors>(
     // It does where the content represents a warehouse of that root.
     ensures represents { IfOk result
         (λ has. has ≡ false → ForHeldOfRoot D.Sectors store.now store.now root.now (λ w. ⊥)) }
-    ensures memory { IfErr result (λ fault. fault ≡ Fault.Memory) }
+    ensures memory { IsOkUnless result Fault.Memory }
 {
     let ids = root.object_ids(alloc)?;
     if store.objects() as usize > ids.len() {

@@ -1,5 +1,5 @@
 //! The ship modes of a warehouse.
-ghost use Rattle.std.specs.Prelude.{◌≡◌, ◌⊎◌, ◌≤◌, ℕ, List, [], ◌++◌, None, Some, length, IfErr, IfOk};
+ghost use Rattle.std.specs.Prelude.{◌≡◌, ◌⊎◌, ◌≤◌, ℕ, List, [], ◌++◌, None, Some, length, IfErr, IfOk, IsOkUnless};
 ghost use Rattle.cube_model.specs.declared.fault.Fault.TheVariants.{BadLayout, Memory};
 ghost use Rattle.cube_model.specs.declared.fault.MemberPlace.TheVariants.{InBatch};
 ghost use Rattle.cube_model.specs.Limits.{most_batch_rows};
@@ -63,7 +63,7 @@ impl ShipModes {
     pub fn encode(&self, alloc: Global) -> Result<Vec<u8>, Fault>
         ensures ok { IfOk result (λ bytes. bytes.items ≡ modes_spelling self.now) }
         ensures are { AreModes self.now }
-        ensures memory { IfErr result (λ fault. fault ≡ Memory) }
+        ensures memory { IsOkUnless result Memory }
     {
         encode_modes(alloc, &self.texts)
     }

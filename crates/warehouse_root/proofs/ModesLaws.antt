@@ -19,7 +19,9 @@ SpellModes-one bytes a b one other =
     (texts_spelling-one most_members a b [] [] (omega arith) one.are.proper other.are.proper
     (append-nil (texts_spelling a) ∙ same ∙ sym (append-nil (texts_spelling b)))).0
 
-each_text_most : (texts : List (List ℕ)) → AreShort texts → length (flat_map text_spelling texts) ≤ 256 * length texts
+-- the texts one after another have at most so many bytes
+pub each_text_most : (texts : List (List ℕ)) → AreShort texts
+    → length (flat_map text_spelling texts) ≤ 256 * length texts
 each_text_most [] short = omega arith
 each_text_most (text ∷ texts) short =
     let here = All-head (λ t. length t ≤ longest_text) text texts short in

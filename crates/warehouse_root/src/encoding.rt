@@ -1,5 +1,5 @@
 //! Spelling the parts of a root.
-ghost use Rattle.std.specs.Prelude.{◌≡◌, ◌++◌, IfErr, OnOk};
+ghost use Rattle.std.specs.Prelude.{◌≡◌, ◌++◌, OnOk, IsOkUnless};
 ghost use Rattle.std.specs.List.{flat_map};
 ghost use Rattle.cube_model.specs.declared.fault.Fault.{Fault};
 ghost use Rattle.wire.specs.Spelling.{spelling};
@@ -18,7 +18,7 @@ pub(crate) fn push_counts(
     cuboids: u32,
 ) -> Result<(), Fault>
     ensures ok { OnOk result (out.new.items ≡ out.old.items ++ counts_spelling batches target additions cuboids) }
-    ensures memory { IfErr result (λ fault. fault ≡ Fault.Memory) }
+    ensures memory { IsOkUnless result Fault.Memory }
 {
     push_u32(out, batches)?;
     push_u32(out, target)?;
@@ -29,7 +29,7 @@ pub(crate) fn push_counts(
 // Adds the totals.
 pub(crate) fn push_totals(out: &mut Vec<u8>, totals: &Totals) -> Result<(), Fault>
     ensures ok { OnOk result (out.new.items ≡ out.old.items ++ totals_spelling totals.now) }
-    ensures memory { IfErr result (λ fault. fault ≡ Fault.Memory) }
+    ensures memory { IsOkUnless result Fault.Memory }
 {
     push_u64(out, totals.quantity)?;
     push_u64(out, totals.extendedprice)?;
@@ -42,7 +42,7 @@ pub(crate) fn push_totals(out: &mut Vec<u8>, totals: &Totals) -> Result<(), Faul
 // Adds the rows of each batch.
 pub(crate) fn push_rows(out: &mut Vec<u8>, batches: &[u32]) -> Result<(), Fault>
     ensures ok { OnOk result (out.new.items ≡ out.old.items ++ flat_map (spelling 4) batches.now) }
-    ensures memory { IfErr result (λ fault. fault ≡ Fault.Memory) }
+    ensures memory { IsOkUnless result Fault.Memory }
 {
     for rows in batches {
         push_u32(out, *rows)?;
@@ -53,7 +53,7 @@ pub(crate) fn push_rows(out: &mut Vec<u8>, batches: &[u32]) -> Result<(), Fault>
 // Adds each cuboid.
 pub(crate) fn push_cuboids(out: &mut Vec<u8>, cuboids: &[StoredCuboid]) -> Result<(), Fault>
     ensures ok { OnOk result (out.new.items ≡ out.old.items ++ flat_map cuboid_of cuboids.now) }
-    ensures memory { IfErr result (λ fault. fault ≡ Fault.Memory) }
+    ensures memory { IsOkUnless result Fault.Memory }
 {
     for cuboid in cuboids {
         push_cuboid(out, cuboid)?;
@@ -63,7 +63,7 @@ pub(crate) fn push_cuboids(out: &mut Vec<u8>, cuboids: &[StoredCuboid]) -> Resul
 
 fn push_cuboid(out: &mut Vec<u8>, cuboid: &StoredCuboid) -> Result<(), Fault>
     ensures ok { OnOk result (out.new.items ≡ out.old.items ++ cuboid_of cuboid.now) }
-    ensures memory { IfErr result (λ fault. fault ≡ Fault.Memory) }
+    ensures memory { IsOkUnless result Fault.Memory }
 {
     push_u16(out, cuboid.view)?;
     push_u16(out, cuboid.runs)?;

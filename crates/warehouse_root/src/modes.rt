@@ -23,7 +23,7 @@ const NAME: &[u8] = b"SHP2";
 pub fn encode_modes(alloc: Global, modes: &Dictionary) -> Result<Vec<u8>, Fault>
     requires { AreShort modes.now.texts }
     ensures ok { IfOk result (λ bytes. bytes.items ≡ modes_spelling modes.now.texts) }
-    ensures memory { IfErr result (λ fault. fault ≡ Fault.Memory) }
+    ensures memory { IsOkUnless result Fault.Memory }
 {
     let mut out = Vec::new(alloc);
     push_bytes(&mut out, NAME)?;

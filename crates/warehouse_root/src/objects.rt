@@ -1,5 +1,5 @@
 //! The ids of the objects of a warehouse.
-ghost use Rattle.std.specs.Prelude.{◌≡◌, ◌+◌, ◌≤◌, ◌<◌, ◌^◌, ◌++◌, IfErr, OnOk};
+ghost use Rattle.std.specs.Prelude.{◌≡◌, ◌+◌, ◌≤◌, ◌<◌, ◌^◌, ◌++◌, OnOk, IsOkUnless};
 ghost use Rattle.std.specs.List.{flat_map, range_with_len};
 ghost use Rattle.cube_model.specs.declared.fault.Fault.{Fault};
 ghost use Rattle.cube_model.specs.Limits.{most_batches};
@@ -27,7 +27,7 @@ pub fn run_id(view: u16, run: u16) -> u32
 pub(crate) fn push_numbers(out: &mut Vec<u32>, first: u32, count: u32) -> Result<(), Fault>
     requires { first + count < 2 ^ 32 }
     ensures ok { OnOk result (out.new.items ≡ out.old.items ++ range_with_len first count) }
-    ensures memory { IfErr result (λ fault. fault ≡ Fault.Memory) }
+    ensures memory { IsOkUnless result Fault.Memory }
 {
     for id in first..first + count {
         out.push(id)?;
@@ -38,7 +38,7 @@ pub(crate) fn push_numbers(out: &mut Vec<u32>, first: u32, count: u32) -> Result
 // Adds the ids of the runs of each cuboid.
 pub(crate) fn push_runs(out: &mut Vec<u32>, cuboids: &[StoredCuboid]) -> Result<(), Fault>
     ensures ok { OnOk result (out.new.items ≡ out.old.items ++ flat_map run_ids cuboids.now) }
-    ensures memory { IfErr result (λ fault. fault ≡ Fault.Memory) }
+    ensures memory { IsOkUnless result Fault.Memory }
 {
     for cuboid in cuboids {
         push_run_ids(out, *cuboid)?;
@@ -49,7 +49,7 @@ pub(crate) fn push_runs(out: &mut Vec<u32>, cuboids: &[StoredCuboid]) -> Result<
 /// Adds the ids of the runs of a cuboid.
 pub fn push_run_ids(out: &mut Vec<u32>, cuboid: StoredCuboid) -> Result<(), Fault>
     ensures ok { OnOk result (out.new.items ≡ out.old.items ++ run_ids cuboid) }
-    ensures memory { IfErr result (λ fault. fault ≡ Fault.Memory) }
+    ensures memory { IsOkUnless result Fault.Memory }
 {
     push_numbers(out, run_id(cuboid.view, 0), u32::from(cuboid.runs))
 }

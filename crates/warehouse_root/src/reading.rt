@@ -105,7 +105,7 @@ fn read_totals(cursor: &mut Cursor<'_>) -> Result<Totals, Fault>
 fn read_rows(alloc: Global, cursor: &mut Cursor<'_>, count: usize) -> Result<Vec<u32>, Fault>
     requires { 4 * count ≤ length cursor.old }
     ensures ok { IfOk result (λ batches. ReadsRows count cursor.old cursor.new batches.items) }
-    ensures memory { IfErr result (λ fault. fault ≡ Fault.Memory) }
+    ensures memory { IsOkUnless result Fault.Memory }
 {
     let mut batches = Vec::with_capacity(alloc, count)?;
     for _ in 0..count {
@@ -123,7 +123,7 @@ fn read_cuboids(
 ) -> Result<Vec<StoredCuboid>, Fault>
     requires { 12 * count ≤ length cursor.old }
     ensures ok { IfOk result (λ cuboids. ReadsCuboids count cursor.old cursor.new cuboids.items) }
-    ensures memory { IfErr result (λ fault. fault ≡ Fault.Memory) }
+    ensures memory { IsOkUnless result Fault.Memory }
 {
     let mut cuboids = Vec::with_capacity(alloc, count)?;
     for _ in 0..count {

@@ -1,5 +1,5 @@
 //! The root of a warehouse.
-ghost use Rattle.std.specs.Prelude.{◌≡◌, ◌⊎◌, ◌≤◌, ◌<◌, [], ◌∷◌, ◌++◌, length, All, IfErr, IfOk, OnOk};
+ghost use Rattle.std.specs.Prelude.{◌≡◌, ◌⊎◌, ◌≤◌, ◌<◌, [], ◌∷◌, ◌++◌, length, All, IfErr, IfOk, OnOk, IsOkUnless};
 ghost use Rattle.cube_model.specs.declared.fault.Fault.{Fault};
 ghost use Rattle.cube_model.specs.Limits.{most_batch_rows, most_batches};
 ghost use Rattle.warehouse_root.specs.Limits.{most_additions, most_cuboids};
@@ -98,7 +98,7 @@ impl Root {
         requires rows { rows ≤ most_batch_rows }
         requires totals { AreProperTotals totals }
         ensures ok { IfOk result (λ root. root ≡ root_with_batch rows totals self.now) }
-        ensures memory { IfErr result (λ fault. fault ≡ Fault.Memory) }
+        ensures memory { IsOkUnless result Fault.Memory }
     {
         let batches = with_rows(alloc, &self.batches, rows)?;
         let cuboids = Vec::from_slice(alloc, &self.cuboids)?;
@@ -116,7 +116,7 @@ impl Root {
     pub fn with_target(&self, alloc: Global, target: u32) -> Result<Root, Fault>
         requires { target ≤ length self.now.batches }
         ensures ok { IfOk result (λ root. root ≡ with_target target self.now) }
-        ensures memory { IfErr result (λ fault. fault ≡ Fault.Memory) }
+        ensures memory { IsOkUnless result Fault.Memory }
     {
         let batches = Vec::from_slice(alloc, &self.batches)?;
         let cuboids = Vec::from_slice(alloc, &self.cuboids)?;
@@ -134,7 +134,7 @@ impl Root {
     pub fn with_addition(&self, alloc: Global) -> Result<Root, Fault>
         requires { self.now.additions < most_additions }
         ensures ok { IfOk result (λ root. root ≡ root_with_addition self.now) }
-        ensures memory { IfErr result (λ fault. fault ≡ Fault.Memory) }
+        ensures memory { IsOkUnless result Fault.Memory }
     {
         let batches = Vec::from_slice(alloc, &self.batches)?;
         let cuboids = Vec::from_slice(alloc, &self.cuboids)?;
@@ -151,7 +151,7 @@ impl Root {
     /// The root of the same batches and cuboids in the second layout.
     pub fn in_second_layout(&self, alloc: Global) -> Result<Root, Fault>
         ensures ok { IfOk result (λ root. root ≡ root_in_second self.now) }
-        ensures memory { IfErr result (λ fault. fault ≡ Fault.Memory) }
+        ensures memory { IsOkUnless result Fault.Memory }
     {
         let batches = Vec::from_slice(alloc, &self.batches)?;
         let cuboids = Vec::from_slice(alloc, &self.cuboids)?;
@@ -169,7 +169,7 @@ impl Root {
     pub fn with_cuboid(&self, alloc: Global, cuboid: StoredCuboid) -> Result<Root, Fault>
         requires { IsProperCuboid self.now.layout (length self.now.batches) cuboid }
         ensures ok { IfOk result (λ root. root ≡ with_cuboid cuboid self.now) }
-        ensures memory { IfErr result (λ fault. fault ≡ Fault.Memory) }
+        ensures memory { IsOkUnless result Fault.Memory }
     {
         let batches = Vec::from_slice(alloc, &self.batches)?;
         let cuboids = with_one(alloc, &self.cuboids, cuboid)?;
@@ -189,7 +189,7 @@ impl Root {
         requires each { All (IsProperCuboid self.now.layout (length self.now.batches)) cuboids.items }
         requires ascending { ViewsAscend cuboids.items }
         ensures ok { IfOk result (λ root. root ≡ with_cuboids cuboids.items self.now) }
-        ensures memory { IfErr result (λ fault. fault ≡ Fault.Memory) }
+        ensures memory { IsOkUnless result Fault.Memory }
     {
         let batches = Vec::from_slice(alloc, &self.batches)?;
         Ok(Root {
@@ -205,7 +205,7 @@ impl Root {
     /// The bytes of the root.
     pub fn encode(&self, alloc: Global) -> Result<Vec<u8>, Fault>
         ensures ok { IfOk result (λ bytes. IsRoot bytes.items self.now) }
-        ensures memory { IfErr result (λ fault. fault ≡ Fault.Memory) }
+        ensures memory { IsOkUnless result Fault.Memory }
     {
         let (batches, cuboids) = (self.batches.len(), self.cuboids.len());
         let mut out = Vec::with_capacity(alloc, 64 + 4 * batches + 12 * cuboids)?;
@@ -216,7 +216,7 @@ impl Root {
     // Adds the bytes of the root.
     fn push_parts(&self, out: &mut Vec<u8>) -> Result<(), Fault>
         ensures ok { OnOk result (out.new.items ≡ out.old.items ++ root_spelling self.now) }
-        ensures memory { IfErr result (λ fault. fault ≡ Fault.Memory) }
+        ensures memory { IsOkUnless result Fault.Memory }
     {
         push_counts(
             out,
@@ -310,7 +310,7 @@ impl Root {
     /// The ids of the objects that the root asks for, ascending: dimensions, segments, runs of cuboids.
     pub fn object_ids(&self, alloc: Global) -> Result<Vec<u32>, Fault>
         ensures ok { IfOk result (λ ids. ids.items ≡ object_ids self.now) }
-        ensures memory { IfErr result (λ fault. fault ≡ Fault.Memory) }
+        ensures memory { IsOkUnless result Fault.Memory }
     {
         let mut ids = Vec::new(alloc);
         push_numbers(&mut ids, 1, self.layout.dimensions())?;
@@ -324,7 +324,7 @@ impl Root {
 fn with_rows(alloc: Global, batches: &[u32], rows: u32) -> Result<Vec<u32>, Fault>
     requires { length batches.now < most_batches }
     ensures ok { IfOk result (λ more. more.items ≡ batches.now ++ rows ∷ []) }
-    ensures memory { IfErr result (λ fault. fault ≡ Fault.Memory) }
+    ensures memory { IsOkUnless result Fault.Memory }
 {
     let mut more = Vec::with_capacity(alloc, batches.len() + 1)?;
     more.extend_from_slice(batches)?;
@@ -339,7 +339,7 @@ fn with_one(
     cuboid: StoredCuboid,
 ) -> Result<Vec<StoredCuboid>, Fault>
     ensures ok { IfOk result (λ put. put.items ≡ put_stored_cuboid cuboid cuboids.now) }
-    ensures memory { IfErr result (λ fault. fault ≡ Fault.Memory) }
+    ensures memory { IsOkUnless result Fault.Memory }
 {
     let mut put = Vec::with_capacity(alloc, cuboids.len())?;
     for other in cuboids {

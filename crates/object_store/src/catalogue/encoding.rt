@@ -1,5 +1,5 @@
 //! Spelling a catalogue.
-ghost use Rattle.std.specs.Prelude.{◌≡◌, ◌+◌, ◌*◌, ◌^◌, ◌<◌, ◌++◌, length, IfErr, IfOk, OnOk};
+ghost use Rattle.std.specs.Prelude.{◌≡◌, ◌+◌, ◌*◌, ◌^◌, ◌<◌, ◌++◌, length, IfOk, OnOk, IsOkUnless};
 ghost use Rattle.std.specs.List.{flat_map};
 ghost use Rattle.cube_model.specs.declared.fault.Fault.{Fault};
 ghost use Rattle.object_store.specs.Catalogue.{catalogue_of, entry_of, catalogue_header};
@@ -17,7 +17,7 @@ pub fn encode(alloc: Global, entries: &[Entry], root: &[u8]) -> Result<Vec<u8>, 
     requires few { length entries.now < 2 ^ 32 }
     requires short { length root.now < 2 ^ 32 }
     ensures ok { IfOk result (λ bytes. bytes.items ≡ catalogue_of entries.now root.now) }
-    ensures memory { IfErr result (λ fault. fault ≡ Fault.Memory) }
+    ensures memory { IsOkUnless result Fault.Memory }
 {
     let mut out = Vec::with_capacity(alloc, 12 + 16 * entries.len() + root.len())?;
     push_bytes(&mut out, &header(entries.len() as u32, root.len() as u32))?;
@@ -28,7 +28,7 @@ pub fn encode(alloc: Global, entries: &[Entry], root: &[u8]) -> Result<Vec<u8>, 
 
 fn push_entries(out: &mut Vec<u8>, entries: &[Entry]) -> Result<(), Fault>
     ensures ok { OnOk result (out.new.items ≡ out.old.items ++ flat_map entry_of entries.now) }
-    ensures memory { IfErr result (λ fault. fault ≡ Fault.Memory) }
+    ensures memory { IsOkUnless result Fault.Memory }
 {
     for entry in entries {
         push_bytes(out, &spelled(entry))?;

@@ -1,5 +1,5 @@
 //! Reading the parts of a catalogue from the front of bytes.
-ghost use Rattle.std.specs.Prelude.{◌≡◌, ◌≢◌, ◌*◌, ◌≤◌, ◌<◌, ◌++◌, ℕ, List, length, IfErr, IfOk, IsErr};
+ghost use Rattle.std.specs.Prelude.{◌≢◌, ◌*◌, ◌≤◌, ◌<◌, ◌++◌, ℕ, List, length, IfOk, IsErr};
 ghost use Rattle.std.specs.Prelude.{IsOkUnless, IsTrue, ◌↔◌};
 ghost use Rattle.cube_model.specs.declared.fault.Fault.{Fault};
 ghost use Rattle.object_store.specs.Catalogue.{catalogue_header};
@@ -54,7 +54,7 @@ pub(crate) fn read_entries(
 ) -> Result<Vec<Entry>, Fault>
     requires { 16 * count ≤ length cursor.old }
     ensures ok { IfOk result (λ entries. ReadsEntries count cursor.old cursor.new entries.items) }
-    ensures memory { IfErr result (λ fault. fault ≡ Fault.Memory) }
+    ensures memory { IsOkUnless result Fault.Memory }
 {
     let mut entries = Vec::with_capacity(alloc, count)?;
     for _ in 0..count {

@@ -8,7 +8,7 @@ use Rattle.c_library.proofs.answering.answer_on.Goals as goal
 pub returns-in-Err-clause-refused : goal.returns-in-Err-clause-refused
 returns-in-Err-clause-refused g c keeps facts shows =
     ⊎_elim (λ memory. inl (inl memory)) (λ device. inr (inl device))
-    (c.in-Err.ensures.never facts None shows (keeps c.in-Err.field-0-1))
+    (c.in-Err.ensures.refused.never facts None shows (keeps c.in-Err.field-0-1))
 
 pub returns-in-Ok-report_formatted-clause-answers : goal.returns-in-Ok-report_formatted-clause-answers
 returns-in-Ok-report_formatted-clause-answers g c keeps facts shows =

@@ -9,7 +9,7 @@ pub returns-in-Err-clause-refused : goal.returns-in-Err-clause-refused
 returns-in-Err-clause-refused g c keeps facts shows =
     subst (λ (f : Fault). LoadRefuses facts c.args.first c.args.rows c.args.lineorder.now f) (sym c.named.ensures)
     (not_opened facts c.args.first c.args.rows c.args.lineorder.now c.in-Err.fault
-    (c.in-Err.ensures.never facts None shows (keeps c.in-Err.field-0-1)))
+    (c.in-Err.ensures.refused.never facts None shows (keeps c.in-Err.field-0-1)))
 
 pub returns-in-Ok-perform-clause-loads : goal.returns-in-Ok-perform-clause-loads
 returns-in-Ok-perform-clause-loads g c keeps facts shows =

@@ -13,10 +13,10 @@ use Rattle.object_store.specs.Store.{IsStill, content_of}
 use Rattle.warehouse_objects.specs.Represents.{Represents}
 use Rattle.warehouse_objects.proofs.Batches.{get_within}
 use Rattle.warehouse_objects.proofs.Folded.{count_there, err_fault, own_foldable}
-use Rattle.warehouse_objects.proofs.OneMoreRead.{reads_more, same_error, still_then, then_reads}
+use Rattle.warehouse_objects.proofs.OneMoreRead.{reads_more, same_error, then_reads}
 use Rattle.planned_queries.specs.ModesCounted.{ServesWithModes}
 use Rattle.planned_queries.proofs.Folding.{can_take_next, folds_next}
-use Rattle.object_store.proofs.SourceLemmas.{still_here}
+use Rattle.object_store.proofs.SourceLemmas.{still_here, still_then}
 use Rattle.object_store.proofs.CallerLemmas.{leaves_now}
 use Rattle.planned_queries.proofs.mode_batches.add_batches.Goals as goal
 

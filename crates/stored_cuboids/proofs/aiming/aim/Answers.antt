@@ -7,7 +7,8 @@ use Rattle.stored_cuboids.specs.Keeping.{StoreAt}
 use Rattle.stored_cuboids.proofs.Replaced.{before_at, before_leaves, generation_replaced, makes_target, replaced_at}
 use Rattle.stored_cuboids.proofs.Replaced.{replaced_causes, replaced_leaves}
 use Rattle.object_store.proofs.CallerLemmas.{leaves_now}
-use Rattle.stored_cuboids.proofs.LaterReads.{leaves_first}
+use Rattle.stored_cuboids.proofs.LaterReads.{leaves_first, loaded_or_before}
+use Rattle.stored_cuboids.proofs.StoreCalls.{out_of_memory}
 use Rattle.stored_cuboids.proofs.aiming.aim.Goals as goal
 
 pub returns-in-Ok-replace_root-clause-leaves : goal.returns-in-Ok-replace_root-clause-leaves
@@ -24,7 +25,8 @@ returns-in-Ok-replace_root-clause-ok g c w at =
     (replaced_at g.D.Sectors c.args.store.now c.replace_root.new.store w (aimed w) c.args.root.now c.in-Ok.next [] at
     (makes_target (stores.content_of g.D.Sectors c.args.store.now) c.args.root.now c.in-Ok.next w c.batches.result.now
     c.in-Ok.ensures.ok c.batches.ensures.value)
-    c.in-Ok-replace_root.ensures.fine c.replace_root.ensures.word c.in-Ok-replace_root.ensures.ok)
+    (c.in-Ok-replace_root.ensures.calls.fine (λ is. cc)) c.replace_root.ensures.calls.word
+    c.in-Ok-replace_root.ensures.ok)
 
 pub returns-in-Ok-replace_root-clause-once : goal.returns-in-Ok-replace_root-clause-once
 returns-in-Ok-replace_root-clause-once g c k =
@@ -54,7 +56,7 @@ returns-in-Err-replace_root-clause-causes g c cause w at k =
     (makes_target (stores.content_of g.D.Sectors c.args.store.now) c.args.root.now c.in-Ok.next w c.batches.result.now
     c.in-Ok.ensures.ok c.batches.ensures.value)
     [] c.in-Err-replace_root.fault (λ same. refl)
-    (c.replace_root.ensures.word k) (c.in-Err-replace_root.ensures.causes cause)
+    (c.replace_root.ensures.calls.word k) (c.in-Err-replace_root.ensures.causes cause)
 
 pub returns-in-Err-clause-leaves : goal.returns-in-Err-clause-leaves
 returns-in-Err-clause-leaves g c w at =
@@ -67,3 +69,13 @@ returns-in-Err-clause-refused g c other w at = (
   leaves_first g.D.Sectors g.met.D.Sectors.only_now c.args.store.now w c.args.root.now at _
       (λ content represents. represents),
 )
+
+pub returns-in-Err-clause-calls : goal.returns-in-Err-clause-calls
+returns-in-Err-clause-calls g c =
+    out_of_memory g.D.Sectors c.in-Err.fault c.args.store.now c.requires.fine c.in-Err.ensures.memory
+
+pub returns-in-Err-replace_root-clause-loaded : goal.returns-in-Err-replace_root-clause-loaded
+returns-in-Err-replace_root-clause-loaded g c =
+    loaded_or_before g.D.Sectors c.args.store.now c.replace_root.new.store c.args.root.now c.replace_root.new.root
+    c.replace_root.result c.replace_root.ensures.loaded c.replace_root.ensures.kept c.replace_root.ensures.refused
+    c.replace_root.ensures.calls.device

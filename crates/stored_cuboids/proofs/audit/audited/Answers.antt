@@ -11,10 +11,10 @@ use Rattle.warehouse_root.specs.declared.cuboid.StoredCuboid.{StoredCuboid}
 use Rattle.warehouse_objects.specs.Represents.{IsLaidOut, said_of}
 use Rattle.warehouse_objects.proofs.Batches.{get_within}
 use Rattle.warehouse_objects.proofs.Folded.{err_fault}
-use Rattle.warehouse_objects.proofs.OneMoreRead.{has_read, reads_more, same_error, still_then, then_reads}
+use Rattle.warehouse_objects.proofs.OneMoreRead.{has_read, reads_more, same_error, then_reads}
 use Rattle.stored_cuboids.specs.Merged.{IsSound}
 use Rattle.stored_cuboids.proofs.Auditing.{found_there, said_there}
-use Rattle.object_store.proofs.SourceLemmas.{still_here}
+use Rattle.object_store.proofs.SourceLemmas.{still_here, still_then}
 use Rattle.object_store.proofs.CallerLemmas.{leaves_now}
 use Rattle.stored_cuboids.proofs.audit.audited.Goals as goal
 

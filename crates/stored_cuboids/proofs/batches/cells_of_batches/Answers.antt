@@ -18,7 +18,8 @@ use Rattle.warehouse_objects.specs.Represents.{IsLaidOut}
 use Rattle.warehouse_objects.specs.Warehouse.{ship_modes_of}
 use Rattle.warehouse_objects.proofs.Batches.{get_within}
 use Rattle.warehouse_objects.proofs.Folded.{err_fault, of_fault}
-use Rattle.warehouse_objects.proofs.OneMoreRead.{has_read, reads_more, same_error, still_then, then_reads}
+use Rattle.object_store.proofs.SourceLemmas.{still_then}
+use Rattle.warehouse_objects.proofs.OneMoreRead.{has_read, reads_more, same_error, then_reads}
 use Rattle.cuboid_upkeep.specs.Growing.{grown}
 use Rattle.stored_cuboids.proofs.BatchesLemmas.{too_many_of, unfit, its_members, many_then, never_bad, none_represent}
 use Rattle.stored_cuboids.proofs.BatchesLemmas.{own_modes, count_here, between, none_between, one_more}

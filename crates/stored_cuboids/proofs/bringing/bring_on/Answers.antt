@@ -15,6 +15,7 @@ use Rattle.warehouse_objects.proofs.Folded.{err_fault}
 use Rattle.stored_cuboids.proofs.LaterReads.{at_before, at_still, loaded_before, loaded_still}
 use Rattle.stored_cuboids.proofs.Turns.{same}
 use Rattle.object_store.proofs.CallerLemmas.{leaves_now}
+use Rattle.stored_cuboids.proofs.StoreCalls.{no_call_yet, one_more_call, read_refused, refused_alike}
 use Rattle.stored_cuboids.proofs.bringing.bring_on.Goals as goal
 
 pub returns-then-target-cuboid-clause-leaves : goal.returns-then-target-cuboid-clause-leaves
@@ -85,7 +86,7 @@ returns-in-Err-put_next-clause-reason g c no_device no_memory k w at rows =
     (λ refuses. refused_next g.D.Sectors c.args.store.now c.next_of.new.store still c.args.dims.now c.args.modes.now
     c.args.root.now
     c.cuboid_at.result.0 c.args.place c.cuboid_at.ensures.at next c.in-Ok.ensures.ok
-    c.put_next.new.store w fault at rows (c.put_next.ensures.word k)
+    c.put_next.new.store w fault at rows (c.put_next.ensures.calls.word k)
     (omega (arith, c.target.ensures, c.if-target-cuboid.false)) (c.in-Err-put_next.ensures.refused no_device)
     refuses)
     (c.in-Err-put_next.ensures.causes no_device)
@@ -129,14 +130,6 @@ returns-in-Err-clause-reached g c v at k rows cuboid is =
     c.args.root.now
     c.cuboid_at.result.0 c.args.place c.cuboid_at.ensures.at c.cuboid_at.result.1 c.cuboid_at.ensures.view
     (c.in-Err.ensures.large (ap (λ (f : Fault). Err f) many) k) v at k rows cuboid is
-
-pub returns-in-Err-2-clause-failed : goal.returns-in-Err-2-clause-failed
-returns-in-Err-2-clause-failed g c is =
-    never_failed c.in-Err.fault (index_of c.cuboid_at.result.1) c.in-Err.ensures.causes is
-
-pub returns-in-Err-put_next-clause-failed : goal.returns-in-Err-put_next-clause-failed
-returns-in-Err-put_next-clause-failed g c is =
-    c.in-Err-put_next.ensures.failed (ap (λ (f : Fault). Err f) (err_fault c.in-Err-put_next.fault Failed is))
 
 pub returns-in-Err-2-clause-leaves : goal.returns-in-Err-2-clause-leaves
 returns-in-Err-2-clause-leaves g c w at rows =
@@ -182,7 +175,7 @@ pub returns-in-Ok-put_next-clause-loaded : goal.returns-in-Ok-put_next-clause-lo
 returns-in-Ok-put_next-clause-loaded g c fine k rows modes is =
     c.in-Ok-put_next.ensures.loaded k rows modes
     (loaded_still g.D.Sectors c.args.store.now c.next_of.new.store (c.in-Ok.ensures.reads.stays (λ e. cc))
-    (c.put_next.ensures.word k) rows modes c.args.root.now is)
+    (c.put_next.ensures.calls.word k) rows modes c.args.root.now is)
     (ap (λ (r : PlainRoot). r.layout) c.in-Ok.ensures.ok.root_is)
 
 pub returns-in-Err-put_next-clause-loaded : goal.returns-in-Err-put_next-clause-loaded
@@ -191,7 +184,51 @@ returns-in-Err-put_next-clause-loaded g c fine k rows modes is =
     (sym c.in-Err-put_next.ensures.unchanged)
     (loaded_before g.D.Sectors c.next_of.new.store c.put_next.new.store
     (c.in-Err-put_next.ensures.refused (λ e.
-    let both : true ≡ false = sym (c.in-Err-put_next.ensures.device (ap (λ f. Err f) e)).failed ∙ fine in absurd cc))
+    let both : true ≡ false = sym (c.in-Err-put_next.ensures.calls.device (ap (λ f. Err f) e)).failed ∙ fine in
+    absurd cc))
     rows modes c.args.root.now
     (loaded_still g.D.Sectors c.args.store.now c.next_of.new.store (c.in-Ok.ensures.reads.stays (λ e. cc))
-    (c.put_next.ensures.word k) rows modes c.args.root.now is))
+    (c.put_next.ensures.calls.word k) rows modes c.args.root.now is))
+
+pub returns-then-target-cuboid-clause-calls : goal.returns-then-target-cuboid-clause-calls
+returns-then-target-cuboid-clause-calls g c =
+    no_call_yet g.D.Sectors _ c.args.store.now c.requires.fine (λ is. cc) (λ is. cc)
+
+pub returns-in-Ok-put_next-clause-calls : goal.returns-in-Ok-put_next-clause-calls
+returns-in-Ok-put_next-clause-calls g c =
+    let still : IsStill g.D.Sectors c.args.store.now c.next_of.new.store = c.in-Ok.ensures.reads.stays (λ is. cc) in
+    let calls = c.in-Ok-put_next.ensures.calls in record {
+      failed = λ is. cc;
+      device = λ is. absurd cc;
+      fine = λ other. calls.fine (λ is. cc);
+      failures = λ other. calls.failures (λ is. cc) ∙ still.failures;
+      word = λ k. still.word (calls.word k);
+    }
+
+pub returns-in-Err-put_next-clause-calls : goal.returns-in-Err-put_next-clause-calls
+returns-in-Err-put_next-clause-calls g c =
+    let still : IsStill g.D.Sectors c.args.store.now c.next_of.new.store = c.in-Ok.ensures.reads.stays (λ is. cc) in
+    let fault = c.in-Err-put_next.fault in
+    refused_alike g.D.Sectors _ _ c.args.store.now c.put_next.new.store
+    (λ is. ap (λ (f : Fault). Err f) (err_fault fault Failed is))
+    (λ is. ap (λ (f : Fault). Err f) (err_fault fault Device is))
+    (λ is. ap (λ (f : Fault). Err f) (err_fault fault Device is))
+    (one_more_call g.D.Sectors _ c.args.store.now c.next_of.new.store c.put_next.new.store c.requires.fine still.word
+    still.failures c.in-Err-put_next.ensures.calls)
+
+pub returns-in-Err-2-clause-calls : goal.returns-in-Err-2-clause-calls
+returns-in-Err-2-clause-calls g c =
+    let fault = c.in-Err.fault in
+    read_refused g.D.Sectors _ (Err fault) c.args.store.now c.next_of.new.store c.requires.fine c.in-Err.ensures.reads
+    (never_failed fault (index_of c.cuboid_at.result.1) c.in-Err.ensures.causes)
+    (λ is. ap (λ (f : Fault). Err f) (err_fault fault Device is))
+    (λ is. ap (λ (f : Fault). Err f) (err_fault fault Device is))
+
+pub returns-in-Err-clause-calls : goal.returns-in-Err-clause-calls
+returns-in-Err-clause-calls g c =
+    let fault = c.in-Err.fault in
+    let many = many_by_number fault (index_of c.cuboid_at.result.1)
+    (c.is_too_large.ensures.0 c.if-is_too_large.true) c.in-Err.ensures.causes in
+    read_refused g.D.Sectors _ (Err fault) c.args.store.now c.next_of.new.store c.requires.fine c.in-Err.ensures.reads
+    (λ is. cc) (λ is. absurd cc)
+    (λ is. absurd (not_device fault (index_of c.cuboid_at.result.1) many is))

@@ -11,6 +11,7 @@ use Rattle.warehouse_objects.proofs.Batches.{get_within}
 use Rattle.stored_cuboids.proofs.Turns.{AreReached, all_done, leaves_first, leaves_more, lower_reached, members_kept}
 use Rattle.stored_cuboids.proofs.Turns.{none_yet, one_more, same, still_reached, then_more}
 use Rattle.object_store.proofs.CallerLemmas.{leaves_now}
+use Rattle.stored_cuboids.proofs.StoreCalls.{one_more_call}
 use Rattle.stored_cuboids.proofs.catching.catch_up.Goals as goal
 
 pub loop-place-init : goal.loop-place-init
@@ -42,12 +43,12 @@ loop-place-preserved g c =
     let start = c.args.store.now in
     let mid = c.loop-place.store in
     let new = c.bring_on.new.store in record {
-      fine = c.in-Ok.ensures.fine;
-      failures = c.in-Ok.ensures.failures ∙ so_far.failures;
+      fine = (c.in-Ok.ensures.calls.fine (λ is. cc));
+      failures = (c.in-Ok.ensures.calls.failures (λ is. cc)) ∙ so_far.failures;
       many = c.bring_on.ensures.many ∙ so_far.many;
-      word = λ k. so_far.word (c.bring_on.ensures.word k);
-      loaded = λ k rows modes is. c.bring_on.ensures.loaded c.in-Ok.ensures.fine k rows modes
-          (so_far.loaded (c.bring_on.ensures.word k) rows modes is);
+      word = λ k. so_far.word (c.bring_on.ensures.calls.word k);
+      loaded = λ k rows modes is. c.bring_on.ensures.loaded (c.in-Ok.ensures.calls.fine (λ is. cc)) k rows modes
+          (so_far.loaded (c.bring_on.ensures.calls.word k) rows modes is);
       at = λ w at own.
           let was = so_far.at w at own in
           let known : g.D.Sectors.keeps_word (stores.device_of c.loop-place.store)
@@ -64,10 +65,10 @@ loop-place-preserved g c =
                 subst (λ f. AreReached (c.loop-place.place + 1) f now.0) (sym c.or-first.ensures)
                 (one_more now.0 c.loop-place.place c.loop-place.first c.in-Ok.passed there.0 there.1
                 (still_reached was.0 now.0 c.loop-place.place c.loop-place.first now.1
-                (was.3 (c.bring_on.ensures.word k)))
+                (was.3 (c.bring_on.ensures.calls.word k)))
                 (c.in-Ok.ensures.reached now.0 now.2 k
                 (members_kept was.0 now.0 c.args.dims.now c.args.modes.now now.1.kept
-                (known (c.bring_on.ensures.word k))) there.0 there.1)),
+                (known (c.bring_on.ensures.calls.word k))) there.0 there.1)),
           );
       leaves = λ w at own.
           let was = so_far.at w at own in
@@ -108,7 +109,7 @@ returns-in-Err-clause-reason g c no_device no_memory w at own =
       c.in-Err.ensures.refused no_device was.0 was.2,
       λ k.
           let refused = c.in-Err.ensures.reason no_device no_memory k was.0 was.2 known in
-          let before = c.bring_on.ensures.word k in record {
+          let before = c.bring_on.ensures.calls.word k in record {
             next = refused.0;
             lower = lower_reached was.0 c.loop-place.place c.loop-place.first refused.0.old
                 (was.2.represents before).root.proper.ascending refused.1 (was.3 before);
@@ -125,7 +126,7 @@ returns-in-Err-clause-readable g c is k w at own =
 pub returns-in-Err-clause-loaded : goal.returns-in-Err-clause-loaded
 returns-in-Err-clause-loaded g c fine k rows modes is =
     let so_far = c.loop-place.invariant in
-    c.bring_on.ensures.loaded fine k rows modes (so_far.loaded (c.bring_on.ensures.word k) rows modes is)
+    c.bring_on.ensures.loaded fine k rows modes (so_far.loaded (c.bring_on.ensures.calls.word k) rows modes is)
 
 pub returns-clause-stays : goal.returns-clause-stays
 returns-clause-stays g c other w at own = let now = c.loop-place.invariant.at w at own in (now.0, now.1, now.2)
@@ -142,3 +143,19 @@ returns-clause-ok g c w at own =
           all_done now.0 c.loop-place.place c.loop-place.first (now.2.represents k).root.proper.ascending
           (omega (arith, many, c.loop-place-test.false)) (now.3 k),
     )
+
+pub returns-in-Err-clause-calls : goal.returns-in-Err-clause-calls
+returns-in-Err-clause-calls g c =
+    let so_far = c.loop-place.invariant in
+    one_more_call g.D.Sectors _ c.args.store.now c.loop-place.store c.bring_on.new.store c.requires.fine so_far.word
+    so_far.failures c.in-Err.ensures.calls
+
+pub returns-clause-calls : goal.returns-clause-calls
+returns-clause-calls g c =
+    let so_far = c.loop-place.invariant in record {
+      failed = λ is. cc;
+      device = λ is. absurd cc;
+      fine = λ other. so_far.fine;
+      failures = λ other. so_far.failures;
+      word = so_far.word;
+    }

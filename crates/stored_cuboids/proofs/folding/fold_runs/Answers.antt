@@ -11,7 +11,8 @@ use Rattle.warehouse_root.specs.declared.cuboid.StoredCuboid.{StoredCuboid}
 use Rattle.warehouse_objects.proofs.Batches.{get_within}
 use Rattle.warehouse_objects.proofs.CallerLemmas.{laid_of}
 use Rattle.warehouse_objects.proofs.Folded.{err_fault}
-use Rattle.warehouse_objects.proofs.OneMoreRead.{reads_more, same_error, still_then, then_reads}
+use Rattle.object_store.proofs.SourceLemmas.{still_then}
+use Rattle.warehouse_objects.proofs.OneMoreRead.{reads_more, same_error, then_reads}
 use Rattle.warehouse_objects.specs.Represents.{rows_in}
 use Rattle.cuboid_cells.specs.Steps.{cells_of}
 use Rattle.stored_cuboids.specs.Counted.{AreCounted, CountsRun}

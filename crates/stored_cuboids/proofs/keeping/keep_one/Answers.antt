@@ -11,6 +11,7 @@ use Rattle.warehouse_objects.specs.Loaded.{IsLoaded}
 use Rattle.stored_cuboids.specs.Nexts.{first_run}
 use Rattle.stored_cuboids.proofs.KeepingLemmas.{after, few_one, loaded_next, next_leaves, refuses_same}
 use Rattle.warehouse_root.specs.Root.{IsRoot}
+use Rattle.object_store.specs.Disk.{disk}
 use Rattle.stored_cuboids.proofs.keeping.keep_one.Goals as goal
 
 pub commit-requires-clause-root : goal.commit-requires-clause-root
@@ -76,3 +77,24 @@ returns-in-Err-clause-causes g c device =
     (c.in-Err.ensures.refuses device (λ failed.
     let broken = c.commit.ensures.failed.0 (c.in-Err.is ∙ ap (λ (f : Fault). Err f) failed) in
     let both : true ≡ false = sym broken ∙ c.requires.fine in absurd cc))
+
+pub returns-in-Ok-clause-calls : goal.returns-in-Ok-clause-calls
+returns-in-Ok-clause-calls g c = record {
+  failed = λ is. cc;
+  device = λ is. absurd cc;
+  fine = λ other. c.in-Ok.ensures.fine.1;
+  failures = λ other. c.in-Ok.ensures.failures;
+  word = (c.commit.ensures.leaves c.requires.fine).word;
+}
+
+pub returns-in-Err-clause-calls : goal.returns-in-Err-clause-calls
+returns-in-Err-clause-calls g c =
+    let fine = c.requires.fine in
+    let refused = c.in-Err.ensures.refused in record {
+      failed = λ is. let broken : true ≡ false = sym (c.in-Err.ensures.failed.0 is) ∙ fine in absurd cc;
+      device = c.in-Err.ensures.device;
+      fine = λ other. (refused (λ e. other (ap (λ (f : Fault). Err f) e))).failed ∙ fine;
+      failures = λ other. ap (λ d. (disk g.D.Sectors d).failures)
+          (refused (λ e. other (ap (λ (f : Fault). Err f) e))).device;
+      word = (c.commit.ensures.leaves fine).word;
+    }

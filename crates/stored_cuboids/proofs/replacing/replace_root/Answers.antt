@@ -1,4 +1,5 @@
-use Rattle.std.proofs.Common.{◌≤◌, List, ℕ, length, sym, ◌∙◌, subst, arith, ap, ◌≡◌, inl}
+use Rattle.std.proofs.Common.{◌≤◌, List, ℕ, length, sym, ◌∙◌, subst, arith, ap, ◌≡◌, inl, true, false, Err}
+use Rattle.cube_model.specs.declared.fault.Fault.{Fault}
 use Rattle.wire.specs.Limits.{most_root_bytes}
 use Rattle.object_store.specs.Content.{Content}
 use Rattle.object_store.specs.Store as stores
@@ -8,6 +9,8 @@ use Rattle.warehouse_objects.specs.Loaded.{IsLoaded}
 use Rattle.stored_cuboids.proofs.Replaced.{few_replaced, loaded_replaced, replaced_by}
 use Rattle.object_store.proofs.Moments.{leaves_weaker}
 use Rattle.object_store.proofs.CallerLemmas.{leaves_now}
+use Rattle.stored_cuboids.proofs.StoreCalls.{no_call_yet, out_of_memory}
+use Rattle.object_store.specs.Disk.{disk}
 use Rattle.stored_cuboids.proofs.replacing.replace_root.Goals as goal
 
 pub commit-requires-clause-root : goal.commit-requires-clause-root
@@ -39,3 +42,32 @@ returns-in-Err-clause-leaves g c =
     leaves_weaker (λ content. content ≡ stores.content_of g.D.Sectors store) _ (stores.disk_of g.D.Sectors store)
     (stores.disk_of g.D.Sectors store) (λ k content is. inl is)
     (leaves_now g.D.Sectors g.met.D.Sectors.only_now store c.requires.fine)
+
+pub returns-in-Ok-commit-clause-calls : goal.returns-in-Ok-commit-clause-calls
+returns-in-Ok-commit-clause-calls g c = record {
+  failed = λ is. cc;
+  device = λ is. absurd cc;
+  fine = λ other. c.in-Ok-commit.ensures.fine.1;
+  failures = λ other. c.in-Ok-commit.ensures.failures;
+  word = (c.commit.ensures.leaves c.requires.fine).word;
+}
+
+pub returns-in-Err-commit-clause-calls : goal.returns-in-Err-commit-clause-calls
+returns-in-Err-commit-clause-calls g c =
+    let fine = c.requires.fine in
+    let refused = c.in-Err-commit.ensures.refused in record {
+      failed = λ is. let broken : true ≡ false = sym (c.in-Err-commit.ensures.failed.0 is) ∙ fine in absurd cc;
+      device = c.in-Err-commit.ensures.device;
+      fine = λ other. (refused (λ e. other (ap (λ (f : Fault). Err f) e))).failed ∙ fine;
+      failures = λ other. ap (λ d. (disk g.D.Sectors d).failures)
+          (refused (λ e. other (ap (λ (f : Fault). Err f) e))).device;
+      word = (c.commit.ensures.leaves fine).word;
+    }
+
+pub returns-in-Err-clause-calls : goal.returns-in-Err-clause-calls
+returns-in-Err-clause-calls g c =
+    out_of_memory g.D.Sectors c.in-Err.fault c.args.store.now c.requires.fine c.in-Err.ensures.memory
+
+pub returns-then-objects-gt-MOST_OBJECTS-clause-calls : goal.returns-then-objects-gt-MOST_OBJECTS-clause-calls
+returns-then-objects-gt-MOST_OBJECTS-clause-calls g c =
+    no_call_yet g.D.Sectors _ c.args.store.now c.requires.fine (λ is. cc) (λ is. cc)

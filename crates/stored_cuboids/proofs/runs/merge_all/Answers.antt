@@ -8,7 +8,8 @@ use Rattle.cuboid_cells.specs.Cells.{PlainCells}
 use Rattle.warehouse_root.specs.declared.cuboid.StoredCuboid.{StoredCuboid}
 use Rattle.warehouse_objects.proofs.Batches.{get_within}
 use Rattle.warehouse_objects.proofs.Folded.{err_fault}
-use Rattle.warehouse_objects.proofs.OneMoreRead.{reads_more, same_error, still_then, then_reads}
+use Rattle.object_store.proofs.SourceLemmas.{still_then}
+use Rattle.warehouse_objects.proofs.OneMoreRead.{reads_more, same_error, then_reads}
 use Rattle.stored_cuboids.specs.Steps.{RunsAreMerged, MergesRun}
 use Rattle.stored_cuboids.proofs.StoredRuns.{at_mark, can_merge, has_merge, merged_with, none_left, none_merged}
 use Rattle.object_store.proofs.CallerLemmas.{leaves_now}

@@ -10,6 +10,7 @@ use Rattle.stored_cuboids.proofs.Replaced.{before_at, before_leaves, drops_high,
 use Rattle.stored_cuboids.proofs.Replaced.{replaced_at, replaced_causes, replaced_leaves, viewed_drops}
 use Rattle.object_store.proofs.CallerLemmas.{leaves_now}
 use Rattle.stored_cuboids.proofs.LaterReads.{leaves_first, loaded_or_before}
+use Rattle.stored_cuboids.proofs.StoreCalls.{out_of_memory}
 use Rattle.stored_cuboids.proofs.viewing.set_views.Goals as goal
 
 pub replace_root-requires-clause-runs : goal.replace_root-requires-clause-runs
@@ -35,7 +36,8 @@ returns-in-Ok-replace_root-clause-ok g c w at =
     (makes_views (stores.content_of g.D.Sectors c.args.store.now) c.args.root.now c.in-Ok-viewed.next w c.args.views.now
     c.as_slice.result.now c.requires.few c.in-Ok-viewed.ensures.ok
     (c.as_slice.ensures.value ∙ c.in-Ok.ensures.ok ∙ ap (dropped_of c.args.views.now) c.cuboids.ensures.value))
-    c.in-Ok-replace_root.ensures.fine c.replace_root.ensures.word c.in-Ok-replace_root.ensures.ok)
+    (c.in-Ok-replace_root.ensures.calls.fine (λ is. cc)) c.replace_root.ensures.calls.word
+    c.in-Ok-replace_root.ensures.ok)
 
 pub returns-in-Ok-replace_root-clause-once : goal.returns-in-Ok-replace_root-clause-once
 returns-in-Ok-replace_root-clause-once g c k =
@@ -71,7 +73,7 @@ returns-clause-causes g c cause w at k =
     (dropped_ids w c.args.views.now) c.in-Err-replace_root.fault
     (λ same. c.as_slice.ensures.value ∙ c.in-Ok.ensures.ok ∙ ap (dropped_of c.args.views.now) c.cuboids.ensures.value
     ∙ viewed_drops c.args.root.now w c.args.views.now same)
-    (c.replace_root.ensures.word k) (c.in-Err-replace_root.ensures.causes cause)
+    (c.replace_root.ensures.calls.word k) (c.in-Err-replace_root.ensures.causes cause)
 
 pub returns-in-Err-clause-leaves : goal.returns-in-Err-clause-leaves
 returns-in-Err-clause-leaves g c w at =
@@ -101,4 +103,12 @@ pub returns-clause-loaded : goal.returns-clause-loaded
 returns-clause-loaded g c =
     loaded_or_before g.D.Sectors c.args.store.now c.replace_root.new.store c.args.root.now c.replace_root.new.root
     c.replace_root.result c.replace_root.ensures.loaded c.replace_root.ensures.kept c.replace_root.ensures.refused
-    c.replace_root.ensures.device
+    c.replace_root.ensures.calls.device
+
+pub returns-in-Err-clause-calls : goal.returns-in-Err-clause-calls
+returns-in-Err-clause-calls g c =
+    out_of_memory g.D.Sectors c.in-Err.fault c.args.store.now c.requires.fine c.in-Err.ensures.memory
+
+pub returns-in-Err-viewed-clause-calls : goal.returns-in-Err-viewed-clause-calls
+returns-in-Err-viewed-clause-calls g c =
+    out_of_memory g.D.Sectors c.in-Err-viewed.fault c.args.store.now c.requires.fine c.in-Err-viewed.ensures.memory

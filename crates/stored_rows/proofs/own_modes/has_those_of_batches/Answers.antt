@@ -8,7 +8,8 @@ use Rattle.warehouse_root.specs.declared.layout.Layout.TheVariants.{Second}
 use Rattle.warehouse_root.specs.Root.{PlainRoot}
 use Rattle.warehouse_objects.specs.Represents.{Represents}
 use Rattle.warehouse_objects.proofs.Folded.{err_fault}
-use Rattle.warehouse_objects.proofs.OneMoreRead.{has_read, reads_more, same_error, still_then, then_reads}
+use Rattle.object_store.proofs.SourceLemmas.{still_then}
+use Rattle.warehouse_objects.proofs.OneMoreRead.{has_read, reads_more, same_error, then_reads}
 use Rattle.stored_rows.proofs.OwnModesLemmas.{goes_on, never_refused}
 use Rattle.stored_rows.proofs.own_modes.has_those_of_batches.Goals as goal
 

@@ -8,7 +8,8 @@ use Rattle.object_store.specs.Store.{IsStill, content_of}
 use Rattle.warehouse_root.specs.Root.{PlainRoot}
 use Rattle.warehouse_objects.specs.Represents.{Represents}
 use Rattle.warehouse_objects.proofs.Folded.{err_fault}
-use Rattle.warehouse_objects.proofs.OneMoreRead.{has_read, reads_more, same_error, still_then, then_reads}
+use Rattle.object_store.proofs.SourceLemmas.{still_then}
+use Rattle.warehouse_objects.proofs.OneMoreRead.{has_read, reads_more, same_error, then_reads}
 use Rattle.stored_rows.specs.Gathered.{IsGathered}
 use Rattle.stored_rows.proofs.OneBatchMore.{all_gathered, all_refused}
 use Rattle.stored_rows.proofs.Rows.{never_said, only_memory, said_modes}

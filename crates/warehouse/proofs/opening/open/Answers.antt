@@ -14,15 +14,6 @@ returns-in-Ok-finish-clause-leaves g c facts last all =
     (c.in-Ok.ensures.ok facts last all) (c.in-Ok.ensures.leaves facts last all) c.finish.ensures.word
     c.finish.ensures.leaves
 
-pub returns-in-Err-finish-clause-leaves_err : goal.returns-in-Err-finish-clause-leaves_err
-returns-in-Err-finish-clause-leaves_err g c facts last all =
-    let start = disk g.D.Sectors c.args.device in
-    subst (λ (d : g.row.D.Denot). Leaves start (disk g.D.Sectors d) (MayRepresentSince start facts last))
-    (sym c.close.ensures)
-    (finish_leaves start facts last g.D.Sectors c.in-Ok.session (disk_of g.D.Sectors c.finish.new.self)
-    (c.in-Ok.ensures.ok facts last all) (c.in-Ok.ensures.leaves facts last all) c.finish.ensures.word
-    c.finish.ensures.leaves)
-
 pub returns-in-Ok-finish-clause-ok : goal.returns-in-Ok-finish-clause-ok
 returns-in-Ok-finish-clause-ok g c facts last all k =
     let start = disk g.D.Sectors c.args.device in
@@ -36,42 +27,41 @@ returns-in-Ok-finish-clause-ok g c facts last all k =
       now.3 k,
     )
 
-pub returns-in-Err-finish-clause-never : goal.returns-in-Err-finish-clause-never
-returns-in-Err-finish-clause-never g c facts last all k =
-    let word = subst (λ (d : g.row.D.Denot). g.D.Sectors.keeps_word d) c.close.ensures k in
-    let found = c.in-Ok.ensures.ok facts last all (c.finish.ensures.word word) in
-    ⊎_elim (λ memory. inl memory)
-    (⊎_elim (λ device. inr device)
-    (λ bad. absurd (c.in-Err-finish.ensures.readable (ap (λ (f : Fault). Err f) bad) word found.0 found.3)))
-    c.in-Err-finish.ensures.causes
-
-pub returns-in-Err-finish-clause-device : goal.returns-in-Err-finish-clause-device
-returns-in-Err-finish-clause-device g c is =
-    ap (λ (d : g.row.D.Denot). g.D.Sectors.failed d) c.close.ensures
-    ∙ (c.in-Err-finish.ensures.device (ap (λ (f : Fault). Err f) is)).failures
-    ∙ ap (λ (n : ℕ). min (n + 1) (2 ^ 64 - 1)) c.in-Ok.ensures.failures
-
-pub returns-in-Err-finish-clause-unformatted : goal.returns-in-Err-finish-clause-unformatted
-returns-in-Err-finish-clause-unformatted g c is k =
-    absurd (⊎_elim (λ memory. cc) (⊎_elim (λ device. cc) (λ bad. cc)) c.in-Err-finish.ensures.causes)
-
-pub returns-in-Err-finish-clause-explained : goal.returns-in-Err-finish-clause-explained
-returns-in-Err-finish-clause-explained g c other k =
-    let s = g.D.Sectors.state c.args.device in
-    ⊎_elim (λ memory. subst (λ (f : Fault). ExplainsRefusal f s.size s.reads) (sym memory) tt)
-    (⊎_elim (λ failed. subst (λ (f : Fault). ExplainsRefusal f s.size s.reads) (sym failed) tt)
-    (λ bad. absurd (other bad)))
-    c.in-Err-finish.ensures.causes
-
-pub returns-in-Err-finish-clause-blank : goal.returns-in-Err-finish-clause-blank
-returns-in-Err-finish-clause-blank g c is k blank none =
-    let word = c.finish.ensures.word (subst (λ (d : g.row.D.Denot). g.D.Sectors.keeps_word d) c.close.ensures k) in
-    let shown = c.in-Ok.ensures.shown word in
-    let content = content_of g.D.Sectors c.in-Ok.session in
-    blank (c.in-Ok.ensures.word word) shown.image shown.is (content.generation % 2) (omega arith) shown.shows.0
-    shown.shows.2.in_slot
-
-pub returns-in-Err-finish-clause-causes : goal.returns-in-Err-finish-clause-causes
-returns-in-Err-finish-clause-causes g c =
-    ⊎_elim (λ memory. inl memory) (⊎_elim (λ device. inr (inl device)) (λ bad. inr (inr (ap is_of_layout bad))))
-    c.in-Err-finish.ensures.causes
+pub returns-in-Err-finish-clause-refused : goal.returns-in-Err-finish-clause-refused
+returns-in-Err-finish-clause-refused g c = record {
+  leaves = λ facts last all.
+      let start = disk g.D.Sectors c.args.device in
+      subst (λ (d : g.row.D.Denot). Leaves start (disk g.D.Sectors d) (MayRepresentSince start facts last))
+      (sym c.close.ensures)
+      (finish_leaves start facts last g.D.Sectors c.in-Ok.session (disk_of g.D.Sectors c.finish.new.self)
+      (c.in-Ok.ensures.ok facts last all) (c.in-Ok.ensures.leaves facts last all) c.finish.ensures.word
+      c.finish.ensures.leaves);
+  never = λ facts last all k.
+      let word = subst (λ (d : g.row.D.Denot). g.D.Sectors.keeps_word d) c.close.ensures k in
+      let found = c.in-Ok.ensures.ok facts last all (c.finish.ensures.word word) in
+      ⊎_elim (λ memory. inl memory)
+      (⊎_elim (λ device. inr device)
+      (λ bad. absurd (c.in-Err-finish.ensures.readable (ap (λ (f : Fault). Err f) bad) word found.0 found.3)))
+      c.in-Err-finish.ensures.causes;
+  failures = λ is.
+      ap (λ (d : g.row.D.Denot). g.D.Sectors.failed d) c.close.ensures
+      ∙ (c.in-Err-finish.ensures.device (ap (λ (f : Fault). Err f) is)).failures
+      ∙ ap (λ (n : ℕ). min (n + 1) (2 ^ 64 - 1)) c.in-Ok.ensures.failures;
+  unformatted = λ is k.
+      absurd (⊎_elim (λ memory. cc) (⊎_elim (λ device. cc) (λ bad. cc)) c.in-Err-finish.ensures.causes);
+  explained = λ other k.
+      let s = g.D.Sectors.state c.args.device in
+      ⊎_elim (λ memory. subst (λ (f : Fault). ExplainsRefusal f s.size s.reads) (sym memory) tt)
+      (⊎_elim (λ failed. subst (λ (f : Fault). ExplainsRefusal f s.size s.reads) (sym failed) tt)
+      (λ bad. absurd (other bad)))
+      c.in-Err-finish.ensures.causes;
+  blank = λ is k blank none.
+      let word = c.finish.ensures.word (subst (λ (d : g.row.D.Denot). g.D.Sectors.keeps_word d) c.close.ensures k) in
+      let shown = c.in-Ok.ensures.shown word in
+      let content = content_of g.D.Sectors c.in-Ok.session in
+      blank (c.in-Ok.ensures.word word) shown.image shown.is (content.generation % 2) (omega arith) shown.shows.0
+      shown.shows.2.in_slot;
+  causes =
+      ⊎_elim (λ memory. inl memory) (⊎_elim (λ device. inr (inl device)) (λ bad. inr (inr (ap is_of_layout bad))))
+      c.in-Err-finish.ensures.causes;
+}

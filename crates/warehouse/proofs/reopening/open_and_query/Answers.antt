@@ -19,7 +19,7 @@ pub returns-in-Err-clause-refused : goal.returns-in-Err-clause-refused
 returns-in-Err-clause-refused g c w v slots earlier later replies others crash k =
     let law = c.later_crash_is_found.ensures w v slots earlier later replies others c.args.device crash in
     ⊎_elim (λ memory. inl memory) (λ device. inr (inl device))
-    (c.in-Err.ensures.never (facts_in law.1.found) None law.1.represents k)
+    (c.in-Err.ensures.refused.never (facts_in law.1.found) None law.1.represents k)
 
 pub returns-in-Err-query-clause-refused : goal.returns-in-Err-query-clause-refused
 returns-in-Err-query-clause-refused g c w v slots earlier later replies others crash k =

@@ -11,6 +11,7 @@ returns-in-Ok-clause-ran g c w slots at k =
 pub returns-in-Err-clause-ran : goal.returns-in-Err-clause-ran
 returns-in-Err-clause-ran g c w slots at k =
     migrate_refused g.D.Sectors w slots c.args.session.now c.migrate.new.self c.in-Err.fault
-    (λ e. (c.in-Err.ensures.calls.device (ap (λ f. Err f) e)).failed)
-    (λ no. ((c.in-Err.ensures.causes no w at k, c.in-Err.ensures.kept no), (c.in-Err.ensures.refused no w at).0))
+    (λ e. (c.in-Err.ensures.refused.calls.device (ap (λ f. Err f) e)).failed)
+    (λ no. let refused = c.in-Err.ensures.refused in
+    ((c.in-Err.ensures.causes no w at k, refused.kept no), (refused.stays no w at).0))
     (c.migrate.ensures.leaves w at)

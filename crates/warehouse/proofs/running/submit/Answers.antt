@@ -13,6 +13,7 @@ pub returns-in-Err-clause-ran : goal.returns-in-Err-clause-ran
 returns-in-Err-clause-ran g c w slots at k =
     submit_refused g.D.Sectors w slots c.args.session.now c.submit.new.self c.args.number c.args.rows.now
     c.as_slice.result.now c.in-Err.fault c.as_slice.ensures
-    (λ e. (c.in-Err.ensures.calls.device (ap (λ f. Err f) e)).failed)
-    (λ no. ((c.in-Err.ensures.causes no w at k, c.in-Err.ensures.kept no), (c.in-Err.ensures.refused no w at).0))
+    (λ e. (c.in-Err.ensures.refused.calls.device (ap (λ f. Err f) e)).failed)
+    (λ no. let refused = c.in-Err.ensures.refused in
+    ((c.in-Err.ensures.causes no w at k, refused.kept no), (refused.stays no w at).0))
     (c.submit.ensures.leaves w at)

@@ -9,7 +9,8 @@ use Rattle.batch_admission.specs.Totals.{totals_of}
 use Rattle.warehouse_objects.specs.Represents.{IsLaidOut}
 use Rattle.warehouse_objects.proofs.Batches.{get_within}
 use Rattle.std.proofs.lemmas.Result.{err_from_is_err_and}
-use Rattle.warehouse_objects.proofs.OneMoreRead.{has_read, reads_more, same_error, still_then, then_reads}
+use Rattle.object_store.proofs.SourceLemmas.{still_then}
+use Rattle.warehouse_objects.proofs.OneMoreRead.{has_read, reads_more, same_error, then_reads}
 use Rattle.warehouse_check.proofs.Loop.{count_in, here_at, none_of, own_next, so_far_next, so_far_none}
 use Rattle.object_store.proofs.CallerLemmas.{leaves_now}
 use Rattle.warehouse_check.proofs.batches.check_batches.Goals as goal

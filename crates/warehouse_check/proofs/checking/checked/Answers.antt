@@ -4,8 +4,8 @@ use Rattle.object_store.specs.Content.{Content}
 use Rattle.object_store.specs.Store.{IsStill, content_of}
 use Rattle.warehouse_objects.specs.Represents.{IsLaidOut}
 use Rattle.warehouse_objects.proofs.CallerLemmas.{laid_of}
-use Rattle.warehouse_objects.proofs.OneMoreRead.{has_read, reads_more, reads_nothing, same_error, still_then}
-use Rattle.warehouse_objects.proofs.OneMoreRead.{then_reads}
+use Rattle.object_store.proofs.SourceLemmas.{still_then}
+use Rattle.warehouse_objects.proofs.OneMoreRead.{has_read, reads_more, reads_nothing, same_error, then_reads}
 use Rattle.warehouse_check.proofs.Loop.{never_both}
 use Rattle.stored_cuboids.proofs.Represented.{kept_cuboids_are_sound}
 use Rattle.warehouse_check.proofs.checking.checked.Goals as goal

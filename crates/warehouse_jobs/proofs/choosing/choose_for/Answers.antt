@@ -14,8 +14,8 @@ returns-in_err-chosen-clause-chooses g c w at k = record {
   ends = choose-refused g.D.Sectors w c.args.session.now c.choose_for.new.self (g.W.Write.contents c.args.out.now)
       (g.W.Write.contents c.args.out.now) (IsChoiceFor w c.args.demanded.now c.args.k)
       (ChooseForRefuses g.D.Sectors c.args.session.now w c.args.demanded.now c.args.k) _ _
-      (λ e. (c.in_err-chosen.ensures.calls.device (ap (λ f. Err f) e)).failed)
-      (λ no. (c.in_err-chosen.ensures.causes no w at k, (c.in_err-chosen.ensures.refused no w at).0))
+      (λ e. (c.in_err-chosen.ensures.refused.calls.device (ap (λ f. Err f) e)).failed)
+      (λ no. (c.in_err-chosen.ensures.causes no w at k, (c.in_err-chosen.ensures.refused.stays no w at).0))
       (err_from_is_err_and _ c.from_residual.ensures.1);
   leaves = c.choose_for.ensures.leaves w at;
 }

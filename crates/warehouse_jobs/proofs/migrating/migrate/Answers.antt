@@ -7,8 +7,8 @@ pub returns-in_err-migrate-clause-migrates : goal.returns-in_err-migrate-clause-
 returns-in_err-migrate-clause-migrates g c w at k = record {
   ends = move-refused g.D.Sectors w c.args.session.now c.migrate.new.self (g.W.Write.contents c.args.out.now)
       (g.W.Write.contents c.args.out.now) _ _
-      (λ e. (c.in_err-migrate.ensures.calls.device (ap (λ f. Err f) e)).failed)
-      (λ no. (c.in_err-migrate.ensures.causes no w at k, (c.in_err-migrate.ensures.refused no w at).0))
+      (λ e. (c.in_err-migrate.ensures.refused.calls.device (ap (λ f. Err f) e)).failed)
+      (λ no. (c.in_err-migrate.ensures.causes no w at k, (c.in_err-migrate.ensures.refused.stays no w at).0))
       (err_from_is_err_and _ c.from_residual.ensures.1);
   leaves = c.migrate.ensures.leaves w at;
 }

@@ -14,8 +14,8 @@ use Rattle.cube_query.specs.Groups.{RepresentsRows}
 use Rattle.warehouse_objects.specs.Represents.{Represents}
 use Rattle.warehouse_objects.proofs.Batches.{get_within, rows_next}
 use Rattle.warehouse_objects.proofs.Folded.{count_there, err_fault, own_foldable}
-use Rattle.warehouse_objects.proofs.OneMoreRead.{reads_more, same_error, still_then, then_reads, reads_nothing}
-use Rattle.object_store.proofs.SourceLemmas.{still_here}
+use Rattle.warehouse_objects.proofs.OneMoreRead.{reads_more, same_error, then_reads, reads_nothing}
+use Rattle.object_store.proofs.SourceLemmas.{still_here, still_then}
 use Rattle.object_store.proofs.CallerLemmas.{leaves_now}
 use Rattle.warehouse_objects.proofs.folding.fold_batches.Goals as goal
 

@@ -11,7 +11,7 @@ invariant_of-self g c = record {
   loaded = λ fine k.
       let s = c.args.self.now in
       c.catch_up-caught.ensures.loaded fine k s.dims.value s.modes
-      (s.loaded c.requires.fine (c.catch_up-caught.ensures.word k));
+      (s.loaded c.requires.fine (c.catch_up-caught.ensures.calls.word k));
 }
 
 pub returns-clause-leaves : goal.returns-clause-leaves
@@ -50,5 +50,4 @@ returns-clause-causes g c =
 pub returns-clause-device : goal.returns-clause-device
 returns-clause-device g c is =
     let device = of_err c.unless_no_room.result _ Device is c.unless_no_room.ensures.err in
-    let broken = c.catch_up-caught.ensures.device device.0 in
-    record { before = c.requires.fine; failed = broken.0; failures = broken.1 }
+    c.catch_up-caught.ensures.calls.device device.0

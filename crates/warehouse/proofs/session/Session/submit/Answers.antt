@@ -1,5 +1,6 @@
 use Rattle.std.proofs.Common.{⊎_elim, inl, inr}
 use Rattle.std.proofs.lemmas.Result.{IfErr-weaker, on_ok_weaker}
+use Rattle.warehouse.proofs.SessionLemmas.{untouched}
 use Rattle.warehouse.proofs.session.Session.submit.Goals as goal
 
 pub returns-in-Err-clause-causes : goal.returns-in-Err-clause-causes
@@ -19,3 +20,8 @@ returns-clause-causes g c =
 
 pub returns-clause-leaves : goal.returns-clause-leaves
 returns-clause-leaves g c = λ w at. c.submit_batch.ensures.leaves w c.args.rows.now at c.in-Ok.ensures.grows
+
+pub returns-in-Err-clause-refused : goal.returns-in-Err-clause-refused
+returns-in-Err-clause-refused g c =
+    untouched g.D.Sectors c.in-Err.fault c.args.self.now c.in-Err.ensures.leaves c.in-Err.ensures.failed
+    c.in-Err.ensures.device

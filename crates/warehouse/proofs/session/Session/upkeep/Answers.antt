@@ -13,7 +13,7 @@ invariant_of-self g c = record {
   loaded = λ fine k.
       let s = c.args.self.now in
       c.keep_up.ensures.loaded fine k s.dims.value s.modes
-      (s.loaded (sym c.is_broken.ensures.broken ∙ c.if-is_broken.false) (c.keep_up.ensures.word k));
+      (s.loaded (sym c.is_broken.ensures.broken ∙ c.if-is_broken.false) (c.keep_up.ensures.calls.word k));
 }
 
 pub returns-in-None-clause-leaves : goal.returns-in-None-clause-leaves

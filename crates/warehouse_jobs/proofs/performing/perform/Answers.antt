@@ -4,7 +4,7 @@ use Rattle.warehouse.specs.Choosing.{ChooseForRefuses, ChooseRefuses, IsChoice, 
 use Rattle.warehouse_jobs.specs.Cuboids.{ChoosesFor}
 use Rattle.warehouse_jobs.proofs.PerformingLemmas.{yes-chooses, yes-keeps, yes-loads, yes-migrates, yes-reports}
 use Rattle.warehouse_jobs.proofs.PerformingLemmas.{yes-tells}
-use Rattle.warehouse_jobs.proofs.performing.do_job.Goals as goal
+use Rattle.warehouse_jobs.proofs.performing.perform.Goals as goal
 
 pub returns-in-Load-clause-performs : goal.returns-in-Load-clause-performs
 returns-in-Load-clause-performs g c w at k =
